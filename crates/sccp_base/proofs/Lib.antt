@@ -1,0 +1,5 @@
+pub mod AllOk
+pub mod Among
+pub mod Halves
+pub mod LaidOut
+pub mod Prefix

@@ -1,0 +1,37 @@
+-- What is prohibited: marks, their order, and which of them a marking holds.
+use Rattle.std.specs.Prelude.{ℕ, ◌+◌, Bool, true, false, ◌&&◌, ◌==◌, List}
+use Rattle.std.specs.List.{list_any}
+use Rattle.std.specs.Ordering.{nat_cmp, on, then_cmp}
+use Rattle.std.specs.declared.cmp.Ordering.{Ordering}
+use Rattle.sccp_base.specs.declared.mark.Mark.{Mark}
+use Rattle.sccp_base.specs.declared.mark.Mark.TheVariants.{PointCode, Sccp, Subsystem}
+
+abbrev pub point_of : Mark → ℕ
+point_of (PointCode point) = point
+point_of (Sccp point) = point
+point_of (Subsystem point ssn) = point
+
+-- at one point the signalling point comes first, then its SCCP, then its subsystems by their numbers
+abbrev pub place_at_point : Mark → ℕ
+place_at_point (PointCode point) = 0
+place_at_point (Sccp point) = 1
+place_at_point (Subsystem point ssn) = 2 + ssn
+
+-- the order of marks: by point code, and then by the place at the point
+abbrev pub mark_cmp : Mark → Mark → Ordering
+mark_cmp = then_cmp (on point_of nat_cmp) (on place_at_point nat_cmp)
+
+abbrev pub same_mark : Mark → Mark → Bool
+same_mark (PointCode a) (PointCode b) = a == b
+same_mark (Sccp a) (Sccp b) = a == b
+same_mark (Subsystem a s) (Subsystem b t) = a == b && s == t
+same_mark (PointCode a) (Sccp b) = false
+same_mark (PointCode a) (Subsystem b t) = false
+same_mark (Sccp a) (PointCode b) = false
+same_mark (Sccp a) (Subsystem b t) = false
+same_mark (Subsystem a s) (PointCode b) = false
+same_mark (Subsystem a s) (Sccp b) = false
+
+-- the mark is one of those prohibited
+abbrev pub holds : List Mark → Mark → Bool
+holds marking mark = list_any (λ held. same_mark held mark) marking

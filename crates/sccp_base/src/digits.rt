@@ -1,0 +1,261 @@
+ghost use Rattle.std.specs.Prelude.{◌≡◌, ℕ, ◌<◌, ◌≤◌, ◌+◌, List, [], ◌∷◌, ◌++◌, length, take, IsTrue, ◌↔◌, slice_get, Some, drop, SomeIff, replicate};
+ghost use Rattle.std.specs.List.{starts_with, All};
+ghost use Rattle.std.specs.Prelude.{nat_eq, nat_le, ◌*◌, if◌then◌else◌, IfOk, slice_index};
+ghost use Rattle.sccp_base.specs.Bcd.{halves, unpacked, packed};
+ghost use Rattle.std.specs.Cmp.{partial_equiv_from_equiv};
+ghost use Rattle.std.specs.Cmp.Lexicographic.{slice_cmp, pointwise, nat_list_eq_equiv, nat_list_cmp_total, texts_ties, texts_po};
+ghost use Rattle.std.specs.Ordering.{nat_cmp};
+ghost use Rattle.std.proofs.Common.{refl};
+
+use crate::digits_fault::DigitsFault;
+use crate::octets::Octets;
+use crate::out_of_memory::OutOfMemory;
+use std::alloc::Global;
+use std::cmp::Ordering;
+use std::marker::Model;
+
+/// Up to 32 digits of a global title, each a half-octet, which contracts see as their list (Q.713 section 3.4.2.3).
+/// Digits are ordered as lists, digit by digit, a beginning before what it begins.
+#[derive(Clone, Copy, Debug)]
+pub struct Digits {
+    halves: [u8; 32],
+    len: u8,
+}
+
+impl Model for Digits {
+    ghost use Rattle.std.specs.Prelude.{List, ℕ};
+
+    ghost Value = { List ℕ };
+
+    ghost use Rattle.sccp_base.specs.Digits.{IsLaidOut, shown, laid_out, laid_out-shown};
+
+    ghost view = { shown };
+
+    ghost invariant = { IsLaidOut };
+
+    ghost inverse = { laid_out };
+
+    ghost inverse_ok = { laid_out-shown };
+}
+
+impl Digits {
+    pub const EMPTY: Digits = Digits {
+        halves: [0; 32],
+        len: 0,
+    };
+
+    /// The half-octets, the low half of each octet first, without the last half where their number is `odd`.
+    /// `TooMany` where they are more than 32.
+    pub fn unpack(octets: &[u8], odd: bool) -> Result<Digits, DigitsFault>
+        requires { IsTrue odd → 0 < length octets.now }
+        ensures { let digits = unpacked octets.now odd in
+            result ≡ (if nat_le (length digits) 32 then Ok digits else Err DigitsFault.TooMany) }
+    {
+        let len = 2 * octets.len() - usize::from(odd);
+        if len > 32 {
+            return Err(DigitsFault::TooMany);
+        }
+        let mut digits = Digits::EMPTY;
+        for place in 0..len {
+            digits.push(half_at(octets, place));
+        }
+        Ok(digits)
+    }
+
+    /// The digits as octets, the first digit of a pair in the low half, with the filler 0 behind an odd number.
+    pub fn pack(&self, alloc: Global) -> Result<Octets, OutOfMemory>
+        ensures { IfOk result (λ octets. octets ≡ packed self.now) }
+    {
+        let digits = self.as_slice();
+        let count = digits.len().div_ceil(2);
+        let mut octets = Vec::with_capacity(alloc, count)?;
+        for i in 0..count {
+            octets.push(octet_at(digits, i))?;
+        }
+        Ok(Octets::from_vec(octets))
+    }
+
+    pub fn len(&self) -> usize
+        ensures value { result ≡ length self.now }
+        ensures limit { result ≤ 32 }
+    {
+        usize::from(self.len)
+    }
+
+    pub fn as_slice(&self) -> &[u8]
+        ensures value { result.now ≡ self.now }
+        ensures halves { All (λ d. d < 16) result.now }
+    {
+        &self.halves[..usize::from(self.len)]
+    }
+
+    pub fn at(&self, place: usize) -> u8
+        requires { place < length self.now }
+        ensures { slice_get self.now place ≡ Some result }
+    {
+        self.halves[place]
+    }
+
+    pub fn is_decimal(&self) -> bool
+        ensures { IsTrue result ↔ All (λ d. d < 10) self.now }
+    {
+        self.as_slice().iter().all(|digit| *digit < 10)
+    }
+
+    /// These digits without the first ones and after others, where they aren't too many.
+    pub fn rewritten(&self, strip: u8, put: &Digits) -> Option<Digits>
+        ensures { SomeIff result (length (put.now ++ drop strip self.now) ≤ 32) (put.now ++ drop strip self.now) }
+    {
+        let rest = &self.as_slice()[usize::from(strip).min(self.len())..];
+        Digits::joined(put.as_slice(), rest)
+    }
+
+    /// Two runs of digits, one after the other, where they aren't too many.
+    pub fn joined(front: &[u8], back: &[u8]) -> Option<Digits>
+        requires front { All (λ d. d < 16) front.now }
+        requires back { All (λ d. d < 16) back.now }
+        ensures { SomeIff result (length (front.now ++ back.now) ≤ 32) (front.now ++ back.now) }
+    {
+        if front.len() + back.len() > 32 {
+            return None;
+        }
+        let mut joined = Digits::EMPTY;
+        joined.extend(front);
+        joined.extend(back);
+        Some(joined)
+    }
+
+    /// Whether the digits from a place on are decimal.
+    pub fn is_decimal_from(&self, place: usize) -> bool
+        requires { place ≤ length self.now }
+        ensures { IsTrue result ↔ All (λ d. d < 10) (drop place self.now) }
+    {
+        are_decimal(&self.as_slice()[place..])
+    }
+
+    /// How many digits there are.
+    pub fn count(&self) -> u8
+        ensures { result ≡ length self.now }
+    {
+        self.len
+    }
+
+    /// These digits and so many zeros.
+    pub fn with_zeros(&self, count: u8) -> Digits
+        requires { length self.now + count ≤ 32 }
+        ensures { result ≡ self.now ++ replicate count 0 }
+    {
+        let mut longer = *self;
+        for _ in 0..count {
+            longer.push(0);
+        }
+        longer
+    }
+
+    /// These digits and one more.
+    pub fn with(&self, half: u8) -> Digits
+        requires half { half < 16 }
+        requires room { length self.now < 32 }
+        ensures { result ≡ self.now ++ half ∷ [] }
+    {
+        let mut longer = *self;
+        longer.push(half);
+        longer
+    }
+
+    fn push(&mut self, half: u8)
+        requires half { half < 16 }
+        requires room { length self.old < 32 }
+        ensures { self.new ≡ self.old ++ half ∷ [] }
+    {
+        self.halves[usize::from(self.len)] = half;
+        self.len += 1;
+    }
+
+    fn extend(&mut self, halves: &[u8])
+        requires halves { All (λ d. d < 16) halves.now }
+        requires room { length self.old + length halves.now ≤ 32 }
+        ensures { self.new ≡ self.old ++ halves.now }
+    {
+        for half in halves {
+            self.push(*half);
+        }
+    }
+
+    pub fn starts_with(&self, prefix: &Digits) -> bool
+        ensures { result ≡ starts_with nat_eq self.now prefix.now }
+    {
+        self.as_slice().starts_with(prefix.as_slice())
+    }
+}
+
+impl PartialEq for Digits {
+    ghost eq = { λ a b. pointwise nat_eq a b };
+
+    ghost laws = { partial_equiv_from_equiv nat_list_eq_equiv };
+
+    fn eq(&self, other: &Digits) -> bool {
+        self.as_slice() == other.as_slice()
+    }
+}
+
+impl Eq for Digits {
+    ghost laws = { nat_list_eq_equiv };
+}
+
+impl PartialOrd for Digits {
+    ghost partial_cmp = { λ a b. Some (slice_cmp nat_cmp a b) };
+
+    ghost laws = { texts_po };
+
+    fn partial_cmp(&self, other: &Digits) -> Option<Ordering> {
+        Some(self.cmp(other))
+    }
+}
+
+impl Ord for Digits {
+    ghost cmp = { slice_cmp nat_cmp };
+
+    ghost total = { nat_list_cmp_total };
+
+    ghost matches_partial_cmp = { λ a b. refl };
+
+    ghost matches_eq = { texts_ties };
+
+    fn cmp(&self, other: &Digits) -> Ordering {
+        self.as_slice().cmp(other.as_slice())
+    }
+}
+
+fn are_decimal(halves: &[u8]) -> bool
+    ensures { IsTrue result ↔ All (λ d. d < 10) halves.now }
+{
+    halves.iter().all(|half| *half < 10)
+}
+
+/// The half-octet at a place, the low half of each octet first.
+fn half_at(octets: &[u8], place: usize) -> u8
+    requires { place < 2 * length octets.now }
+    ensures same { result ≡ slice_index (halves octets.now) place }
+    ensures half { result < 16 }
+{
+    let octet = octets[place / 2];
+    if place % 2 == 0 {
+        octet & 0x0F
+    } else {
+        octet >> 4
+    }
+}
+
+/// The octet of the i-th pair of digits.
+fn octet_at(digits: &[u8], i: usize) -> u8
+    requires halves { All (λ d. d < 16) digits.now }
+    requires inside { 2 * i < length digits.now }
+    ensures { result ≡ slice_index digits.now (2 * i) + 16 * slice_index digits.now (2 * i + 1) }
+{
+    let low = digits[2 * i];
+    match digits.get(2 * i + 1) {
+        Some(high) => low + 16 * *high,
+        None => low,
+    }
+}
