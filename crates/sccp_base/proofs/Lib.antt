@@ -2,4 +2,6 @@ pub mod AllOk
 pub mod Among
 pub mod Halves
 pub mod LaidOut
+pub mod MarkPlaces
+pub mod NameLaidOut
 pub mod Prefix

@@ -1,7 +1,10 @@
 pub mod Answers
 pub mod Bcd
 pub mod Bits
+pub mod DigitText
 pub mod Digits
 pub mod Marks
 pub mod MarkOrder
+pub mod Names
 pub mod Selector
+pub mod Text

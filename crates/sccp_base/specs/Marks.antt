@@ -1,8 +1,9 @@
 -- What is prohibited: marks, their order, and which of them a marking holds.
-use Rattle.std.specs.Prelude.{ℕ, ◌+◌, Bool, true, false, ◌&&◌, ◌==◌, List}
-use Rattle.std.specs.List.{list_any}
+use Rattle.std.specs.Prelude.{◌≡◌, ℕ, ◌+◌, ◌<◌, ◌≤◌, Bool, true, false, ◌&&◌, ◌==◌, List, length, slice_index_or, Result, Ok, Err}
+use Rattle.std.specs.List.{list_any, AllPairs, AllWithin}
 use Rattle.std.specs.Ordering.{nat_cmp, on, then_cmp}
 use Rattle.std.specs.declared.cmp.Ordering.{Ordering}
+use Rattle.std.specs.declared.cmp.Ordering.TheVariants.{Less, Greater}
 use Rattle.sccp_base.specs.declared.mark.Mark.{Mark}
 use Rattle.sccp_base.specs.declared.mark.Mark.TheVariants.{PointCode, Sccp, Subsystem}
 
@@ -35,3 +36,22 @@ same_mark (Subsystem a s) (Sccp b) = false
 -- the mark is one of those prohibited
 abbrev pub holds : List Mark → Mark → Bool
 holds marking mark = list_any (λ held. same_mark held mark) marking
+
+-- each mark is below those behind it
+abbrev pub IsAscending : List Mark → Type 0
+IsAscending marks = AllPairs (λ a b. mark_cmp a b ≡ Less) marks
+
+-- the mark is at that place
+pub record IsAt (marks : List Mark) (mark : Mark) (place : ℕ) : Type 0 where
+  pub inside : place < length marks
+  pub same : (d : Mark) → slice_index_or marks place d ≡ mark
+
+-- the mark isn't there, and that place parts the marks below it from those above it
+pub record BelongsAt (marks : List Mark) (mark : Mark) (place : ℕ) : Type 0 where
+  pub inside : place ≤ length marks
+  pub below : AllWithin (λ other. mark_cmp other mark ≡ Less) marks 0 place
+  pub above : AllWithin (λ other. mark_cmp other mark ≡ Greater) marks place (length marks)
+
+abbrev pub IsPlaceOf : List Mark → Mark → Result ℕ ℕ → Type 0
+IsPlaceOf marks mark (Ok place) = IsAt marks mark place
+IsPlaceOf marks mark (Err place) = BelongsAt marks mark place

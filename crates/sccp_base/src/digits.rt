@@ -1,7 +1,8 @@
 ghost use Rattle.std.specs.Prelude.{◌≡◌, ℕ, ◌<◌, ◌≤◌, ◌+◌, List, [], ◌∷◌, ◌++◌, length, take, IsTrue, ◌↔◌, slice_get, Some, drop, SomeIff, replicate};
 ghost use Rattle.std.specs.List.{starts_with, All};
-ghost use Rattle.std.specs.Prelude.{nat_eq, nat_le, ◌*◌, if◌then◌else◌, IfOk, slice_index};
+ghost use Rattle.std.specs.Prelude.{nat_eq, nat_le, ◌*◌, if◌then◌else◌, IfOk, IfSome, slice_index};
 ghost use Rattle.sccp_base.specs.Bcd.{halves, unpacked, packed};
+ghost use Rattle.sccp_base.specs.DigitText.{digits_of, hex_digit};
 ghost use Rattle.std.specs.Cmp.{partial_equiv_from_equiv};
 ghost use Rattle.std.specs.Cmp.Lexicographic.{slice_cmp, pointwise, nat_list_eq_equiv, nat_list_cmp_total, texts_ties, texts_po};
 ghost use Rattle.std.specs.Ordering.{nat_cmp};
@@ -58,6 +59,24 @@ impl Digits {
         let mut digits = Digits::EMPTY;
         for place in 0..len {
             digits.push(half_at(octets, place));
+        }
+        Ok(digits)
+    }
+
+    /// Reads up to 32 hexadecimal digits of either case. `TooMany` where the text has more octets, else `NotDigit` with the
+    /// place of the first octet that is no such digit.
+    pub fn parse(text: &[u8]) -> Result<Digits, DigitsFault>
+        ensures { result ≡ digits_of text.now }
+    {
+        if text.len() > 32 {
+            return Err(DigitsFault::TooMany);
+        }
+        let mut digits = Digits::EMPTY;
+        for (place, octet) in text.iter().enumerate() {
+            match hex_digit(*octet) {
+                Some(half) => digits.push(half),
+                None => return Err(DigitsFault::NotDigit(place)),
+            }
         }
         Ok(digits)
     }
@@ -257,5 +276,18 @@ fn octet_at(digits: &[u8], i: usize) -> u8
     match digits.get(2 * i + 1) {
         Some(high) => low + 16 * *high,
         None => low,
+    }
+}
+
+/// The value of a hexadecimal digit of either case.
+fn hex_digit(octet: u8) -> Option<u8>
+    ensures value { result ≡ hex_digit octet }
+    ensures half { IfSome result (λ half. half < 16) }
+{
+    match octet {
+        b'0'..=b'9' => Some(octet - b'0'),
+        b'A'..=b'F' => Some(octet - b'A' + 10),
+        b'a'..=b'f' => Some(octet - b'a' + 10),
+        _ => None,
     }
 }

@@ -12,21 +12,28 @@ mod digits_fault;
 mod list;
 mod mark;
 mod marking;
+mod name;
 mod octets;
 mod out_of_memory;
 mod point_code;
 mod reference;
 mod selector;
 mod seven;
+mod text;
 
 pub use digits::Digits;
 pub use digits_fault::DigitsFault;
 pub use list::List;
 pub use mark::Mark;
 pub use marking::Marking;
+pub use name::Name;
 pub use octets::Octets;
 pub use out_of_memory::OutOfMemory;
 pub use point_code::PointCode;
 pub use reference::Reference;
 pub use selector::Selector;
 pub use seven::Seven;
+pub use text::{cut, decimal};
+
+#[cfg(test)]
+mod tests;

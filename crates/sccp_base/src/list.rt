@@ -1,4 +1,6 @@
 ghost use Rattle.std.specs.Prelude.{◌≡◌, [], ◌∷◌, ◌++◌, length, take, drop, OnOk, OnErr};
+ghost use Rattle.std.specs.Borrow.{Lends, sem, Array};
+ghost use Rattle.sccp_base.specs.contracts.list.List.{the_row};
 
 use crate::out_of_memory::OutOfMemory;
 use std::alloc::Global;
@@ -55,5 +57,13 @@ impl<T> List<T> {
         ensures { result.now ≡ self.now }
     {
         self.items.as_slice()
+    }
+
+    /// The items to be written over; their number stays.
+    pub fn as_mut_slice(&mut self) -> &mut [T]
+        ensures* writes_back { sem 𝓛 (Lends (the_row T.row) (Array T.row 0) self.entry result (λ w. take (length self.entry.now) (w ++ drop (length w) self.entry.now))) }
+        ensures value { result.now ≡ self.old }
+    {
+        self.items.as_mut_slice()
     }
 }

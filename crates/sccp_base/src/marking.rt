@@ -1,6 +1,6 @@
-ghost use Rattle.std.specs.Prelude.{◌≡◌, [], IsTrue, ◌↔◌, IfOk};
-ghost use Rattle.std.specs.List.{Contains};
-ghost use Rattle.sccp_base.specs.Marks.{holds};
+ghost use Rattle.std.specs.Prelude.{◌≡◌, [], ◌||◌, ◌&&◌, not, OnOk, OnErr, IfOk};
+ghost use Rattle.sccp_base.specs.declared.mark.Mark.{Mark};
+ghost use Rattle.sccp_base.specs.Marks.{IsAscending, IsPlaceOf, holds, same_mark};
 
 use crate::mark::Mark;
 use crate::out_of_memory::OutOfMemory;
@@ -8,7 +8,7 @@ use std::alloc::Global;
 use std::marker::Model;
 
 /// The set of prohibited marks, which contracts see as their ascending list (Q.714 section 5).
-#[derive(Drop)]
+#[derive(Debug, Drop)]
 pub struct Marking {
     marks: Vec<Mark>,
 }
@@ -16,10 +16,13 @@ pub struct Marking {
 impl Model for Marking {
     ghost use Rattle.std.specs.Prelude.{List};
     ghost use Rattle.sccp_base.specs.declared.mark.Mark.{Mark};
+    ghost use Rattle.sccp_base.specs.Marks.{IsAscending};
 
     ghost Value = { List Mark };
 
     ghost view = { λ m. m.marks.items };
+
+    ghost invariant = { λ m. IsAscending m.marks.items };
 }
 
 impl Marking {
@@ -34,16 +37,53 @@ impl Marking {
 
     /// The prohibited marks in ascending order.
     pub fn marks(&self) -> &[Mark]
-        ensures { result.now ≡ self.now }
+        ensures marks { result.now ≡ self.now }
+        ensures ascending { IsAscending self.now }
     {
         self.marks.as_slice()
     }
 
     /// Whether the mark is prohibited.
     pub fn holds(&self, mark: Mark) -> bool
-        ensures value { result ≡ holds self.now mark }
-        ensures contains { IsTrue result ↔ Contains self.now mark }
+        ensures { result ≡ holds self.now mark }
     {
-        self.marks.contains(&mark)
+        place_of(&self.marks, &mark).is_ok()
     }
+
+    /// Prohibits a mark, and leaves the others as they were. Where memory is wanting nothing changes.
+    pub fn prohibit(&mut self, mark: Mark) -> Result<(), OutOfMemory>
+        ensures ok { OnOk result ((other : Mark) → holds self.new other ≡ (same_mark mark other || holds self.old other)) }
+        ensures err { OnErr result (self.new ≡ self.old) }
+    {
+        if let Err(place) = place_of(&self.marks, &mark) {
+            self.marks.insert(place, mark)?;
+        }
+        Ok(())
+    }
+
+    /// Allows a mark, and leaves the others as they were.
+    pub fn allow(&mut self, mark: Mark)
+        ensures { (other : Mark) → holds self.new other ≡ (not (same_mark mark other) && holds self.old other) }
+    {
+        if let Ok(place) = place_of(&self.marks, &mark) {
+            self.marks.remove(place);
+        }
+    }
+
+    /// The same marks in memory of their own.
+    pub fn try_clone(&self, alloc: Global) -> Result<Marking, OutOfMemory>
+        ensures { IfOk result (λ copy. copy ≡ self.now) }
+    {
+        Ok(Marking {
+            marks: Vec::from_slice(alloc, self.marks.as_slice())?,
+        })
+    }
+}
+
+/// Where the mark is among ascending marks, or else where it would be.
+fn place_of(marks: &[Mark], mark: &Mark) -> Result<usize, usize>
+    requires { IsAscending marks.now }
+    ensures { IsPlaceOf marks.now mark.now result }
+{
+    marks.binary_search(mark)
 }

@@ -1,6 +1,8 @@
 ghost use Rattle.std.specs.Prelude.{◌≡◌, ◌<◌};
 ghost use Rattle.std.specs.Option.{SomeIff};
+ghost use Rattle.sccp_base.specs.Text.{point_code_of, point_code_by};
 
+use crate::text::{cut, decimal};
 use std::marker::Model;
 
 /// A signalling point code of 14 bits, a number from 0 to 16383 (Q.713 section 3.4.2.1).
@@ -38,5 +40,36 @@ impl PointCode {
         ensures below { self.now < 16384 }
     {
         self.value
+    }
+
+    /// Reads one to five decimal digits of a value up to 16383, or zone, area and point as `z-a-p`, each of one to three
+    /// decimal digits, up to 7, 255 and 7: the top 3, the middle 8 and the low 3 bits. `None` for another text.
+    pub fn parse(text: &[u8]) -> Option<PointCode>
+        ensures { result ≡ point_code_of text.now }
+    {
+        match cut(text, b'-') {
+            Some((zone, rest)) => match cut(rest, b'-') {
+                Some((area, point)) => PointCode::of_parts(zone, area, point),
+                None => None,
+            },
+            None => match decimal(text, 5) {
+                Some(value) if value < 16384 => PointCode::new(value as u16),
+                _ => None,
+            },
+        }
+    }
+
+    /// The point code of a zone, an area and a point.
+    fn of_parts(zone: &[u8], area: &[u8], point: &[u8]) -> Option<PointCode>
+        ensures { result ≡ point_code_by zone.now area.now point.now }
+    {
+        let zone = decimal(zone, 3)?;
+        let area = decimal(area, 3)?;
+        let point = decimal(point, 3)?;
+        if zone < 8 && area < 256 && point < 8 {
+            PointCode::new((2048 * zone + 8 * area + point) as u16)
+        } else {
+            None
+        }
     }
 }

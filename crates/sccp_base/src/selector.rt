@@ -1,7 +1,9 @@
 ghost use Rattle.std.specs.Prelude.{◌≡◌};
 ghost use Rattle.std.specs.Option.{SomeIff};
 ghost use Rattle.sccp_base.specs.Selector.{IsSelector, numbers};
+ghost use Rattle.sccp_base.specs.Text.{selector_of, byte_of};
 
+use crate::text::{cut, decimal};
 use std::marker::Model;
 
 /// What selects the rows of a translation: the kind of a global title, 1 to 4, and the numbers that this kind has;
@@ -82,5 +84,36 @@ impl Selector {
         ensures right { IsSelector self.now }
     {
         self.nature
+    }
+
+    /// Reads `1:N`, `2:T`, `3:T:P` or `4:T:P:N`, where T is the translation type, P the numbering plan and N the nature of
+    /// address, each of one to three decimal digits and in its range. `None` for another text.
+    pub fn parse(text: &[u8]) -> Option<Selector>
+        ensures { result ≡ selector_of text.now }
+    {
+        match cut(text, b':') {
+            Some((b"1", nature)) => Selector::new(1, 0, 0, byte(nature)?),
+            Some((b"2", translation)) => Selector::new(2, byte(translation)?, 0, 0),
+            Some((b"3", rest)) => {
+                let (translation, plan) = cut(rest, b':')?;
+                Selector::new(3, byte(translation)?, byte(plan)?, 0)
+            }
+            Some((b"4", rest)) => {
+                let (translation, rest) = cut(rest, b':')?;
+                let (plan, nature) = cut(rest, b':')?;
+                Selector::new(4, byte(translation)?, byte(plan)?, byte(nature)?)
+            }
+            _ => None,
+        }
+    }
+}
+
+/// A number up to 255 of one to three decimal digits.
+fn byte(text: &[u8]) -> Option<u8>
+    ensures { result ≡ byte_of text.now }
+{
+    match decimal(text, 3) {
+        Some(value) if value < 256 => Some(value as u8),
+        _ => None,
     }
 }

@@ -1,0 +1,229 @@
+-- Places of marks among ascending marks, and what an edit there leaves.
+use Rattle.std.specs.Prelude.{◌≡◌, ℕ, ◌+◌, ◌<◌, ◌≤◌, ◌⊎◌, Bool, true, false, not, ◌&&◌, ◌||◌, List, [], ◌∷◌, ◌++◌, length, refl, Result, Ok, Err, take, drop}
+use Rattle.std.specs.List.{list_any, AllPairs, AllWithin, All, HoldsAt, insert, remove}
+use Rattle.std.specs.List.Sorted.{IsBinarySearchResult, IsNonDecreasingBy, IsSearchInRange}
+use Rattle.std.specs.Ordering.{ordering_index, ordering_reverse, is_eq}
+use Rattle.std.specs.Result.{is_ok}
+use Rattle.std.specs.Cmp.{tied_itself}
+use Rattle.std.specs.declared.cmp.Ordering.{Ordering}
+use Rattle.std.specs.declared.cmp.Ordering.TheVariants.{Less, Equal, Greater}
+use Rattle.std.proofs.Common.{suc, sym, ◌∙◌, ap, subst, arith, get_or, ⊎_elim, inl, inr, length-append, drop-cons, ◌-◌}
+use Rattle.std.proofs.lemmas.Bool.{cases_lt, cases_order, false≢true, eqb-true, and_parts}
+use Rattle.std.proofs.lemmas.List.{take-append-drop, length-take, length-drop}
+use Rattle.std.proofs.lemmas.List.Edits.{get_or-insert_at, get_or-insert_below, get_or-insert_above, get_or-remove_below, get_or-remove_above}
+use Rattle.std.proofs.lemmas.List.Folds.{list_any-append, list_any_none, list_any-from_Any}
+use Rattle.sccp_base.specs.declared.mark.Mark.{Mark}
+use Rattle.sccp_base.specs.declared.mark.Mark.TheVariants.{PointCode, Sccp, Subsystem}
+use Rattle.sccp_base.specs.Marks.{mark_cmp, same_mark, holds, IsAscending, IsAt, BelongsAt, IsPlaceOf}
+use Rattle.sccp_base.specs.MarkOrder.{mark_cmp_total, same_mark_agrees}
+
+-- ---- marks that are the same, and marks that are apart
+
+pub same_mark_is : (a b : Mark) → same_mark a b ≡ true → a ≡ b
+same_mark_is (PointCode a) (PointCode b) h = ap PointCode (eqb-true a b h)
+same_mark_is (Sccp a) (Sccp b) h = ap Sccp (eqb-true a b h)
+same_mark_is (Subsystem a s) (Subsystem b t) h =
+    let points : a ≡ b = eqb-true a b (and_parts _ _ h).0 in
+    let ssns : s ≡ t = eqb-true s t (and_parts _ _ h).1 in
+    λ i. Subsystem (points i) (ssns i)
+same_mark_is (PointCode a) (Sccp b) h = absurd (false≢true h)
+same_mark_is (PointCode a) (Subsystem b t) h = absurd (false≢true h)
+same_mark_is (Sccp a) (PointCode b) h = absurd (false≢true h)
+same_mark_is (Sccp a) (Subsystem b t) h = absurd (false≢true h)
+same_mark_is (Subsystem a s) (PointCode b) h = absurd (false≢true h)
+same_mark_is (Subsystem a s) (Sccp b) h = absurd (false≢true h)
+
+tied_are : (a b : Mark) → mark_cmp a b ≡ Equal → a ≡ b
+tied_are a b e = same_mark_is a b (same_mark_agrees a b ∙ ap is_eq e)
+
+apart_below : (a b : Mark) → mark_cmp a b ≡ Less → same_mark a b ≡ false
+apart_below a b e = same_mark_agrees a b ∙ ap is_eq e
+
+apart_above : (a b : Mark) → mark_cmp a b ≡ Greater → same_mark a b ≡ false
+apart_above a b e = same_mark_agrees a b ∙ ap is_eq e
+
+turned : (a b : Mark) → mark_cmp a b ≡ Greater → mark_cmp b a ≡ Less
+turned a b e = mark_cmp_total.antisymm b a ∙ ap ordering_reverse e
+
+turned_back : (a b : Mark) → mark_cmp a b ≡ Less → mark_cmp b a ≡ Greater
+turned_back a b e = mark_cmp_total.antisymm b a ∙ ap ordering_reverse e
+
+-- ---- the search
+
+index_falls : (x y mark : Mark) (r : Ordering) → mark_cmp x y ≡ Less → mark_cmp y mark ≡ r → ordering_index (mark_cmp x mark) ≤ ordering_index r
+index_falls x y mark Less below e = rw (mark_cmp_total.trans x y mark below e) (omega arith)
+index_falls x y mark Equal below e =
+    let equal : mark_cmp mark y ≡ Equal = mark_cmp_total.antisymm mark y ∙ ap ordering_reverse e in
+    let same : mark ≡ y = tied_are mark y equal in
+    rw (ap (mark_cmp x) same ∙ below) (omega arith)
+index_falls x y mark Greater below e = most (mark_cmp x mark)
+  where
+    most : (r : Ordering) → ordering_index r ≤ ordering_index Greater
+    most Less = omega arith
+    most Equal = omega arith
+    most Greater = omega arith
+
+never_falls : (marks : List Mark) (mark : Mark) → IsAscending marks → IsNonDecreasingBy (λ y. ordering_index (mark_cmp y mark)) marks
+never_falls marks mark ascending i j d le lt =
+    ⊎_elim
+    (λ (below : i < j). index_falls (get_or marks i d) (get_or marks j d) mark (mark_cmp (get_or marks j d) mark) (ascending i j d below lt) refl)
+    (λ (above : j ≤ i). let e : i ≡ j = omega arith in let P : ℕ → Type 0 = λ k. ordering_index (mark_cmp (get_or marks i d) mark) ≤ ordering_index (mark_cmp (get_or marks k d) mark) in subst P e (omega arith))
+    (cases_lt i j)
+
+pub is_place : (marks : List Mark) (mark : Mark) (r : Result ℕ ℕ) → IsAscending marks → IsSearchInRange r (length marks) → IsBinarySearchResult (λ y. mark_cmp y mark) marks r → IsPlaceOf marks mark r
+is_place marks mark (Ok place) ascending inside found = record { inside = inside; same = λ d. tied_are (get_or marks place d) mark (found d) }
+is_place marks mark (Err place) ascending inside found =
+    let parted = found (never_falls marks mark ascending) in
+    record { inside = inside; below = parted.0; above = parted.1 }
+
+-- ---- a mark more
+
+abbrev IsBelow : List Mark → Mark → ℕ → ℕ → Mark → Type 0
+IsBelow marks mark place k d = (k < place) × (get_or (insert marks place mark) k d ≡ get_or marks k d)
+
+abbrev IsHere : List Mark → Mark → ℕ → ℕ → Mark → Type 0
+IsHere marks mark place k d = (k ≡ place) × (get_or (insert marks place mark) k d ≡ mark)
+
+abbrev IsAbove : List Mark → Mark → ℕ → ℕ → Mark → Type 0
+IsAbove marks mark place k d = (l : ℕ) × (k ≡ l + 1) × (place ≤ l) × (get_or (insert marks place mark) k d ≡ get_or marks l d)
+
+at_insert : (marks : List Mark) (mark : Mark) (place k : ℕ) (d : Mark) → place ≤ length marks → IsBelow marks mark place k d ⊎ (IsHere marks mark place k d ⊎ IsAbove marks mark place k d)
+at_insert marks mark place k d inside =
+    ⊎_elim
+    (λ (lt : k < place). inl (lt, get_or-insert_below marks place mark d k lt inside))
+    (λ (ge : place ≤ k). ⊎_elim
+    (λ (gt : place < k).
+    let e : k ≡ (k - 1) + 1 = omega arith in
+    let le : place ≤ k - 1 = omega arith in
+    inr (inr (k - 1, e, le, ap (λ (n : ℕ). get_or (insert marks place mark) n d) e ∙ get_or-insert_above marks place mark d (k - 1) le inside)))
+    (λ (le : k ≤ place).
+    let e : k ≡ place = omega arith in
+    inr (inl (e, ap (λ (n : ℕ). get_or (insert marks place mark) n d) e ∙ get_or-insert_at marks place mark d inside)))
+    (cases_lt place k))
+    (cases_lt k place)
+
+related : (a b x y : Mark) → a ≡ x → b ≡ y → mark_cmp x y ≡ Less → mark_cmp a b ≡ Less
+related a b x y p q h = ap (λ (m : Mark). mark_cmp m b) p ∙ ap (λ (m : Mark). mark_cmp x m) q ∙ h
+
+pub ascending_insert : (marks : List Mark) (mark : Mark) (place : ℕ) → IsAscending marks → BelongsAt marks mark place → IsAscending (insert marks place mark)
+ascending_insert marks mark place ascending at i j d lt bound =
+    let size : length (insert marks place mark) ≡ length marks + 1 = omega (arith, length-append (take place marks) (mark ∷ drop place marks), length-take place marks, length-drop place marks, at.inside) in
+    ⊎_elim
+    (λ (p : IsBelow marks mark place i d). ⊎_elim
+    (λ (q : IsBelow marks mark place j d). related _ _ _ _ p.1 q.1 (ascending i j d lt (omega (arith, at.inside, q.0))))
+    (λ o. ⊎_elim
+    (λ (q : IsHere marks mark place j d). related _ _ _ _ p.1 q.1 (at.below i d (omega arith) p.0))
+    (λ (q : IsAbove marks mark place j d). related _ _ _ _ p.1 q.3 (ascending i q.0 d (omega (arith, p.0, q.2)) (omega (arith, bound, size, q.1))))
+    o)
+    (at_insert marks mark place j d at.inside))
+    (λ n. ⊎_elim
+    (λ (p : IsHere marks mark place i d). ⊎_elim
+    (λ (q : IsBelow marks mark place j d). absurd (omega (arith, lt, p.0, q.0)))
+    (λ o. ⊎_elim
+    (λ (q : IsHere marks mark place j d). absurd (omega (arith, lt, p.0, q.0)))
+    (λ (q : IsAbove marks mark place j d). related _ _ _ _ p.1 q.3 (turned (get_or marks q.0 d) mark (at.above q.0 d q.2 (omega (arith, bound, size, q.1)))))
+    o)
+    (at_insert marks mark place j d at.inside))
+    (λ (p : IsAbove marks mark place i d). ⊎_elim
+    (λ (q : IsBelow marks mark place j d). absurd (omega (arith, lt, p.1, p.2, q.0)))
+    (λ o. ⊎_elim
+    (λ (q : IsHere marks mark place j d). absurd (omega (arith, lt, p.1, p.2, q.0)))
+    (λ (q : IsAbove marks mark place j d). related _ _ _ _ p.3 q.3 (ascending p.0 q.0 d (omega (arith, lt, p.1, q.1)) (omega (arith, bound, size, q.1))))
+    o)
+    (at_insert marks mark place j d at.inside))
+    n)
+    (at_insert marks mark place i d at.inside)
+
+turn_or : (a b c : Bool) → (a || (b || c)) ≡ (b || (a || c))
+turn_or true true c = refl
+turn_or true false c = refl
+turn_or false b c = refl
+
+pub holds-insert : (marks : List Mark) (mark other : Mark) (place : ℕ) → holds (insert marks place mark) other ≡ (same_mark mark other || holds marks other)
+holds-insert marks mark other place =
+    list_any-append (λ held. same_mark held other) (take place marks) (mark ∷ drop place marks)
+    ∙ turn_or (holds (take place marks) other) (same_mark mark other) (holds (drop place marks) other)
+    ∙ ap (λ (b : Bool). same_mark mark other || b) (sym (list_any-append (λ held. same_mark held other) (take place marks) (drop place marks)) ∙ ap (λ (ms : List Mark). holds ms other) (take-append-drop place marks))
+
+-- ---- a mark less
+
+pub ascending_remove : (marks : List Mark) (place : ℕ) → place < length marks → IsAscending marks → IsAscending (remove marks place)
+ascending_remove marks place inside ascending i j d lt bound =
+    let size : length (remove marks place) + 1 ≡ length marks = omega (arith, length-append (take place marks) (drop (suc place) marks), length-take place marks, length-drop (suc place) marks, inside) in
+    ⊎_elim
+    (λ (i_below : i < place). ⊎_elim
+    (λ (j_below : j < place). related _ _ _ _ (get_or-remove_below marks place d i i_below inside) (get_or-remove_below marks place d j j_below inside) (ascending i j d lt (omega arith)))
+    (λ (j_above : place ≤ j). related _ _ _ _ (get_or-remove_below marks place d i i_below inside) (get_or-remove_above marks place d j j_above inside) (ascending i (j + 1) d (omega arith) (omega arith)))
+    (cases_lt j place))
+    (λ (i_above : place ≤ i). related _ _ _ _ (get_or-remove_above marks place d i i_above inside) (get_or-remove_above marks place d j (omega arith) inside) (ascending (i + 1) (j + 1) d (omega arith) (omega arith)))
+    (cases_lt i place)
+
+-- none of the other marks is this one
+others_apart : (marks : List Mark) (mark : Mark) (place : ℕ) → IsAscending marks → IsAt marks mark place → All (λ held. same_mark held mark ≡ false) (remove marks place)
+others_apart marks mark place ascending at k d lt =
+    let size : length (remove marks place) + 1 ≡ length marks = omega (arith, length-append (take place marks) (drop (suc place) marks), length-take place marks, length-drop (suc place) marks, at.inside) in
+    ⊎_elim
+    (λ (below : k < place).
+    ap (λ (m : Mark). same_mark m mark) (get_or-remove_below marks place d k below at.inside)
+    ∙ apart_below (get_or marks k d) mark (ap (mark_cmp (get_or marks k d)) (sym (at.same d)) ∙ ascending k place d below at.inside))
+    (λ (above : place ≤ k).
+    ap (λ (m : Mark). same_mark m mark) (get_or-remove_above marks place d k above at.inside)
+    ∙ apart_above (get_or marks (k + 1) d) mark (turned_back mark (get_or marks (k + 1) d) (ap (λ (m : Mark). mark_cmp m (get_or marks (k + 1) d)) (sym (at.same d)) ∙ ascending place (k + 1) d (omega arith) (omega arith))))
+    (cases_lt k place)
+
+-- taking one mark out of those that are held
+without : (a b p : Bool) → p ≡ false → (a || b) ≡ (a || (p || b))
+without true b p e = refl
+without false b p e = ap (λ (q : Bool). q || b) (sym e)
+
+parted : (marks : List Mark) (mark other : Mark) (place : ℕ) → IsAt marks mark place → holds marks other ≡ (holds (take place marks) other || (same_mark mark other || holds (drop (suc place) marks) other))
+parted marks mark other place at =
+    ap (λ (ms : List Mark). holds ms other) (sym (take-append-drop place marks))
+    ∙ list_any-append (λ held. same_mark held other) (take place marks) (drop place marks)
+    ∙ ap (λ (ms : List Mark). holds (take place marks) other || holds ms other) (drop-cons marks place mark at.inside ∙ ap (λ (m : Mark). m ∷ drop (suc place) marks) (at.same mark))
+
+pub holds-remove : (marks : List Mark) (mark other : Mark) (place : ℕ) → IsAscending marks → IsAt marks mark place → holds (remove marks place) other ≡ (not (same_mark mark other) && holds marks other)
+holds-remove marks mark other place ascending at =
+    elim (same_mark mark other) as (λ b. same_mark mark other ≡ b → holds (remove marks place) other ≡ (not b && holds marks other)) [
+      | true ↦ λ e.
+          let same : mark ≡ other = same_mark_is mark other e in
+          ap (holds (remove marks place)) (sym same) ∙ list_any_none (λ held. same_mark held mark) (remove marks place) (others_apart marks mark place ascending at)
+      | false ↦ λ e.
+          list_any-append (λ held. same_mark held other) (take place marks) (drop (suc place) marks)
+          ∙ without (holds (take place marks) other) (holds (drop (suc place) marks) other) (same_mark mark other) e
+          ∙ sym (parted marks mark other place at)
+    ] refl
+
+-- ---- what the search says of a mark
+
+pub holds-at : (marks : List Mark) (mark : Mark) (place : ℕ) → IsAt marks mark place → holds marks mark ≡ true
+holds-at marks mark place at =
+    list_any-from_Any (λ held. same_mark held mark) marks (place, mark, at.inside, at.same mark, same_mark_agrees mark mark ∙ ap is_eq (tied_itself mark_cmp_total mark))
+
+pub holds-none : (marks : List Mark) (mark : Mark) (place : ℕ) → BelongsAt marks mark place → holds marks mark ≡ false
+holds-none marks mark place at =
+    list_any_none (λ held. same_mark held mark) marks (λ k d lt. ⊎_elim
+    (λ (below : k < place). apart_below (get_or marks k d) mark (at.below k d (omega arith) below))
+    (λ (above : place ≤ k). apart_above (get_or marks k d) mark (at.above k d above lt))
+    (cases_lt k place))
+
+-- a mark that is held already
+pub held_more : (marks : List Mark) (mark other : Mark) → holds marks mark ≡ true → holds marks other ≡ (same_mark mark other || holds marks other)
+held_more marks mark other h =
+    elim (same_mark mark other) as (λ b. same_mark mark other ≡ b → holds marks other ≡ (b || holds marks other)) [
+      | true ↦ λ e. ap (holds marks) (sym (same_mark_is mark other e)) ∙ h
+      | false ↦ λ e. refl
+    ] refl
+
+-- a mark that isn't held
+pub held_less : (marks : List Mark) (mark other : Mark) → holds marks mark ≡ false → holds marks other ≡ (not (same_mark mark other) && holds marks other)
+held_less marks mark other h =
+    elim (same_mark mark other) as (λ b. same_mark mark other ≡ b → holds marks other ≡ (not b && holds marks other)) [
+      | true ↦ λ e. ap (holds marks) (sym (same_mark_is mark other e)) ∙ h
+      | false ↦ λ e. refl
+    ] refl
+
+-- whether the search found the mark
+pub found_is : (marks : List Mark) (mark : Mark) (r : Result ℕ ℕ) → IsPlaceOf marks mark r → is_ok r ≡ holds marks mark
+found_is marks mark (Ok place) at = sym (holds-at marks mark place at)
+found_is marks mark (Err place) at = sym (holds-none marks mark place at)

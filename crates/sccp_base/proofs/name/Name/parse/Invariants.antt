@@ -1,0 +1,6 @@
+use Rattle.std.proofs.Common.{◌≡◌, ◌-◌, ◌++◌, take, replicate}
+use Rattle.sccp_base.proofs.name.Name.parse.Given as goal
+
+-- the octets so far, and 0 behind them
+abbrev pub invariant-loop-place : goal.invariant-loop-place
+invariant-loop-place l = l.octets ≡ take l.place l.text ++ replicate (16 - l.place) 0

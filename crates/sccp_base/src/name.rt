@@ -1,0 +1,63 @@
+ghost use Rattle.std.specs.Prelude.{◌≡◌, ◌≤◌, ◌<◌, length};
+ghost use Rattle.std.specs.Option.{SomeIff};
+ghost use Rattle.sccp_base.specs.Names.{IsName, is_name_octet};
+
+use std::marker::Model;
+
+/// The name of a node: 1 to 16 octets, each an ASCII letter, a digit, `_` or `-`. Contracts see it as the list of its
+/// octets. It stands in a fixed array, so it is copied without memory.
+#[derive(Clone, Copy, Debug, PartialEq, Eq)]
+pub struct Name {
+    octets: [u8; 16],
+    len: u8,
+}
+
+impl Model for Name {
+    ghost use Rattle.std.specs.Prelude.{ℕ, List};
+
+    ghost Value = { List ℕ };
+
+    ghost use Rattle.sccp_base.specs.Names.{IsNameLaidOut, name_shown, name_laid_out, name_laid_out-shown};
+
+    ghost view = { name_shown };
+
+    ghost invariant = { IsNameLaidOut };
+
+    ghost inverse = { name_laid_out };
+
+    ghost inverse_ok = { name_laid_out-shown };
+}
+
+impl Name {
+    /// `None` where the text isn't 1 to 16 such octets.
+    pub fn parse(text: &[u8]) -> Option<Name>
+        ensures { SomeIff result (IsName text.now) text.now }
+    {
+        if text.is_empty() || text.len() > 16 || !text.iter().all(|octet| is_name_octet(*octet)) {
+            return None;
+        }
+        let mut octets = [0; 16];
+        for (place, octet) in text.iter().enumerate() {
+            octets[place] = *octet;
+        }
+        Some(Name {
+            octets,
+            len: text.len() as u8,
+        })
+    }
+
+    /// The octets of the name.
+    pub fn as_slice(&self) -> &[u8]
+        ensures same { result.now ≡ self.now }
+        ensures name { IsName self.now }
+    {
+        &self.octets[..usize::from(self.len)]
+    }
+}
+
+/// Whether a name may have the octet.
+fn is_name_octet(octet: u8) -> bool
+    ensures { result ≡ is_name_octet octet }
+{
+    octet.is_ascii_alphanumeric() || octet == b'_' || octet == b'-'
+}

@@ -1,0 +1,33 @@
+ghost use Rattle.std.specs.Prelude.{◌≡◌, ◌≤◌, ◌^◌, ◌<◌, IfSome};
+ghost use Rattle.std.specs.Option.{option_map};
+ghost use Rattle.sccp_base.specs.Text.{cut_at, decimal_of};
+
+/// What stands before the first separator, and what stands behind it. `None` without a separator.
+pub fn cut(text: &[u8], separator: u8) -> Option<(&[u8], &[u8])>
+    ensures { option_map (λ parts. (parts.0.now, parts.1.now)) result ≡ cut_at separator text.now }
+{
+    for (place, octet) in text.iter().enumerate() {
+        if *octet == separator {
+            return Some((&text[..place], &text[place + 1..]));
+        }
+    }
+    None
+}
+
+/// The number that one to `most` decimal digits spell; leading zeros are allowed. `None` for another text.
+pub fn decimal(text: &[u8], most: usize) -> Option<u64>
+    requires { most ≤ 19 }
+    ensures { result ≡ decimal_of most text.now }
+{
+    if text.is_empty() || text.len() > most {
+        return None;
+    }
+    let mut value: u64 = 0;
+    for octet in text {
+        if !octet.is_ascii_digit() {
+            return None;
+        }
+        value = 10 * value + u64::from(*octet - b'0');
+    }
+    Some(value)
+}
