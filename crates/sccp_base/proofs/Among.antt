@@ -1,5 +1,5 @@
 -- an element among those of a list, by recursion, and what a filter and a search make of it
-use Rattle.std.specs.Prelude.{ℕ, ◌≡◌, ◌≢◌, ◌<◌, ◌+◌, ◌⊎◌, Bool, true, false, cond, List, [], ◌∷◌, length, Option, Some, None, refl, not, nat_lt, slice_get, ◌≤◌}
+use Rattle.std.specs.Prelude.{ℕ, ◌≡◌, ◌<◌, ◌+◌, ◌⊎◌, Bool, true, false, cond, List, [], ◌∷◌, length, Some, None, refl, not, nat_lt, slice_get, ◌≤◌}
 use Rattle.std.specs.List.{filter, find, list_all, list_any, AllPairs, position, position_or_len, prefix_len}
 use Rattle.std.proofs.Common.{zero, sym, ◌∙◌, ap, subst, inl, inr, ⊎_elim, arith, get_or, suc}
 use Rattle.std.proofs.lemmas.Bool.{false≢true, and_parts, and_from, cases_order, cond-false, not-true, ltb-false, or_parts}

@@ -1,5 +1,5 @@
 -- How a name is laid out octet by octet.
-use Rattle.std.proofs.Common.{◌≡◌, ℕ, suc, ◌+◌, ◌-◌, ◌<◌, ◌≤◌, List, [], ◌∷◌, ◌++◌, length, get_or, take, drop, replicate, refl, sym, append_assoc, arith, length-append, set}
+use Rattle.std.proofs.Common.{◌≡◌, ℕ, suc, ◌+◌, ◌-◌, ◌<◌, ◌≤◌, List, [], ◌∷◌, ◌++◌, length, get_or, take, replicate, refl, sym, append_assoc, arith, length-append, set}
 use Rattle.std.proofs.lemmas.List.{length-replicate, set-append_right, length-take, take_more, take_at, drop_at, take_all}
 use Rattle.sccp_base.specs.Names.{IsName, IsNameLaidOut}
 

@@ -1,5 +1,5 @@
 -- Digits as text.
-use Rattle.std.specs.Prelude.{◌≡◌, ℕ, ◌+◌, ◌-◌, ◌&&◌, nat_lt, nat_le, if◌then◌else◌, List, length, slice_index, Option, Some, None, Result, Ok, Err}
+use Rattle.std.specs.Prelude.{ℕ, ◌+◌, ◌-◌, ◌&&◌, nat_lt, nat_le, if◌then◌else◌, List, length, slice_index, Option, Some, None, Result, Err}
 use Rattle.std.specs.Option.{ok_or}
 use Rattle.std.specs.List.{range_with_len}
 use Rattle.sccp_base.specs.Answers.{all_ok}

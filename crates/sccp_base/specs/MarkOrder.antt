@@ -1,6 +1,6 @@
 -- The order of marks is a total one, and its ties are equal marks.
-use Rattle.std.specs.Prelude.{◌≡◌, ℕ, ◌+◌, Bool, true, false, ◌&&◌, ◌==◌, refl}
-use Rattle.std.specs.Ordering.{nat_cmp, on, then_cmp, eq_by_cmp}
+use Rattle.std.specs.Prelude.{◌≡◌}
+use Rattle.std.specs.Ordering.{eq_by_cmp}
 use Rattle.std.specs.Cmp.{IsTotalOrder, IsEquivalence, then_total, on_total, nat_cmp_total, eq_by_cmp_equiv}
 use Rattle.std.proofs.Common.{arith, sym, ◌∙◌}
 use Rattle.std.proofs.lemmas.Bool.Decides.{nat_tests}

@@ -1,5 +1,5 @@
 -- Names of nodes, and how one lies in an array of 16.
-use Rattle.std.specs.Prelude.{◌≡◌, ℕ, ◌+◌, ◌-◌, ◌≤◌, ◌<◌, ◌++◌, Bool, true, ◌||◌, ◌==◌, List, length, take, drop, replicate, refl}
+use Rattle.std.specs.Prelude.{◌≡◌, ℕ, ◌-◌, ◌≤◌, ◌++◌, Bool, true, ◌||◌, ◌==◌, List, length, take, drop, replicate}
 use Rattle.std.specs.List.{All}
 use Rattle.std.specs.Char.{is_ascii_alphanumeric}
 use Rattle.std.proofs.Common.{arith, length-take-le, take-append-drop}

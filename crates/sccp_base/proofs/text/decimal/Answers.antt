@@ -1,4 +1,4 @@
-use Rattle.std.proofs.Common.{◌≤◌, ◌<◌, ◌*◌, ◌+◌, ◌-◌, ◌^◌, ◌≡◌, ℕ, zero, suc, arith, length, subst}
+use Rattle.std.proofs.Common.{◌≤◌, ◌<◌, ◌+◌, ◌-◌, ◌^◌, ◌≡◌, ℕ, zero, suc, arith, subst}
 use Rattle.std.proofs.Math.Nat.{pow-suc}
 use Rattle.sccp_base.proofs.text.decimal.Goals as goal
 

@@ -1,4 +1,4 @@
-use Rattle.std.proofs.Common.{◌≡◌, ◌<◌, ◌*◌, length, arith, ◌∙◌}
+use Rattle.std.proofs.Common.{◌<◌, ◌*◌, length, arith}
 use Rattle.sccp_base.proofs.Halves.{packed_more}
 use Rattle.sccp_base.proofs.digits.Digits.pack.Goals as goal
 

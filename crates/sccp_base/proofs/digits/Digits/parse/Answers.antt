@@ -1,11 +1,10 @@
-use Rattle.std.proofs.Common.{◌≡◌, ◌++◌, ◌∷◌, [], ℕ, List, length, arith, Ok, subst, sym, ap, ◌∙◌, length-append, ◌<◌, Option}
+use Rattle.std.proofs.Common.{◌≡◌, ◌∷◌, [], ℕ, length, arith, Ok, sym, ap, length-append, ◌<◌, Option}
 use Rattle.std.specs.List.{range_with_len}
 use Rattle.std.specs.Option.{ok_or}
-use Rattle.sccp_base.specs.declared.digits_fault.DigitsFault.{DigitsFault}
 use Rattle.sccp_base.specs.declared.digits_fault.DigitsFault.TheVariants.{NotDigit}
 use Rattle.sccp_base.specs.Answers.{all_ok}
-use Rattle.sccp_base.specs.DigitText.{digit_at, hex_digit}
-use Rattle.sccp_base.proofs.AllOk.{with_front, goes_on}
+use Rattle.sccp_base.specs.DigitText.{digit_at}
+use Rattle.sccp_base.proofs.AllOk.{goes_on}
 use Rattle.sccp_base.proofs.LaidOut.{IsLaidOut-empty}
 use Rattle.sccp_base.proofs.digits.Digits.parse.Goals as goal
 

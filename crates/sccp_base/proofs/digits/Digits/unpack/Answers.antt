@@ -1,5 +1,5 @@
-use Rattle.std.proofs.Common.{◌≡◌, ◌<◌, ◌≤◌, ◌*◌, ◌-◌, ◌+◌, ◌++◌, ◌∷◌, [], ℕ, List, cond, length, take, arith, sym, ap, ◌∙◌, refl}
-use Rattle.std.proofs.lemmas.List.{length-take, take_more}
+use Rattle.std.proofs.Common.{◌≡◌, ◌<◌, ◌*◌, ◌-◌, cond, length, arith, sym, refl}
+use Rattle.std.proofs.lemmas.List.{take_more}
 use Rattle.sccp_base.specs.Bcd.{halves, unpacked}
 use Rattle.sccp_base.proofs.Halves.{length-halves, length-unpacked, in_places, too_many, bool_byte_is}
 use Rattle.sccp_base.proofs.LaidOut.{IsLaidOut-empty}
