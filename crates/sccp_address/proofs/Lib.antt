@@ -1,0 +1,5 @@
+pub mod Titles
+pub mod Laws
+pub mod Writing
+pub mod Examples
+pub mod Kept

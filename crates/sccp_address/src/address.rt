@@ -1,0 +1,68 @@
+ghost use Rattle.std.specs.Prelude.{◌≡◌, ◌%◌, length, IfSome};
+ghost use Rattle.std.specs.Option.{SomeIff};
+ghost use Rattle.sccp_address.specs.Addresses.{selector_in, digits_in};
+
+use sccp_base::{Digits, Octets, PointCode, Selector};
+
+/// A called or calling address (Q.713 sections 3.4 and 3.5).
+#[derive(Debug, Drop)]
+pub struct Address {
+    /// Bit 8 of the indicator, which is reserved for national use.
+    pub national: bool,
+    /// Whether routing is by subsystem number, and not by global title.
+    pub by_ssn: bool,
+    /// The signalling point code, where there is one (3.4.2.1).
+    pub pc: Option<PointCode>,
+    /// The subsystem number, where there is one (3.4.2.2).
+    pub ssn: Option<u8>,
+    pub title: Title,
+}
+
+/// A global title (Q.713 section 3.4.2.3).
+#[derive(Debug, Drop)]
+pub enum Title {
+    Absent,
+    /// A title whose digits are binary coded decimal; of kind 2 their number is even.
+    Global { selector: Selector, digits: Digits },
+    /// A title that is kept as its octets: of another kind than 1 to 4, of another encoding scheme, or of more than
+    /// 32 digits. It is made by `read` alone.
+    Raw { kind: u8, octets: Octets },
+}
+
+impl Title {
+    ghost use Rattle.sccp_address.specs.Written.{IsTitle};
+
+    /// A title with digits; `None` for an odd number of them under kind 2, which can't say that it is odd.
+    pub fn global(selector: Selector, digits: Digits) -> Option<Title>
+        ensures made { SomeIff result (selector.kind ≡ 2 → length digits % 2 ≡ 0) (Title.Global selector digits) }
+        ensures kept { IfSome result (λ t. IsTitle t) }
+    {
+        // That there are at most 32 is known from this call alone.
+        let _count = digits.len();
+        if selector.kind() == 2 && digits.as_slice().len() % 2 == 1 {
+            None
+        } else {
+            Some(Title::Global { selector, digits })
+        }
+    }
+}
+
+/// The selector of a title with digits; `None` for another title.
+pub fn selector_of(address: &Address) -> Option<Selector>
+    ensures { result ≡ selector_in address.now.title }
+{
+    match &address.title {
+        Title::Global { selector, .. } => Some(*selector),
+        _ => None,
+    }
+}
+
+/// The digits of a title with digits; `None` for another title.
+pub fn digits_of(address: &Address) -> Option<Digits>
+    ensures { result ≡ digits_in address.now.title }
+{
+    match &address.title {
+        Title::Global { digits, .. } => Some(*digits),
+        _ => None,
+    }
+}

@@ -1,0 +1,101 @@
+ghost use Rattle.std.specs.Prelude.{◌≡◌, ◌≤◌, ◌++◌, IfOk, OnOk};
+ghost use Rattle.std.specs.Option.{option_to_list};
+ghost use Rattle.sccp_address.specs.Addresses.{AddressIs};
+ghost use Rattle.sccp_address.specs.Written.{flag, point_code_octets, heading, title_octets, title_kind, indicator_of, written, IsAddress};
+
+use crate::address::{Address, Title};
+use sccp_base::{Octets, OutOfMemory, PointCode, Selector};
+use std::alloc::{AllocError, Global};
+
+fn flag_of(set: bool) -> u8
+    ensures value { result ≡ flag set }
+    ensures most { result ≤ 1 }
+{
+    if set { 1 } else { 0 }
+}
+
+fn kind_of(title: &Title) -> u8
+    ensures { result ≡ title_kind title.now }
+{
+    match title {
+        Title::Absent => 0,
+        Title::Global { selector, .. } => selector.kind(),
+        Title::Raw { kind, .. } => *kind,
+    }
+}
+
+fn indicator(address: &Address) -> u8
+    ensures { result ≡ indicator_of address.now }
+{
+    flag_of(address.pc.is_some())
+        + 2 * flag_of(address.ssn.is_some())
+        + 4 * (kind_of(&address.title) % 16)
+        + 64 * flag_of(address.by_ssn)
+        + 128 * flag_of(address.national)
+}
+
+fn push_point_code(octets: &mut Vec<u8>, pc: Option<PointCode>) -> Result<(), AllocError>
+    ensures { OnOk result (octets.new.items ≡ octets.old.items ++ point_code_octets pc) }
+{
+    match pc {
+        Some(pc) => {
+            let value = pc.value();
+            octets.extend_from_slice(&[(value % 256) as u8, (value / 256) as u8])
+        }
+        None => Ok(()),
+    }
+}
+
+fn push_ssn(octets: &mut Vec<u8>, ssn: Option<u8>) -> Result<(), AllocError>
+    ensures { OnOk result (octets.new.items ≡ octets.old.items ++ option_to_list ssn) }
+{
+    match ssn {
+        Some(ssn) => octets.extend_from_slice(&[ssn]),
+        None => Ok(()),
+    }
+}
+
+// What stands before the digits.
+fn push_heading(octets: &mut Vec<u8>, selector: &Selector, odd: bool) -> Result<(), AllocError>
+    ensures { OnOk result (octets.new.items ≡ octets.old.items ++ heading selector.now odd) }
+{
+    let translation = selector.translation();
+    let plan = 16 * selector.plan() + if odd { 1 } else { 2 };
+    match selector.kind() {
+        1 => octets.extend_from_slice(&[selector.nature() + 128 * flag_of(odd)]),
+        2 => octets.extend_from_slice(&[translation]),
+        3 => octets.extend_from_slice(&[translation, plan]),
+        _ => octets.extend_from_slice(&[translation, plan, selector.nature()]),
+    }
+}
+
+fn push_title(alloc: Global, octets: &mut Vec<u8>, title: &Title) -> Result<(), OutOfMemory>
+    ensures { OnOk result (octets.new.items ≡ octets.old.items ++ title_octets title.now) }
+{
+    match title {
+        Title::Absent => {}
+        Title::Global { selector, digits } => {
+            push_heading(octets, selector, digits.len() % 2 == 1)?;
+            octets.extend_from_slice(digits.pack(alloc)?.as_slice())?;
+        }
+        Title::Raw { octets: kept, .. } => octets.extend_from_slice(kept.as_slice())?,
+    }
+    Ok(())
+}
+
+// Room for all but a title that is kept as its octets.
+const MOST: usize = 1 + 2 + 1 + 3 + 16;
+
+/// The octets of an address (Q.713 section 3.4): spare bits and the filler are 0, and the encoding scheme of a title with
+/// digits is 1 for an odd number of them and 2 for an even one. A title that was kept as its octets is written as it was read.
+pub fn write(alloc: Global, address: &Address) -> Result<Octets, OutOfMemory>
+    ensures exact { IfOk result (λ octets. octets ≡ written address.now) }
+    ensures again { IsAddress address.now → IfOk result (λ octets. AddressIs octets address.now) }
+{
+    let mut octets = Vec::with_capacity(alloc, MOST)?;
+    octets.push(indicator(address))?;
+    push_point_code(&mut octets, address.pc)?;
+    push_ssn(&mut octets, address.ssn)?;
+    push_title(alloc, &mut octets, &address.title)?;
+    Ok(Octets::from_vec(octets))
+}

@@ -1,0 +1,7 @@
+pub mod Examples
+pub mod Codes
+pub mod Listed
+pub mod Lists
+pub mod Laws
+pub mod Pieces
+pub mod Joined

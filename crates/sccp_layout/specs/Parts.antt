@@ -1,0 +1,43 @@
+-- The parts of a message (ITU-T Q.713 sections 1 and 2). Parts may stand in any order, overlap or leave gaps behind the pointers, and what follows the last one is ignored (profile).
+use Rattle.std.specs.Prelude.{◌≡◌, ◌≢◌, ℕ, ◌+◌, ◌<◌, ◌≤◌, ◌⊎◌, IsTrue, true, false, List, [], ◌∷◌, ◌++◌, length, drop, slice_get, slice_range, Some}
+use Rattle.std.specs.List.{flat_map, AllByRecursion}
+use Rattle.sccp_layout.specs.declared.shape.Layout.{Layout}
+use Rattle.sccp_layout.specs.declared.parts.Parts.{Parts}
+use Rattle.sccp_layout.specs.Parameter.{Parameter}
+use Rattle.sccp_layout.specs.Table.{layout_of}
+use Rattle.sccp_layout.specs.Places.{pointer, place, after_pointers, names_place, part}
+use Rattle.sccp_layout.specs.Joining.{spelled_parameter}
+
+-- as many octets and parts as the layout has, and no parameters where it has no optional part
+pub record Fits (l : Layout) (p : Parts) : Type 0 where
+  pub fixed : length p.fixed ≡ l.fixed
+  pub variable : length p.variable ≡ l.variable
+  pub params : l.optional ≡ false → p.params ≡ []
+
+pub record FitsLayout (p : Parts) : Type 0 where
+  pub layout : Layout
+  pub of_type : layout_of p.code ≡ Some layout
+  pub fits : Fits layout p
+
+-- the octets begin with these parameters, whose names aren't 0, and the end octet 00 (3.1)
+pub record BeginsWithList (octets : List ℕ) (params : List Parameter) : Type 0 where
+  pub rest : List ℕ
+  pub spelled : octets ≡ flat_map spelled_parameter params ++ 0 ∷ rest
+  pub named : AllByRecursion (λ p. p.name ≢ 0) params
+
+-- no optional part, or one that its pointer names
+abbrev pub ParamsAre : Layout → List ℕ → List Parameter → Type 0
+ParamsAre l b params =
+    (((l.optional ≡ false) ⊎ (pointer l b l.variable ≡ 0)) × (params ≡ []))
+    ⊎ ((l.optional ≡ true) × IsTrue (names_place l b l.variable) × BeginsWithList (drop (place l b l.variable) b) params)
+
+-- b is a message of these parts
+pub record HasParts (b : List ℕ) (p : Parts) : Type 0 where
+  pub layout : Layout
+  pub of_type : layout_of p.code ≡ Some layout
+  pub code : slice_get b 0 ≡ Some p.code
+  pub pointers : after_pointers layout ≤ length b
+  pub fixed : p.fixed ≡ slice_range b 1 (1 + layout.fixed)
+  pub count : length p.variable ≡ layout.variable
+  pub variable : (i : ℕ) → i < layout.variable → IsTrue (names_place layout b i) × (part layout b i ≡ slice_get p.variable i)
+  pub params : ParamsAre layout b p.params

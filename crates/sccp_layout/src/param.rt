@@ -1,0 +1,51 @@
+ghost use Rattle.std.specs.Prelude.{◌≡◌, ◌<◌};
+ghost use Rattle.std.specs.Option.{SomeIff};
+ghost use Rattle.sccp_layout.specs.Parameter.{parameter};
+
+use sccp_base::Octets;
+use std::marker::Model;
+
+/// An optional parameter: its name, which isn't 0, and its contents (Q.713 section 3).
+#[derive(Debug, Drop)]
+pub struct Param {
+    name: u8,
+    octets: Octets,
+}
+
+impl Model for Param {
+    ghost use Rattle.std.specs.Prelude.{◌<◌};
+    ghost use Rattle.sccp_layout.specs.Parameter.{Parameter};
+
+    ghost Value = { Parameter };
+
+    ghost view = { λ p. record { name = p.name; octets = p.octets } };
+
+    ghost invariant = { λ p. 0 < p.name };
+}
+
+impl Param {
+    /// `None` for the name 0, which is the end of optional parameters.
+    pub fn new(name: u8, octets: Octets) -> Option<Param>
+        ensures { SomeIff result (0 < name) (parameter name octets) }
+    {
+        if name == 0 {
+            None
+        } else {
+            Some(Param { name, octets })
+        }
+    }
+
+    pub fn name(&self) -> u8
+        ensures same { result ≡ self.now.name }
+        ensures named { 0 < self.now.name }
+    {
+        self.name
+    }
+
+    /// The contents, without name and length.
+    pub fn octets(&self) -> &[u8]
+        ensures { result.now ≡ self.now.octets }
+    {
+        self.octets.as_slice()
+    }
+}
