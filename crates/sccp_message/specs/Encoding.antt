@@ -1,0 +1,49 @@
+-- Writing a message, with the fault that keeps it from being written.
+use Rattle.std.specs.Prelude.{ℕ, Bool, true, false, List, [], Option, Some, None, Result, Ok, Err}
+use Rattle.std.specs.Str.{bytes_eq}
+use Rattle.sccp_base.specs.Answers.{Answers}
+use Rattle.sccp_layout.specs.declared.parts.JoinFault.{JoinFault}
+use Rattle.sccp_layout.specs.declared.parts.JoinFault.TheVariants as joins
+use Rattle.sccp_layout.specs.Table.{Row, row}
+use Rattle.sccp_layout.specs.Joining.{joining}
+use Rattle.sccp_message.specs.declared.message.Message.{Message}
+use Rattle.sccp_message.specs.declared.fault.DecodeFault.{DecodeFault}
+use Rattle.sccp_message.specs.declared.encode_fault.EncodeFault.{EncodeFault}
+use Rattle.sccp_message.specs.declared.encode_fault.EncodeFault.TheVariants as faults
+use Rattle.sccp_message.specs.Reading.{reading}
+use Rattle.sccp_message.specs.Written.{content, parts_from}
+
+abbrev pub is_memory : EncodeFault → Bool
+is_memory faults.OutOfMemory = true
+is_memory (faults.TooLong part) = false
+is_memory (faults.PointerTooFar i) = false
+
+abbrev pub Gives : {X Y : Type 0} → (X → Y) → Result X EncodeFault → Result Y EncodeFault → Type 0
+Gives view result expected = Answers is_memory view result expected
+
+abbrev pub as_join : {X : Type 0} → Result X JoinFault → Result X EncodeFault
+as_join (Ok x) = Ok x
+as_join (Err (joins.TooLong part)) = Err (faults.TooLong part)
+as_join (Err (joins.PointerTooFar i)) = Err (faults.PointerTooFar i)
+as_join (Err joins.OutOfMemory) = Err faults.OutOfMemory
+
+abbrev pub encoding_by : Option Row → Message → Result (List ℕ) EncodeFault
+encoding_by None m = Ok []
+encoding_by (Some r) m = as_join (joining r.layout (parts_from m))
+
+-- the octets of a message, or the fault: a part or parameter that is too long for its length, else a pointer that doesn't fit
+abbrev pub encoding : Message → Result (List ℕ) EncodeFault
+encoding m = encoding_by (row (content m).code) m
+
+-- ---- whether octets are those that are written of the message that they are
+
+abbrev pub is_written : List ℕ → Result (List ℕ) EncodeFault → Bool
+is_written b (Ok octets) = bytes_eq octets b
+is_written b (Err f) = false
+
+abbrev pub is_written_of : List ℕ → Result Message DecodeFault → Bool
+is_written_of b (Ok m) = is_written b (encoding m)
+is_written_of b (Err f) = false
+
+abbrev pub canonical : List ℕ → Bool
+canonical b = is_written_of b (reading b)

@@ -1,0 +1,114 @@
+ghost use Rattle.std.specs.Prelude.{◌≡◌, Some, Ok, IfOk, IfErr, ◌⊎◌};
+ghost use Rattle.sccp_layout.specs.Parts.{FitsLayout};
+ghost use Rattle.sccp_message.specs.Reading.{Gives, message_in, reading, first_fault};
+ghost use Rattle.sccp_message.specs.declared.message.Message.{Message};
+ghost use Rattle.sccp_message.specs.Reads.{Reads};
+ghost use Rattle.sccp_message.specs.Written.{Sound, IsMessage};
+
+use crate::fault::DecodeFault;
+use crate::fields::{address, data, is_more, reference, sequence};
+use crate::message::Message;
+use crate::params::{CALLED, CALLING, CREDIT, DATA, HOPS, IMPORTANCE, SEGMENTATION, tested};
+use sccp_layout::{Parts, SplitFault, split};
+use std::alloc::Global;
+
+// The value of one field: it stands at a place of the fixed part, it is a variable part, or it is the parameters, of
+// which those of some names are tested.
+macro_rules! field {
+    (($alloc:ident $fixed:ident $variable:ident $params:ident) reference($place:literal)) => {
+        reference($fixed, $place)
+    };
+    (($alloc:ident $fixed:ident $variable:ident $params:ident) octet($place:literal)) => {
+        $fixed[$place]
+    };
+    (($alloc:ident $fixed:ident $variable:ident $params:ident) sequence($place:literal)) => {
+        sequence($fixed[$place])
+    };
+    (($alloc:ident $fixed:ident $variable:ident $params:ident) more($place:literal)) => {
+        is_more($fixed[$place])
+    };
+    (($alloc:ident $fixed:ident $variable:ident $params:ident) address($i:literal)) => {
+        address($alloc, &$variable, $i)?
+    };
+    (($alloc:ident $fixed:ident $variable:ident $params:ident) data()) => {
+        data($variable)
+    };
+    (($alloc:ident $fixed:ident $variable:ident $params:ident) known($($name:ident),*)) => {
+        tested($alloc, &[$($name),*], $params)?
+    };
+}
+
+// The message of a code: a line for each type, with its fields in the order in which they are tested.
+macro_rules! by_code {
+    ($code:expr, $from:tt; $($value:literal $variant:ident { $($field:ident: $kind:ident $place:tt),* })*) => {
+        match $code {
+            $($value => Ok(Message::$variant {
+                $($field: field!($from $kind $place)),*
+            }),)*
+            _ => unreachable!(),
+        }
+    };
+}
+
+#[tactic(auto, unfolding(crate::specs::Reading::message_in))]
+fn message(alloc: Global, parts: Parts) -> Result<Message, DecodeFault>
+    requires { FitsLayout parts }
+    ensures { Gives (λ m. m) result (message_in parts) }
+{
+    let Parts {
+        code,
+        fixed,
+        variable,
+        params,
+    } = parts;
+    let fixed = fixed.as_slice();
+    by_code! { code, (alloc fixed variable params);
+        0x01 Cr { slr: reference(0), class: octet(3), called: address(0), params: known(CREDIT, CALLING, DATA, HOPS, IMPORTANCE) }
+        0x02 Cc { dlr: reference(0), slr: reference(3), class: octet(6), params: known(CREDIT, CALLED, DATA, IMPORTANCE) }
+        0x03 Cref { dlr: reference(0), cause: octet(3), params: known(CALLED, DATA, IMPORTANCE) }
+        0x04 Rlsd { dlr: reference(0), slr: reference(3), cause: octet(6), params: known(DATA, IMPORTANCE) }
+        0x05 Rlc { dlr: reference(0), slr: reference(3) }
+        0x06 Dt1 { dlr: reference(0), more: more(3), payload: data() }
+        0x07 Dt2 { dlr: reference(0), send: sequence(3), receive: sequence(4), more: more(4), payload: data() }
+        0x08 Ak { dlr: reference(0), receive: sequence(3), credit: octet(4) }
+        0x09 Udt { class: octet(0), called: address(0), calling: address(1), payload: data() }
+        0x0A Udts { cause: octet(0), called: address(0), calling: address(1), payload: data() }
+        0x0B Ed { dlr: reference(0), payload: data() }
+        0x0C Ea { dlr: reference(0) }
+        0x0D Rsr { dlr: reference(0), slr: reference(3), cause: octet(6) }
+        0x0E Rsc { dlr: reference(0), slr: reference(3) }
+        0x0F Err { dlr: reference(0), cause: octet(3) }
+        0x10 It { dlr: reference(0), slr: reference(3), class: octet(6), send: sequence(7), receive: sequence(8), more: more(8), credit: octet(9) }
+        0x11 Xudt { class: octet(0), hops: octet(1), called: address(0), calling: address(1), payload: data(), params: known(SEGMENTATION, IMPORTANCE) }
+        0x12 Xudts { cause: octet(0), hops: octet(1), called: address(0), calling: address(1), payload: data(), params: known(SEGMENTATION, IMPORTANCE) }
+        0x13 Ludt { class: octet(0), hops: octet(1), called: address(0), calling: address(1), payload: data(), params: known(SEGMENTATION, IMPORTANCE) }
+        0x14 Ludts { cause: octet(0), hops: octet(1), called: address(0), calling: address(1), payload: data(), params: known(SEGMENTATION, IMPORTANCE) }
+    }
+}
+
+fn whole(alloc: Global, octets: &[u8]) -> Result<Message, DecodeFault>
+    ensures { Gives (λ m. m) result (reading octets.now) }
+{
+    let parts = match split(alloc, octets) {
+        Ok(parts) => parts,
+        Err(SplitFault::OutOfMemory) => return Err(DecodeFault::OutOfMemory),
+        Err(fault) => return Err(DecodeFault::Split(fault)),
+    };
+    message(alloc, parts)
+}
+
+/// The message that octets are, of any of the twenty types (Q.713 sections 2 to 4).
+///
+/// Parts may stand in any order, overlap or leave gaps; spare bits, and octets behind the last part, are ignored. The
+/// fault is the first test that fails: the type, the length, each variable part, the optional part, each address, each
+/// parameter that is known to the type. Of a repeated name the first parameter counts.
+pub fn decode(alloc: Global, octets: &[u8]) -> Result<Message, DecodeFault>
+    ensures found { IfOk result (λ m. Reads octets.now m) }
+    ensures sound { IfOk result (λ m. Sound m) }
+    ensures kept { IfOk result (λ m. IsMessage m) }
+    ensures only { (m : Message) → Reads octets.now m → Gives (λ m. m) result (Ok m) }
+    ensures refused { IfErr result (λ e. e ≡ DecodeFault.OutOfMemory ⊎ first_fault octets.now ≡ Some e) }
+    ensures exact { Gives (λ m. m) result (reading octets.now) }
+{
+    whole(alloc, octets)
+}

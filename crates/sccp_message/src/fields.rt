@@ -1,0 +1,55 @@
+ghost use Rattle.std.specs.Prelude.{◌≡◌, ◌≤◌, ◌<◌, ◌+◌, ◌-◌, length, slice_get, Some};
+ghost use Rattle.sccp_base.specs.Bits.{bit, bits};
+ghost use Rattle.sccp_message.specs.Fields.{reference_at};
+ghost use Rattle.sccp_message.specs.Reading.{Gives, address_in};
+
+use crate::fault::DecodeFault;
+use sccp_address::{Address, AddressFault};
+use sccp_base::{List, Octets, Reference, Seven};
+use std::alloc::Global;
+
+// A local reference, whose first octet is the lowest.
+pub fn reference(octets: &[u8], place: usize) -> Reference
+    requires { place + 3 ≤ length octets.now }
+    ensures { result ≡ reference_at octets.now place }
+{
+    let low = u32::from(octets[place]);
+    let middle = u32::from(octets[place + 1]);
+    let high = u32::from(octets[place + 2]);
+    Reference::new(low + 256 * middle + 65536 * high).unwrap()
+}
+
+// A sequence number, in bits 2 to 8.
+pub fn sequence(octet: u8) -> Seven
+    ensures { result ≡ bits octet 2 8 }
+{
+    Seven::new(octet >> 1).unwrap()
+}
+
+// Whether more data follow: bit 1.
+pub fn is_more(octet: u8) -> bool
+    ensures { result ≡ bit octet 1 }
+{
+    octet & 1 == 1
+}
+
+// The address in a variable part.
+pub fn address(alloc: Global, variable: &List<Octets>, i: u8) -> Result<Address, DecodeFault>
+    requires { i + 1 ≤ length variable.now }
+    ensures { Gives (λ a. a) result (address_in variable.now i) }
+{
+    let part = &variable.as_slice()[usize::from(i)];
+    match sccp_address::read(alloc, part.as_slice()) {
+        Ok(address) => Ok(address),
+        Err(AddressFault::OutOfMemory) => Err(DecodeFault::OutOfMemory),
+        Err(fault) => Err(DecodeFault::Address(i, fault)),
+    }
+}
+
+// The data, which are the last variable part.
+pub fn data(variable: List<Octets>) -> Octets
+    requires { 0 < length variable }
+    ensures { slice_get variable (length variable - 1) ≡ Some result }
+{
+    variable.into_vec().pop().unwrap()
+}
