@@ -1,5 +1,5 @@
 -- What is made from parts has their code, addresses and parameters. So what is read is sound, and its fields keep their ranges.
-use Rattle.std.proofs.Common.{◌≡◌, ◌≢◌, ℕ, zero, suc, ◌+◌, ◌-◌, ◌<◌, ◌≤◌, Bool, true, false, cond, leb, eqb, ◌&&◌, List, [], ◌∷◌, length, take, drop, Option, Some, None, Result, Ok, Err, refl, sym, ap, subst, ◌∙◌, arith, inl, inr, ◌⊎◌}
+use Rattle.std.proofs.Common.{◌≡◌, ℕ, zero, suc, ◌+◌, ◌-◌, ◌<◌, ◌≤◌, Bool, true, false, cond, leb, eqb, ◌&&◌, List, [], ◌∷◌, length, take, drop, Option, Some, None, Result, Ok, Err, refl, sym, ap, subst, ◌∙◌, arith, inl, inr, ◌⊎◌}
 use Rattle.std.specs.Prelude.{IfOk, slice_range, slice_get, unwrap_or}
 use Rattle.std.specs.List.{AllByRecursion}
 use Rattle.std.specs.Option.{option_map_or}
@@ -20,19 +20,16 @@ use Rattle.sccp_message.specs.Fields.{octet, first_unread}
 use Rattle.sccp_message.specs.Messages.{without_address, with_called, with_both, of_code, message_of}
 use Rattle.sccp_message.specs.Reading.{part_of}
 use Rattle.sccp_message.specs.Reads.{Reads}
-use Rattle.sccp_message.specs.Written.{content, sevens, Sound, IsMessage}
+use Rattle.sccp_message.specs.Written.{content, sevens, Sound, AreSevens, AreNamed, IsMessage}
 
 -- ---- a line for each type
-
-abbrev AreSevens : Message → Type 0
-AreSevens m = AllByRecursion (λ n. n < 128) (sevens m)
 
 -- The parameters are those of the parts, or none in a type that has no optional part.
 record Made (code : ℕ) (addresses : List Address) (params : List Parameter) (m : Message) : Type 0 where
   code_is : (content m).code ≡ code
   addresses_are : (content m).addresses ≡ addresses
   params_are : ((content m).params ≡ params) ⊎ ((content m).params ≡ [])
-  sevens_fit : AreSevens m
+  sevens_fit : AreSevens (sevens m)
 
 abbrev made : Message → Option Message
 made m = Some m
@@ -191,16 +188,13 @@ octets_of b p i h has =
       | inr le ↦ subst OrNone (sym (past p.variable i (omega (arith, has.count)))) tt
     ]
 
-named_of : (l : Layout) (b : List ℕ) (params : List Parameter) → ParamsAre l b params → AllByRecursion (λ p. p.name ≢ 0) params
-named_of l b params (inl w) = subst (AllByRecursion (λ p. p.name ≢ 0)) (sym w.1) tt
+named_of : (l : Layout) (b : List ℕ) (params : List Parameter) → ParamsAre l b params → AreNamed params
+named_of l b params (inl w) = subst AreNamed (sym w.1) tt
 named_of l b params (inr w) = w.2.named
 
 -- ---- what is read keeps the ranges of its fields
 
-abbrev Named : List Parameter → Type 0
-Named params = AllByRecursion (λ p. p.name ≢ 0) params
-
-named_again : (m : Message) (params : List Parameter) → ((content m).params ≡ params) ⊎ ((content m).params ≡ []) → Named params → Named (content m).params
+named_again : (m : Message) (params : List Parameter) → ((content m).params ≡ params) ⊎ ((content m).params ≡ []) → AreNamed params → AreNamed (content m).params
 named_again m params (inl same) named = rw same named
 named_again m params (inr empty) named = rw empty tt
 
