@@ -1,0 +1,96 @@
+ghost use Rattle.std.specs.Prelude.{◌≡◌, [], ◌∷◌, ◌++◌, decimal, OnOk};
+ghost use Rattle.hex.specs.Hex.{encode_upper};
+ghost use Rattle.sccp_report.specs.Values.{numbered, octets_text};
+
+use sccp_base::{Octets, OutOfMemory};
+use std::alloc::Global;
+use std::marker::Model;
+
+/// The sixteen digits.
+pub const HEXADECIMAL: &[u8; 16] = b"0123456789ABCDEF";
+
+/// A text that is being written, as octets. After an error its end isn't specified: it is to be dropped.
+#[derive(Drop)]
+pub struct Text {
+    octets: Vec<u8>,
+}
+
+impl Model for Text {
+    ghost use Rattle.std.specs.Prelude.{ℕ, List};
+
+    ghost Value = { List ℕ };
+
+    ghost view = { λ t. t.octets.items };
+}
+
+impl Text {
+    pub fn new(alloc: Global) -> Self
+        ensures { result ≡ [] }
+    {
+        Text {
+            octets: Vec::new(alloc),
+        }
+    }
+
+    pub fn into_octets(self) -> Octets
+        ensures { result ≡ self }
+    {
+        Octets::from_vec(self.octets)
+    }
+
+    /// Appends words as they stand.
+    pub fn put(&mut self, words: &[u8]) -> Result<(), OutOfMemory>
+        ensures { OnOk result (self.new ≡ self.old ++ words.now) }
+    {
+        self.octets.extend_from_slice(words)?;
+        Ok(())
+    }
+
+    /// Appends a number in decimal.
+    pub fn put_number(&mut self, number: u32) -> Result<(), OutOfMemory>
+        ensures { OnOk result (self.new ≡ self.old ++ decimal number) }
+    {
+        self.put(itoa::Buffer::new().format(number).as_bytes())
+    }
+
+    /// Appends a name and a number behind it.
+    #[tactic(auto, unfolding(crate::specs::Values::numbered))]
+    pub fn put_numbered(&mut self, name: &[u8], number: u32) -> Result<(), OutOfMemory>
+        ensures { OnOk result (self.new ≡ self.old ++ numbered name.now number) }
+    {
+        self.put(name)?;
+        self.put_number(number)
+    }
+
+    /// Appends the two hexadecimal digits of an octet.
+    #[tactic(auto, unfolding(hex::specs::Hex::encode_with))]
+    pub fn put_octet(&mut self, octet: u8) -> Result<(), OutOfMemory>
+        ensures { OnOk result (self.new ≡ self.old ++ encode_upper (octet ∷ [])) }
+    {
+        let high = HEXADECIMAL[usize::from(octet >> 4)];
+        let low = HEXADECIMAL[usize::from(octet & 0x0F)];
+        self.put(&[high, low])
+    }
+
+    // The hexadecimal digits of all octets.
+    #[tactic(auto, using(crate::proofs::Hexadecimal::encode_upper_more))]
+    fn put_each_octet(&mut self, octets: &[u8]) -> Result<(), OutOfMemory>
+        ensures { OnOk result (self.new ≡ self.old ++ encode_upper octets.now) }
+    {
+        for octet in octets {
+            self.put_octet(*octet)?;
+        }
+        Ok(())
+    }
+
+    /// Appends octets in hexadecimal, or a dash where there is none.
+    #[tactic(auto, unfolding(crate::specs::Values::octets_text))]
+    pub fn put_octets(&mut self, octets: &[u8]) -> Result<(), OutOfMemory>
+        ensures { OnOk result (self.new ≡ self.old ++ octets_text octets.now) }
+    {
+        match octets {
+            [] => self.put(b"-"),
+            _ => self.put_each_octet(octets),
+        }
+    }
+}

@@ -1,0 +1,16 @@
+use Rattle.std.proofs.Common.{arith}
+use Rattle.sccp_tool.proofs.ReadingLemmas.{more_read}
+use Rattle.sccp_tool.proofs.reading.read_whole.Goals as goal
+
+pub returns : goal.returns
+returns g c =
+    let p = c.loop-piece.invariant in
+    record {
+      gives = more_read _ c.loop-piece.octets.items _ _ c.args.limit p.present p.split (omega (arith, c.loop-piece.octets.ok.0));
+      same = p.same;
+      soundness = p.soundness;
+      later = p.later;
+      failed = λ e. cc;
+      spared = λ h _. p.spared h;
+      no_writing = λ e. cc;
+    }

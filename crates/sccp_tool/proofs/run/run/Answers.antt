@@ -1,0 +1,28 @@
+use Rattle.std.proofs.Common.{refl, Option}
+use Rattle.sccp_tool.specs.Commands.{Task, task_of, texts}
+use Rattle.sccp_tool.specs.Ending.{Outcome}
+use Rattle.sccp_tool.specs.Moment.{Moment, moment}
+use Rattle.sccp_tool.specs.Run.{work_of}
+use Rattle.sccp_tool.proofs.CauseLemmas.{done_cause, usage_cause, bad_line_cause, long_cause, read_cause, write_cause, sound_cause, built}
+use Rattle.sccp_tool.proofs.WorkLemmas.{Outcome-closed}
+use Rattle.sccp_tool.proofs.run.run.Goals as goal
+
+pub returns : goal.returns
+returns g c =
+    let task : Option Task = task_of (texts c.args.words.now) in
+    let b : Moment = moment g.F.Files.contents g.F.Files.sound g.F.Files.faults g.K.Sink.taken g.K.Sink.faults c.args.files.now c.args.out.now in
+    let a : Moment = moment g.F.Files.contents g.F.Files.sound g.F.Files.faults g.K.Sink.taken g.K.Sink.faults c.carry_out-worked.new.files c.close.new.out in
+    let m : Moment = moment g.F.Files.contents g.F.Files.sound g.F.Files.faults g.K.Sink.taken g.K.Sink.faults c.carry_out-worked.new.files c.carry_out-worked.new.out in
+    let o : Outcome (work_of task) c.close.result b a =
+    Outcome-closed (work_of task) c.carry_out-worked.result c.close.result b m a c.carry_out-worked.ensures c.close.ensures refl refl refl in
+    record {
+      outcome = o;
+      done = done_cause task c.close.result b a o;
+      usage = usage_cause task c.close.result b a o;
+      bad_trace = bad_line_cause task c.close.result b a o;
+      too_long = long_cause task c.close.result b a o;
+      read_fault = read_cause task c.close.result b a o;
+      write_fault = write_cause task c.close.result b a o;
+      sound = sound_cause task c.close.result b a o;
+      built = built task c.close.result b a o;
+    }

@@ -1,0 +1,16 @@
+pub mod Commands
+pub mod Ending
+pub mod HexWord
+pub mod Limit
+pub mod LineFault
+pub mod Lines
+pub mod Moment
+pub mod Parsed
+pub mod Reading
+pub mod Run
+pub mod Show
+pub mod Shown
+pub mod Status
+pub mod Texts
+pub mod Work
+pub mod Writing

@@ -1,0 +1,11 @@
+-- What the code makes of the words, seen as a task.
+use Rattle.std.specs.Prelude.{Option, Some, None}
+use Rattle.sccp_tool.specs.Commands.{Task}
+use Rattle.sccp_tool.specs.Commands as spec
+use Rattle.sccp_tool.specs.declared.command.Command.{Command}
+use Rattle.sccp_tool.specs.declared.command.Command.TheVariants.{ShowHex, Show}
+
+abbrev pub task_in : Option Command → Option Task
+task_in None = None
+task_in (Some (ShowHex octets)) = Some (spec.ShowHex octets.items)
+task_in (Some (Show name)) = Some (spec.Show name.now)

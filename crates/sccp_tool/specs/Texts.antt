@@ -1,0 +1,11 @@
+-- The lines that the program prints of its own.
+use Rattle.std.specs.Prelude.{ℕ, List, codes}
+
+unfoldable pub usage : List ℕ
+usage = codes "usage: show-hex HEX | show FILE\n"
+
+unfoldable pub too_long : List ℕ
+too_long = codes "too long\n"
+
+unfoldable pub read_fault : List ℕ
+read_fault = codes "read fault\n"

@@ -1,0 +1,45 @@
+-- What a call has to do, in the order in which it does it, and how far it can come.
+use Rattle.std.specs.Prelude.{◌≡◌, ◌⊎◌, ℕ, List, [], ◌++◌, Option, Some}
+use Rattle.std.specs.Io.{StartsWith}
+use Rattle.sccp_io.specs.Files.{Contents, Reads}
+use Rattle.sccp_tool.specs.declared.status.Status.{Status}
+
+-- the work that is left
+pub data Work : Type 0 where
+  -- nothing is left, and this is the answer
+  finish : Status → Work
+  -- this text is written
+  print : List ℕ → Work → Work
+  -- the file of this name is read, and what follows depends on its octets
+  read : List ℕ → (List ℕ → Work) → Work
+
+-- the whole work of an answer and its text
+abbrev pub answered : Status × List ℕ → Work
+answered a = print a.1 (finish a.0)
+
+-- all is done: the work ends with this answer, and this is all that it writes
+abbrev pub Ends : Option Contents → Work → Status → List ℕ → Type 0
+Ends contents (finish s) status text = (status ≡ s) × (text ≡ [])
+Ends contents (print t w) status text = (rest : List ℕ) × (text ≡ t ++ rest) × Ends contents w status rest
+Ends contents (read name f) status text = (octets : List ℕ) × Reads contents name octets × Ends contents (f octets) status text
+
+-- the work comes to the reading of a file, and this is all that it writes before it
+abbrev pub ComesToReading : Option Contents → Work → List ℕ → Type 0
+ComesToReading contents (finish s) text = ⊥
+ComesToReading contents (print t w) text = (rest : List ℕ) × (text ≡ t ++ rest) × ComesToReading contents w rest
+ComesToReading contents (read name f) text =
+    (text ≡ []) ⊎ ((octets : List ℕ) × Reads contents name octets × ComesToReading contents (f octets) text)
+
+-- what the work writes begins with this text
+abbrev pub BeginsWith : Option Contents → Work → List ℕ → Type 0
+BeginsWith contents (finish s) text = text ≡ []
+BeginsWith contents (print t w) text =
+    StartsWith t text ⊎ ((rest : List ℕ) × (text ≡ t ++ rest) × BeginsWith contents w rest)
+BeginsWith contents (read name f) text =
+    (text ≡ []) ⊎ ((octets : List ℕ) × Reads contents name octets × BeginsWith contents (f octets) text)
+
+-- each file that the work comes to is there
+abbrev pub HasFiles : Contents → Work → Type 0
+HasFiles c (finish s) = Unit {0}
+HasFiles c (print t w) = HasFiles c w
+HasFiles c (read name f) = (octets : List ℕ) × (c name ≡ Some octets) × HasFiles c (f octets)

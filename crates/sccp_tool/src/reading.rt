@@ -1,0 +1,56 @@
+//! Reading a whole file within a limit.
+ghost use Rattle.std.specs.Prelude.{◌≡◌, ◌<◌, ◌^◌};
+ghost use Rattle.sccp_tool.specs.Reading.{ReadsFile, reading_stop};
+
+use crate::stop::Stop;
+use sccp_io::{Files, IoFault};
+use std::alloc::Global;
+
+/// How many octets are taken at a time.
+const PIECE: usize = 4096;
+
+/// A file that was read within a limit.
+#[derive(Drop)]
+pub enum Reading {
+    Whole(Vec<u8>),
+    TooLong,
+}
+
+/// Reads a whole file, or finds that it has more octets than the limit.
+pub fn read_whole<F: Files>(
+    alloc: Global,
+    files: &mut F,
+    name: &str,
+    limit: usize,
+) -> Result<Reading, Stop>
+    requires { limit < 2 ^ 32 }
+    ensures { ReadsFile name.now limit result (F.contents files.old) (F.contents files.new) (F.sound files.old) (F.sound files.new)
+        (F.faults files.old) (F.faults files.new) }
+{
+    if let Err(fault) = files.begin(name) {
+        return Err(stopped(fault));
+    }
+    let mut octets = Vec::new(alloc);
+    let mut piece = [0u8; PIECE];
+    while octets.len() <= limit {
+        let count = match files.take(&mut piece) {
+            Ok(count) => count,
+            Err(fault) => return Err(stopped(fault)),
+        };
+        if count == 0 {
+            return Ok(Reading::Whole(octets));
+        }
+        octets.extend_from_slice(&piece[..count])?;
+    }
+    Ok(Reading::TooLong)
+}
+
+/// How a fault of the files stops the work.
+fn stopped(fault: IoFault) -> Stop
+    ensures { result ≡ reading_stop fault }
+{
+    match fault {
+        IoFault::Failed => Stop::Read,
+        IoFault::OutOfMemory => Stop::Memory,
+    }
+}

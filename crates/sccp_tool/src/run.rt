@@ -1,0 +1,122 @@
+//! The whole program but for its edge.
+ghost use Rattle.std.specs.Prelude.{◌≡◌, ◌≢◌, ◌<◌, ◌-◌, ◌^◌, IsTrue, IfSome, None, Err};
+ghost use Rattle.sccp_io.specs.Faults.{Rose};
+ghost use Rattle.sccp_tool.specs.Commands.{task_of, texts};
+ghost use Rattle.sccp_tool.specs.Ending.{Works, Outcome, Closes, answer_of};
+ghost use Rattle.sccp_tool.specs.Moment.{moment};
+ghost use Rattle.sccp_tool.specs.Run.{work_of, show_work, ExactlyWhere, CanBeDone, HasBadLine, HasLongFile, IsBuilt};
+ghost use Rattle.sccp_tool.specs.Work.{HasFiles};
+
+use crate::command::{Command, parse};
+use crate::limit::{Given, within_limit};
+use crate::show::show_answer;
+use crate::status::Status;
+use crate::stop::Stop;
+use crate::writing::print_last;
+use sccp_io::{Files, Sink};
+use sccp_report::message_text;
+use std::alloc::Global;
+
+const USAGE: &[u8] = b"usage: show-hex HEX | show FILE\n";
+
+const READ_FAULT: &[u8] = b"read fault\n";
+
+/// Does what the words ask for, and answers how it ended.
+pub fn run<F: Files, K: Sink>(alloc: Global, words: &[String], files: &mut F, out: &mut K) -> Status
+    // The answer, what the sink took, and what became of the files.
+    ensures outcome { Outcome (work_of (task_of (texts words.now))) result
+        (moment F.contents F.sound F.faults K.taken K.faults files.old out.old)
+        (moment F.contents F.sound F.faults K.taken K.faults files.new out.new) }
+
+    // The cause of each answer.
+    ensures done { IfSome (F.contents files.old)
+        (λ c. ExactlyWhere Status.Done result (CanBeDone c (task_of (texts words.now)))) }
+    ensures usage { ExactlyWhere Status.Usage result (task_of (texts words.now) ≡ None) }
+    ensures bad_trace { IfSome (F.contents files.old)
+        (λ c. ExactlyWhere Status.BadTrace result (HasBadLine c (task_of (texts words.now)))) }
+    ensures too_long { IfSome (F.contents files.old)
+        (λ c. ExactlyWhere Status.TooLong result (HasLongFile c (task_of (texts words.now)))) }
+    ensures read_fault { result ≡ Status.ReadFault → Rose (F.faults files.old) (F.faults files.new) }
+    ensures write_fault { result ≡ Status.WriteFault → Rose (K.faults out.old) (K.faults out.new) }
+    // Sound files that have each file which the work comes to don't fail.
+    ensures sound { IsTrue (F.sound files.old) → IfSome (F.contents files.old) (λ c. HasFiles c (work_of (task_of (texts words.now)))
+        → (F.faults files.new ≡ F.faults files.old) × (F.faults files.old < 2 ^ 64 - 1 → result ≢ Status.ReadFault)) }
+    ensures built { IsBuilt result }
+{
+    let worked = carry_out(alloc, words, files, out);
+    close(worked, out)
+}
+
+/// Does the work of the words.
+fn carry_out<F: Files, K: Sink>(
+    alloc: Global,
+    words: &[String],
+    files: &mut F,
+    out: &mut K,
+) -> Result<Status, Stop>
+    ensures { Works (work_of (task_of (texts words.now))) result
+        (moment F.contents F.sound F.faults K.taken K.faults files.old out.old)
+        (moment F.contents F.sound F.faults K.taken K.faults files.new out.new) }
+{
+    match parse(alloc, words)? {
+        Some(Command::ShowHex(octets)) => {
+            let text = message_text(alloc, &octets)?;
+            print_last(out, text.as_slice(), Status::Done)
+        }
+        Some(Command::Show(name)) => show(alloc, name, files, out),
+        None => print_last(out, USAGE, Status::Usage),
+    }
+}
+
+/// Shows the messages of a file.
+fn show<F: Files, K: Sink>(
+    alloc: Global,
+    name: &str,
+    files: &mut F,
+    out: &mut K,
+) -> Result<Status, Stop>
+    ensures { Works (show_work name.now) result
+        (moment F.contents F.sound F.faults K.taken K.faults files.old out.old)
+        (moment F.contents F.sound F.faults K.taken K.faults files.new out.new) }
+{
+    match within_limit(alloc, name, files, out)? {
+        Given::Octets(octets) => {
+            let (status, text) = show_answer(alloc, &octets)?;
+            print_last(out, &text, status)
+        }
+        Given::Answered(status) => Ok(status),
+    }
+}
+
+/// The answer of the call.
+fn close<K: Sink>(worked: Result<Status, Stop>, out: &mut K) -> Status
+    ensures { Closes worked result (K.taken out.old) (K.taken out.new) (K.faults out.old) (K.faults out.new) }
+{
+    match worked {
+        Ok(status) => status,
+        Err(stop) => tell(stop, out),
+    }
+}
+
+/// The answer where the work was stopped. A fault of the files is told by a line of its own.
+fn tell<K: Sink>(stop: Stop, out: &mut K) -> Status
+    ensures { Closes (Err stop) result (K.taken out.old) (K.taken out.new) (K.faults out.old) (K.faults out.new) }
+{
+    match stop {
+        Stop::Read => answer_of(print_last(out, READ_FAULT, Status::ReadFault)),
+        Stop::Write => Status::WriteFault,
+        Stop::Memory => Status::NoMemory,
+    }
+}
+
+/// The answer that a result stands for.
+fn answer_of(worked: Result<Status, Stop>) -> Status
+    ensures { result ≡ answer_of worked }
+{
+    match worked {
+        Ok(status) => status,
+        Err(Stop::Read) => Status::ReadFault,
+        Err(Stop::Write) => Status::WriteFault,
+        Err(Stop::Memory) => Status::NoMemory,
+    }
+}
