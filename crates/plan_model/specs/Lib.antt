@@ -1,0 +1,11 @@
+pub mod Network
+pub mod Keys
+pub mod Faults
+pub mod Next
+pub mod RowFor
+pub mod Targets
+pub mod Steps
+pub mod Named
+pub mod Routes
+pub mod Covered
+pub mod Verdicts

@@ -1,0 +1,51 @@
+ghost use Rattle.std.specs.Prelude.{IsTrue, ◌↔◌, Contains};
+
+use crate::spot::Spot;
+use sccp_base::{Digits, List, PointCode, Selector};
+
+/// Titles that a plan is to bring to allowed places: those at a node under a selector and a subsystem number, whose decimal
+/// digits begin with the prefix and number from `least` to `most`.
+#[derive(Drop)]
+pub struct Cover {
+    pub node: u8,
+    pub selector: Selector,
+    pub ssn: u8,
+    pub prefix: Digits,
+    pub least: u8,
+    pub most: u8,
+    /// Point codes, each with a subsystem number.
+    pub allowed: List<(PointCode, u8)>,
+}
+
+impl Cover {
+    ghost use Rattle.plan_model.specs.Covered.{Covers};
+    ghost use Rattle.plan_model.specs.Faults.{HasFewDigits};
+
+    /// Whether the cover allows a place.
+    pub fn allows(&self, pc: PointCode, ssn: u8) -> bool
+        ensures { IsTrue result ↔ Contains self.now.allowed (pc, ssn) }
+    {
+        self.allowed.as_slice().contains(&(pc, ssn))
+    }
+
+    /// Whether the spot is one of the cover's.
+    pub fn has(&self, spot: &Spot) -> bool
+        ensures { IsTrue result ↔ Covers self.now spot.now }
+    {
+        let count = spot.digits.len();
+        self.node == spot.node
+            && self.selector == spot.selector
+            && self.ssn == spot.ssn
+            && spot.digits.is_decimal()
+            && spot.digits.starts_with(&self.prefix)
+            && usize::from(self.least) <= count
+            && count <= usize::from(self.most)
+    }
+
+    /// Whether its least and most are at most 32.
+    pub fn has_few_digits(&self) -> bool
+        ensures { IsTrue result ↔ HasFewDigits self.now }
+    {
+        self.least <= 32 && self.most <= 32
+    }
+}

@@ -1,0 +1,124 @@
+ghost use Rattle.std.specs.Prelude.{◌≡◌, ◌<◌, IsTrue, ◌↔◌, OnOk, IfOk, IfErr, length, All, Option};
+ghost use Rattle.std.specs.List.{position, Any};
+ghost use Rattle.plan_model.specs.Covered.{Covered, Covers};
+
+use crate::cover::Cover;
+use crate::faults::{are_sound, first_fault, have_few_digits, place_of_name, place_of_point};
+use crate::node::Node;
+use crate::plan_fault::PlanFault;
+use crate::spot::Spot;
+use sccp_base::{List, Name, PointCode};
+use std::marker::Model;
+
+/// The relays of a network and what is covered.
+#[derive(Drop)]
+pub struct Plan {
+    nodes: List<Node>,
+    covers: List<Cover>,
+}
+
+impl Model for Plan {
+    ghost use Rattle.plan_model.specs.Network.{Network, IsPlan, network};
+
+    ghost Value = { Network };
+
+    ghost view = { λ p. network p.nodes p.covers };
+
+    ghost invariant = { λ p. IsPlan (network p.nodes p.covers) };
+}
+
+impl Plan {
+    ghost use Rattle.plan_model.specs.Network.{IsPlan, IsNode, network, has_name, has_point, node_of};
+    ghost use Rattle.plan_model.specs.Faults.{plan_fault, HasFewDigits};
+
+    /// Whether `build` takes the nodes and covers: each node's subsystems, and those that its targets name, lie from 2 to 255,
+    /// neither they nor its concerned points repeat, and each cover's least and most are at most 32.
+    pub fn can_build(nodes: &List<Node>, covers: &List<Cover>) -> bool
+        ensures { IsTrue result ↔ ((All IsNode nodes.now) × (All HasFewDigits covers.now)) }
+    {
+        if !are_sound(nodes.as_slice()) {
+            return false;
+        }
+        have_few_digits(covers.as_slice())
+    }
+
+    /// A plan of these nodes and covers, or the first test that they fail: `Limit`, `Repeated`, `UnknownNode`,
+    /// `RelayToSelf`, `NoCover`, `BadCover`. Each test goes over all of them before the next begins. It takes no memory.
+    pub fn build(nodes: List<Node>, covers: List<Cover>) -> Result<Plan, PlanFault>
+        requires nodes { All IsNode nodes }
+        requires covers { All HasFewDigits covers }
+        ensures plan { IfOk result (λ plan. plan ≡ network nodes covers) }
+        ensures sound { OnOk result (IsPlan (network nodes covers)) }
+        ensures faultless { OnOk result (plan_fault nodes covers ≡ None) }
+        ensures fault { IfErr result (λ fault. plan_fault nodes covers ≡ Some fault) }
+    {
+        match first_fault(nodes.as_slice(), covers.as_slice()) {
+            Some(fault) => Err(fault),
+            None => Ok(Plan { nodes, covers }),
+        }
+    }
+
+    /// The nodes in their order.
+    pub fn nodes(&self) -> &List<Node>
+        ensures value { result.now ≡ self.now.nodes }
+        ensures sound { IsPlan self.now }
+    {
+        &self.nodes
+    }
+
+    /// The covers in their order.
+    pub fn covers(&self) -> &List<Cover>
+        ensures value { result.now ≡ self.now.covers }
+        ensures sound { IsPlan self.now }
+    {
+        &self.covers
+    }
+
+    /// The place of the node with this point code.
+    pub fn node_at(&self, pc: PointCode) -> Option<u8>
+        ensures { result ≡ position (has_point pc) self.now.nodes }
+    {
+        let place = place_of_point(self.nodes.as_slice(), pc)?;
+        Some(place as u8)
+    }
+
+    /// The place of the node with this name.
+    pub fn node_named(&self, name: &Name) -> Option<u8>
+        ensures { result ≡ position (has_name name.now) self.now.nodes }
+    {
+        let place = place_of_name(self.nodes.as_slice(), name)?;
+        Some(place as u8)
+    }
+
+    /// The place of the node with a point code that some node has.
+    pub fn relay_at(&self, pc: PointCode) -> u8
+        requires { node_of self.now.nodes pc < length self.now.nodes }
+        ensures { result ≡ node_of self.now.nodes pc }
+    {
+        match self.node_at(pc) {
+            Some(node) => node,
+            None => unreachable!(),
+        }
+    }
+
+    /// Whether some cover has the spot.
+    pub fn covered(&self, spot: &Spot) -> bool
+        ensures { IsTrue result ↔ Covered self.now spot.now }
+    {
+        any_covers(self.covers.as_slice(), spot)
+    }
+}
+
+/// Whether some cover of the plan has the spot: its node, selector and subsystem number are the spot's, and the spot's
+/// digits are decimal, begin with the cover's prefix and number from its least to its most.
+pub fn covered(plan: &Plan, spot: &Spot) -> bool
+    ensures { IsTrue result ↔ Covered plan.now spot.now }
+{
+    plan.covered(spot)
+}
+
+fn any_covers(covers: &[Cover], spot: &Spot) -> bool
+    ensures { IsTrue result ↔ Any (λ cover. Covers cover spot.now) covers.now }
+{
+    covers.iter().any(|cover| cover.has(spot))
+}

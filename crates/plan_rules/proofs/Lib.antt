@@ -1,0 +1,6 @@
+pub mod Counting
+pub mod Distinct
+pub mod FirstOf
+pub mod NewKinds
+pub mod Longest
+pub mod Places

@@ -1,0 +1,5 @@
+pub mod FirstOf
+pub mod Target
+pub mod Rule
+pub mod Rows
+pub mod Tables
