@@ -214,7 +214,7 @@ fn with_cause(
     };
     let text = match code {
         0x0A => format!(in alloc;
-            "UDTS\n{line}\ncalled route ssn point - ssn 6 title - digits -\ncalling route ssn point - ssn 8 title - digits -\ndata -\n"
+            "UDTS\n{line}\ncalled route ssn point - ssn 6 title - digits -\ncalling route ssn point - ssn 8 title - digits -\ndata -\ncanonical yes\n"
         )?,
         0x03 => format!(in alloc; "CREF\ndestination 1\n{line}\ncanonical yes\n")?,
         _ => format!(in alloc; "ERR\ndestination 1\n{line}\ncanonical yes\n")?,
