@@ -1,9 +1,10 @@
 // What no clause says: that the clauses mean the translation of the standard, and that calls with memory succeed.
-use crate::{Counted, Cover, Key, Node, Place, Plan, PlanFault, Spot, Step, covered, route, step};
+use crate::{
+    Counted, Cover, Hop, Key, Node, Place, Plan, PlanFault, Spot, Step, covered, route, step,
+};
 use plan_rules::{Row, Table, Target};
 use sccp_base::{Digits, List, Mark, Marking, Name, PointCode, Selector};
 use std::alloc::Global;
-use std::process::Abort;
 use std::test::Fail;
 
 /// A selector of kind 4, translation type 0, numbering plan 1 and this nature of address.
@@ -79,16 +80,50 @@ fn cover(
     })
 }
 
-fn build(rt: &impl Abort, nodes: List<Node>, covers: List<Cover>) -> Result<Plan, PlanFault> {
-    assert!(rt; Plan::can_build(&nodes, &covers));
-    Plan::build(nodes, covers)
+/// The plan of nodes and covers, or the fault; `NotToml`, which `Plan::build` never answers, where it may not be called.
+fn build(nodes: List<Node>, covers: List<Cover>) -> Result<Plan, PlanFault> {
+    if Plan::can_build(&nodes, &covers) {
+        Plan::build(nodes, covers)
+    } else {
+        Err(PlanFault::NotToml)
+    }
 }
 
-/// A plan of these nodes with one cover of 1 to 15 digits.
-fn plan_of(rt: &impl Abort, alloc: Global, nodes: List<Node>) -> Result<Plan, Fail> {
+/// A plan of these nodes with one cover of kind 4 and nature 4, this prefix and these lengths.
+fn plan_of(
+    alloc: Global,
+    nodes: List<Node>,
+    prefix: &[u8],
+    least: u8,
+    most: u8,
+) -> Result<Plan, Fail> {
     let mut covers = List::new(alloc);
-    covers.push(cover(alloc, kind_four(4)?, b"", 1, 15)?)?;
-    Ok(build(rt, nodes, covers)?)
+    covers.push(cover(alloc, kind_four(4)?, prefix, least, most)?)?;
+    Ok(build(nodes, covers)?)
+}
+
+/// A plan of one node, 1-0-2, with these rows, and of one cover of 1 to 15 digits.
+fn one_relay(alloc: Global, rows: &[Row]) -> Result<Plan, Fail> {
+    let mut nodes = List::new(alloc);
+    nodes.push(node(alloc, b"a", b"1-0-2", rows)?)?;
+    plan_of(alloc, nodes, b"", 1, 15)
+}
+
+/// A plan of two nodes, 1-0-2 and 1-0-3, with one row each, and of one cover of 1 to 15 digits.
+fn two_relays(alloc: Global, at_a: Row, at_b: Row) -> Result<Plan, Fail> {
+    let mut nodes = List::new(alloc);
+    nodes.push(node(alloc, b"a", b"1-0-2", &[at_a])?)?;
+    nodes.push(node(alloc, b"b", b"1-0-3", &[at_b])?)?;
+    plan_of(alloc, nodes, b"", 1, 15)
+}
+
+/// A plan of three nodes, 1-0-2, 1-0-3 and 1-0-4, and of one cover of 1 to 15 digits.
+fn three_relays(alloc: Global, at_a: Row, at_b: Row, at_c: &[Row]) -> Result<Plan, Fail> {
+    let mut nodes = List::new(alloc);
+    nodes.push(node(alloc, b"a", b"1-0-2", &[at_a])?)?;
+    nodes.push(node(alloc, b"b", b"1-0-3", &[at_b])?)?;
+    nodes.push(node(alloc, b"c", b"1-0-4", at_c)?)?;
+    plan_of(alloc, nodes, b"", 1, 15)
 }
 
 fn spot(node: u8, selector: Selector, digits: &[u8]) -> Result<Spot, Fail> {
@@ -98,6 +133,31 @@ fn spot(node: u8, selector: Selector, digits: &[u8]) -> Result<Spot, Fail> {
         ssn: 6,
         digits: Digits::parse(digits)?,
     })
+}
+
+/// The step of a spot at one of the plan's nodes.
+fn step_at(alloc: Global, plan: &Plan, at: &Spot, marking: &Marking) -> Result<Step, Fail> {
+    if usize::from(at.node) < plan.nodes().as_slice().len() {
+        Ok(step(alloc, plan, at, marking)?)
+    } else {
+        Err("no such node")?
+    }
+}
+
+/// The route of a spot at one of the plan's nodes, each node with its marking.
+fn hops_of(alloc: Global, plan: &Plan, at: Spot, markings: &[Marking]) -> Result<List<Hop>, Fail> {
+    if usize::from(at.node) < plan.nodes().as_slice().len() {
+        Ok(route(alloc, plan, at, markings)?)
+    } else {
+        Err("no such node")?
+    }
+}
+
+/// A marking with this point code prohibited.
+fn shut(alloc: Global, pc: PointCode) -> Result<Marking, Fail> {
+    let mut marking = Marking::new(alloc);
+    marking.prohibit(Mark::PointCode(pc))?;
+    Ok(marking)
 }
 
 /// Where the step ends, and by which target.
@@ -117,41 +177,39 @@ fn no_row(step: &Step) -> Option<u8> {
 }
 
 #[test]
-fn plans_of_one_relay(rt: HostRuntime) -> Result<(), Fail> {
+fn a_backup_is_taken(rt: HostRuntime) -> Result<(), Fail> {
+    let alloc = rt.alloc();
+    let (near, far) = (point(b"2-0-1")?, point(b"2-0-2")?);
+    let rows = [row(kind_four(4)?, b"49", to(b"2-0-1")?, Some(to(b"2-0-2")?))?];
+    let plan = one_relay(alloc, &rows)?;
+    let title = spot(0, kind_four(4)?, b"490")?;
+    let free = step_at(alloc, &plan, &title, &Marking::new(alloc))?;
+    assert_eq!(rt; ended(&free), Some((near, 6, 0)));
+    let barred = step_at(alloc, &plan, &title, &shut(alloc, near)?)?;
+    assert_eq!(rt; ended(&barred), Some((far, 6, 1)));
+    Ok(())
+}
+
+#[test]
+fn covers_have_titles(rt: HostRuntime) -> Result<(), Fail> {
     let alloc = rt.alloc();
     let x = kind_four(4)?;
-    let (near, far) = (point(b"2-0-1")?, point(b"2-0-2")?);
-    let backup = to(b"2-0-2")?;
-    let mut shut = Marking::new(alloc);
-    shut.prohibit(Mark::PointCode(near))?;
-    let table: [(
-        &[u8],
-        Option<Target>,
-        &[u8],
-        u8,
-        u8,
-        Option<(PointCode, u8, u8)>,
-    ); 3] = [
-        (b"49", None, b"49", 12, 12, None),
-        (b"49", Some(backup), b"49", 12, 12, Some((far, 6, 1))),
-        (b"", None, b"", 1, 15, None),
+    let mut nodes = List::new(alloc);
+    nodes.push(node(alloc, b"a", b"1-0-2", &[])?)?;
+    let plan = plan_of(alloc, nodes, b"49", 3, 4)?;
+    let table: [(u8, Selector, &[u8], bool); 8] = [
+        (0, x, b"490", true),
+        (0, x, b"4900", true),
+        (0, x, b"49", false),
+        (0, x, b"49000", false),
+        (0, x, b"480", false),
+        (0, x, b"49A", false),
+        (1, x, b"490", false),
+        (0, kind_four(3)?, b"490", false),
     ];
-    for (prefix, backup, begin, least, most, want) in table {
-        let mut nodes = List::new(alloc);
-        let only = row(x, prefix, to(b"2-0-1")?, backup)?;
-        nodes.push(node(alloc, b"a", b"1-0-2", &[only])?)?;
-        let mut covers = List::new(alloc);
-        let mut one = cover(alloc, x, begin, least, most)?;
-        one.allowed.push((far, 6))?;
-        covers.push(one)?;
-        let plan = build(&rt, nodes, covers)?;
-        assert_eq!(rt; plan.nodes().as_slice().len(), 1);
-        let title = spot(0, x, b"490000000000")?;
-        assert!(rt; covered(&plan, &title));
-        let free = step(alloc, &plan, &title, &Marking::new(alloc))?;
-        assert_eq!(rt; ended(&free), Some((near, 6, 0)));
-        let barred = step(alloc, &plan, &title, &shut)?;
-        assert_eq!(rt; ended(&barred), want);
+    for (node, selector, digits, want) in table {
+        let title = spot(node, selector, digits)?;
+        assert_eq!(rt; covered(&plan, &title), want, "{digits:?}");
     }
     Ok(())
 }
@@ -160,36 +218,35 @@ fn plans_of_one_relay(rt: HostRuntime) -> Result<(), Fail> {
 fn a_title_is_rewritten_on_its_way(rt: HostRuntime) -> Result<(), Fail> {
     let alloc = rt.alloc();
     let (x, y) = (kind_four(4)?, kind_four(3)?);
-    let mut nodes = List::new(alloc);
     let onward = row(x, b"49", relay(b"1-0-3", 2, b"0", Some(y))?, None)?;
-    nodes.push(node(alloc, b"a", b"1-0-2", &[onward])?)?;
-    nodes.push(node(alloc, b"b", b"1-0-3", &[row(y, b"0", to(b"2-0-1")?, None)?])?)?;
-    let mut covers = List::new(alloc);
-    covers.push(cover(alloc, x, b"49", 12, 12)?)?;
-    let plan = build(&rt, nodes, covers)?;
-    assert_eq!(rt; plan.node_at(point(b"1-0-3")?), Some(1));
-    assert_eq!(rt; plan.node_named(&Name::parse(b"c").ok_or("a name")?), None);
-    assert_eq!(rt; plan.covers().as_slice().len(), 1);
+    let plan = two_relays(alloc, onward, row(y, b"0", to(b"2-0-1")?, None)?)?;
     let first = spot(0, x, b"491710000012")?;
-    assert!(rt; covered(&plan, &first));
-    assert!(rt; !covered(&plan, &spot(0, x, b"49171000001")?));
     let markings = [
         Marking::new(alloc),
         Marking::new(alloc),
         Marking::new(alloc),
     ];
-    assert_eq!(rt; plan.nodes().as_slice().len(), 2);
-    let hops = route(alloc, &plan, first, &markings)?;
+    let hops = hops_of(alloc, &plan, first, &markings)?;
     let hops = hops.as_slice();
     assert_eq!(rt; hops.len(), 2);
     assert_eq!(rt; hops[0].spot, first);
     assert_eq!(rt; hops[0].step.next(), Some(hops[1].spot));
     assert_eq!(rt; hops[1].spot, spot(1, y, b"01710000012")?);
     assert_eq!(rt; ended(&hops[1].step), Some((point(b"2-0-1")?, 6, 0)));
-    for (title, cause) in [(spot(0, x, b"47")?, 1), (spot(0, y, b"47")?, 0)] {
-        assert_eq!(rt; usize::from(title.node), 0);
-        let step = step(alloc, &plan, &title, &markings[0])?;
-        assert_eq!(rt; no_row(&step), Some(cause));
+    Ok(())
+}
+
+#[test]
+fn some_titles_have_no_way(rt: HostRuntime) -> Result<(), Fail> {
+    let alloc = rt.alloc();
+    let (x, y) = (kind_four(4)?, kind_four(3)?);
+    let rows = [row(x, b"49", to(b"1-0-2")?, None)?];
+    let plan = one_relay(alloc, &rows)?;
+    let table: [(Selector, &[u8], u8); 3] = [(y, b"47", 0), (x, b"47", 1), (x, b"49", 4)];
+    for (selector, digits, cause) in table {
+        let title = spot(0, selector, digits)?;
+        let step = step_at(alloc, &plan, &title, &Marking::new(alloc))?;
+        assert_eq!(rt; no_row(&step), Some(cause), "{digits:?}");
     }
     Ok(())
 }
@@ -197,28 +254,15 @@ fn a_title_is_rewritten_on_its_way(rt: HostRuntime) -> Result<(), Fail> {
 #[test]
 fn prohibited_marks_close_targets(rt: HostRuntime) -> Result<(), Fail> {
     let alloc = rt.alloc();
-    let x = kind_four(4)?;
     let (near, far) = (point(b"2-0-1")?, point(b"2-0-2")?);
-    let own = row(x, b"7", to(b"1-0-2")?, None)?;
-    let two = row(x, b"49", to(b"2-0-1")?, Some(to(b"2-0-2")?))?;
-    let mut nodes = List::new(alloc);
-    nodes.push(node(alloc, b"a", b"1-0-2", &[two, own])?)?;
-    let plan = plan_of(&rt, alloc, nodes)?;
-    assert_eq!(rt; plan.nodes().as_slice().len(), 1);
-    let title = spot(0, x, b"490")?;
+    let rows = [row(kind_four(4)?, b"49", to(b"2-0-1")?, Some(to(b"2-0-2")?))?];
+    let plan = one_relay(alloc, &rows)?;
     let mut marking = Marking::new(alloc);
-    assert_eq!(rt;
-        ended(&step(alloc, &plan, &title, &marking)?),
-        Some((near, 6, 0))
-    );
     marking.prohibit(Mark::Subsystem(near, 6))?;
     marking.prohibit(Mark::Sccp(near))?;
-    assert_eq!(rt;
-        ended(&step(alloc, &plan, &title, &marking)?),
-        Some((far, 6, 1))
-    );
     marking.prohibit(Mark::Subsystem(far, 6))?;
-    match step(alloc, &plan, &title, &marking)? {
+    let title = spot(0, kind_four(4)?, b"490")?;
+    match step_at(alloc, &plan, &title, &marking)? {
         Step::Blocked { cause, marks } => {
             let want = [Mark::Sccp(near), Mark::Subsystem(far, 6)];
             assert_eq!(rt; marks.as_slice(), want.as_slice());
@@ -226,10 +270,6 @@ fn prohibited_marks_close_targets(rt: HostRuntime) -> Result<(), Fail> {
         }
         _ => return Err("both targets are closed")?,
     }
-    assert_eq!(rt;
-        no_row(&step(alloc, &plan, &spot(0, x, b"7")?, &marking)?),
-        Some(4)
-    );
     Ok(())
 }
 
@@ -238,84 +278,114 @@ fn two_relays_back_each_other(rt: HostRuntime) -> Result<(), Fail> {
     let alloc = rt.alloc();
     let x = kind_four(4)?;
     // Each of two relays has the other as its backup: under a prohibited destination the title goes back and forth.
-    let mut nodes = List::new(alloc);
     let back = row(x, b"", to(b"2-0-1")?, Some(relay(b"1-0-3", 0, b"", None)?))?;
     let forth = row(x, b"", to(b"2-0-1")?, Some(relay(b"1-0-2", 0, b"", None)?))?;
-    nodes.push(node(alloc, b"a", b"1-0-2", &[back])?)?;
-    nodes.push(node(alloc, b"b", b"1-0-3", &[forth])?)?;
-    let plan = plan_of(&rt, alloc, nodes)?;
-    let mut shut = Marking::new(alloc);
-    shut.prohibit(Mark::PointCode(point(b"2-0-1")?))?;
-    let markings = [shut.try_clone(alloc)?, shut];
-    assert_eq!(rt; plan.nodes().as_slice().len(), 2);
+    let plan = two_relays(alloc, back, forth)?;
+    let markings = [
+        shut(alloc, point(b"2-0-1")?)?,
+        shut(alloc, point(b"2-0-1")?)?,
+    ];
     let title = spot(0, x, b"00000")?;
-    let hops = route(alloc, &plan, title, &markings)?;
-    assert_eq!(rt; hops.as_slice().len(), 2);
-    assert_eq!(rt; hops.as_slice()[1].spot.node, 1);
-    assert_eq!(rt; hops.as_slice()[1].step.next(), Some(title));
+    let hops = hops_of(alloc, &plan, title, &markings)?;
+    let hops = hops.as_slice();
+    assert_eq!(rt; hops.len(), 2);
+    assert_eq!(rt; hops[1].spot.node, 1);
+    assert_eq!(rt; hops[1].step.next(), Some(title));
     Ok(())
+}
+
+/// Relays whose titles go in a circle of three where the first has a prohibited mark that the second hasn't.
+fn loop_of_three(alloc: Global, x: Selector, y: Selector) -> Result<Plan, Fail> {
+    let back = Some(relay(b"1-0-3", 0, b"", None)?);
+    let at_a = row(x, b"", relay(b"1-0-4", 0, b"", None)?, back)?;
+    let at_b = row(x, b"", relay(b"1-0-4", 0, b"", Some(y))?, None)?;
+    let at_c = [
+        row(x, b"", to(b"2-0-1")?, None)?,
+        row(y, b"", relay(b"1-0-2", 0, b"", Some(x))?, None)?,
+    ];
+    three_relays(alloc, at_a, at_b, &at_c)
 }
 
 #[test]
 fn a_loop_needs_different_marks(rt: HostRuntime) -> Result<(), Fail> {
     let alloc = rt.alloc();
     let (x, y) = (kind_four(4)?, kind_four(3)?);
+    let plan = loop_of_three(alloc, x, y)?;
     let title = spot(0, x, b"00000")?;
-    // A loop over three relays that needs two of them to hold different marks.
-    let mut nodes = List::new(alloc);
-    let at_a = row(
-        x,
-        b"",
-        relay(b"1-0-4", 0, b"", None)?,
-        Some(relay(b"1-0-3", 0, b"", None)?),
-    )?;
-    let at_b = row(x, b"", relay(b"1-0-4", 0, b"", Some(y))?, None)?;
-    let at_c = [
-        row(x, b"", to(b"2-0-1")?, None)?,
-        row(y, b"", relay(b"1-0-2", 0, b"", Some(x))?, None)?,
+    let markings = [
+        shut(alloc, point(b"1-0-4")?)?,
+        Marking::new(alloc),
+        Marking::new(alloc),
     ];
-    nodes.push(node(alloc, b"a", b"1-0-2", &[at_a])?)?;
-    nodes.push(node(alloc, b"b", b"1-0-3", &[at_b])?)?;
-    nodes.push(node(alloc, b"c", b"1-0-4", &at_c)?)?;
-    let plan = plan_of(&rt, alloc, nodes)?;
-    let mut shut = Marking::new(alloc);
-    shut.prohibit(Mark::PointCode(point(b"1-0-4")?))?;
-    let markings = [shut, Marking::new(alloc), Marking::new(alloc)];
-    assert_eq!(rt; plan.nodes().as_slice().len(), 3);
-    let hops = route(alloc, &plan, title, &markings)?;
-    assert_eq!(rt; hops.as_slice().len(), 3);
-    assert_eq!(rt; hops.as_slice()[1].spot.node, 1);
-    assert_eq!(rt; hops.as_slice()[2].spot.node, 2);
-    assert_eq!(rt; hops.as_slice()[2].spot.selector, y);
-    assert_eq!(rt; hops.as_slice()[2].step.next(), Some(title));
+    let hops = hops_of(alloc, &plan, title, &markings)?;
+    let hops = hops.as_slice();
+    assert_eq!(rt; hops.len(), 3);
+    assert_eq!(rt; hops[1].spot.node, 1);
+    assert_eq!(rt; hops[2].spot.node, 2);
+    assert_eq!(rt; hops[2].spot.selector, y);
+    assert_eq!(rt; hops[2].step.next(), Some(title));
     Ok(())
+}
+
+/// Relays that put fifteen zeros in front, one after the other: three digits come to be thirty-three.
+fn growing(alloc: Global, x: Selector) -> Result<Plan, Fail> {
+    let zeros = b"000000000000000";
+    let at_a = row(x, b"", relay(b"1-0-3", 0, zeros, None)?, None)?;
+    let at_b = row(x, b"", relay(b"1-0-4", 0, zeros, None)?, None)?;
+    three_relays(alloc, at_a, at_b, &[row(x, b"", to(b"2-0-1")?, None)?])
 }
 
 #[test]
 fn digits_grow_too_many(rt: HostRuntime) -> Result<(), Fail> {
     let alloc = rt.alloc();
     let x = kind_four(4)?;
-    // Fifteen zeros in front, twice: three digits come to be thirty-three.
-    let mut nodes = List::new(alloc);
-    let zeros = b"000000000000000";
-    let grows = row(x, b"", relay(b"1-0-3", 0, zeros, None)?, None)?;
-    let grows_on = row(x, b"", relay(b"1-0-4", 0, zeros, None)?, None)?;
-    nodes.push(node(alloc, b"a", b"1-0-2", &[grows])?)?;
-    nodes.push(node(alloc, b"b", b"1-0-3", &[grows_on])?)?;
-    nodes.push(node(alloc, b"c", b"1-0-4", &[row(x, b"", to(b"2-0-1")?, None)?])?)?;
-    let plan = plan_of(&rt, alloc, nodes)?;
+    let plan = growing(alloc, x)?;
     let markings = [Marking::new(alloc), Marking::new(alloc)];
-    assert_eq!(rt; plan.nodes().as_slice().len(), 3);
-    let hops = route(alloc, &plan, spot(0, x, b"123")?, &markings)?;
-    assert_eq!(rt; hops.as_slice().len(), 2);
-    assert!(rt; matches!(hops.as_slice()[1].step, Step::Overgrown));
+    let hops = hops_of(alloc, &plan, spot(0, x, b"123")?, &markings)?;
+    let hops = hops.as_slice();
+    assert_eq!(rt; hops.len(), 2);
+    assert!(rt; matches!(hops[1].step, Step::Overgrown));
     Ok(())
+}
+
+#[test]
+fn nodes_are_found(rt: HostRuntime) -> Result<(), Fail> {
+    let alloc = rt.alloc();
+    let x = kind_four(4)?;
+    let at_a = row(x, b"", relay(b"1-0-3", 0, b"", None)?, None)?;
+    let plan = two_relays(alloc, at_a, row(x, b"", to(b"2-0-1")?, None)?)?;
+    assert_eq!(rt; plan.node_at(point(b"1-0-3")?), Some(1));
+    assert_eq!(rt; plan.node_at(point(b"2-0-1")?), None);
+    assert_eq!(rt;
+        plan.node_named(&Name::parse(b"b").ok_or("a name")?),
+        Some(1)
+    );
+    assert_eq!(rt; plan.node_named(&Name::parse(b"c").ok_or("a name")?), None);
+    assert_eq!(rt; plan.nodes().as_slice().len(), 2);
+    assert_eq!(rt; plan.covers().as_slice().len(), 1);
+    Ok(())
+}
+
+/// What comes of two nodes, the first 1-0-2 with one row of these targets.
+fn fault_of_nodes(
+    alloc: Global,
+    name: &[u8],
+    pc: &[u8],
+    first: Target,
+    backup: Option<Target>,
+) -> Result<Option<PlanFault>, Fail> {
+    let x = kind_four(4)?;
+    let mut nodes = List::new(alloc);
+    nodes.push(node(alloc, b"a", b"1-0-2", &[row(x, b"49", first, backup)?])?)?;
+    nodes.push(node(alloc, name, pc, &[])?)?;
+    let mut covers = List::new(alloc);
+    covers.push(cover(alloc, x, b"49", 12, 12)?)?;
+    Ok(build(nodes, covers).err())
 }
 
 #[test]
 fn nodes_that_make_no_plan(rt: HostRuntime) -> Result<(), Fail> {
     let alloc = rt.alloc();
-    let x = kind_four(4)?;
     let end = to(b"2-0-1")?;
     let on = relay(b"1-0-3", 0, b"", None)?;
     let back = relay(b"1-0-2", 0, b"", None)?;
@@ -366,18 +436,28 @@ fn nodes_that_make_no_plan(rt: HostRuntime) -> Result<(), Fail> {
         ),
     ];
     for (name, pc, first, backup, want) in two {
-        let mut nodes = List::new(alloc);
-        nodes.push(node(alloc, b"a", b"1-0-2", &[row(x, b"49", first, backup)?])?)?;
-        nodes.push(node(alloc, name, pc, &[])?)?;
-        let mut covers = List::new(alloc);
-        covers.push(cover(alloc, x, b"49", 12, 12)?)?;
-        assert_eq!(rt; build(&rt, nodes, covers).err(), want);
+        assert_eq!(rt; fault_of_nodes(alloc, name, pc, first, backup)?, want);
     }
+    Ok(())
+}
+
+#[test]
+fn a_plan_has_a_cover(rt: HostRuntime) -> Result<(), Fail> {
+    let alloc = rt.alloc();
     let mut nodes = List::new(alloc);
     nodes.push(node(alloc, b"a", b"1-0-2", &[])?)?;
-    let fault = build(&rt, nodes, List::new(alloc)).err();
+    let fault = build(nodes, List::new(alloc)).err();
     assert_eq!(rt; fault, Some(PlanFault::NoCover));
     Ok(())
+}
+
+/// What comes of one node without rows and one cover.
+fn fault_of_cover(alloc: Global, one: Cover) -> Result<Option<PlanFault>, Fail> {
+    let mut nodes = List::new(alloc);
+    nodes.push(node(alloc, b"a", b"1-0-2", &[])?)?;
+    let mut covers = List::new(alloc);
+    covers.push(one)?;
+    Ok(build(nodes, covers).err())
 }
 
 #[test]
@@ -438,43 +518,52 @@ fn covers_that_make_no_plan(rt: HostRuntime) -> Result<(), Fail> {
         ),
     ];
     for (at, selector, prefix, least, most, want) in table {
-        let mut nodes = List::new(alloc);
-        nodes.push(node(alloc, b"a", b"1-0-2", &[])?)?;
-        let mut covers = List::new(alloc);
         let mut one = cover(alloc, selector, prefix, least, most)?;
         one.node = at;
-        covers.push(one)?;
-        assert_eq!(rt; build(&rt, nodes, covers).err(), want);
+        assert_eq!(rt; fault_of_cover(alloc, one)?, want);
     }
     Ok(())
+}
+
+/// So many rows, each with a prefix of its own.
+fn rows_of(alloc: Global, count: u8) -> Result<List<Row>, Fail> {
+    let mut rows = List::new(alloc);
+    for i in 0..count {
+        let prefix = [b'0' + i / 10, b'0' + i % 10];
+        rows.push(row(kind_four(4)?, &prefix, to(b"2-0-1")?, None)?)?;
+    }
+    Ok(rows)
+}
+
+/// What comes of so many nodes with these rows, and so many covers.
+fn fault_of_many(
+    alloc: Global,
+    node_count: u8,
+    rows: &[Row],
+    cover_count: u16,
+) -> Result<Option<PlanFault>, Fail> {
+    let mut nodes = List::new(alloc);
+    for _ in 0..node_count {
+        nodes.push(node(alloc, b"a", b"1-0-2", rows)?)?;
+    }
+    let mut covers = List::new(alloc);
+    for _ in 0..cover_count {
+        covers.push(cover(alloc, kind_four(4)?, b"49", 12, 12)?)?;
+    }
+    Ok(build(nodes, covers).err())
 }
 
 #[test]
 fn plans_have_limits(rt: HostRuntime) -> Result<(), Fail> {
     let alloc = rt.alloc();
-    let x = kind_four(4)?;
-    let end = to(b"2-0-1")?;
-    let table = [
-        (65, 0, 0, Some(PlanFault::Limit(Counted::Nodes))),
-        (64, 65, 0, Some(PlanFault::Limit(Counted::Rows))),
-        (1, 65, 257, Some(PlanFault::Limit(Counted::Covers))),
-        (1, 65, 256, None),
-    ];
-    for (node_count, row_count, cover_count, want) in table {
-        let mut rows = List::new(alloc);
-        for i in 0..row_count {
-            let prefix = [b'0' + i / 10, b'0' + i % 10];
-            rows.push(row(x, &prefix, end, None)?)?;
-        }
-        let mut nodes = List::new(alloc);
-        for _ in 0..node_count {
-            nodes.push(node(alloc, b"a", b"1-0-2", rows.as_slice())?)?;
-        }
-        let mut covers = List::new(alloc);
-        for _ in 0..cover_count {
-            covers.push(cover(alloc, x, b"49", 12, 12)?)?;
-        }
-        assert_eq!(rt; build(&rt, nodes, covers).err(), want);
-    }
+    let none = rows_of(alloc, 0)?;
+    let many = rows_of(alloc, 65)?;
+    let fault = fault_of_many(alloc, 65, none.as_slice(), 0)?;
+    assert_eq!(rt; fault, Some(PlanFault::Limit(Counted::Nodes)));
+    let fault = fault_of_many(alloc, 64, many.as_slice(), 0)?;
+    assert_eq!(rt; fault, Some(PlanFault::Limit(Counted::Rows)));
+    let fault = fault_of_many(alloc, 1, many.as_slice(), 257)?;
+    assert_eq!(rt; fault, Some(PlanFault::Limit(Counted::Covers)));
+    assert_eq!(rt; fault_of_many(alloc, 1, many.as_slice(), 256)?, None);
     Ok(())
 }
