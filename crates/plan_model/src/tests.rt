@@ -168,6 +168,14 @@ fn ended(step: &Step) -> Option<(PointCode, u8, u8)> {
     }
 }
 
+/// Whether the step is blocked with this cause by these marks.
+fn closed_by(step: &Step, want: u8, by: &[Mark]) -> bool {
+    match step {
+        Step::Blocked { cause, marks } => *cause == want && marks.as_slice() == by,
+        _ => false,
+    }
+}
+
 /// The cause of a step without a way on.
 fn no_row(step: &Step) -> Option<u8> {
     match step {
@@ -251,25 +259,24 @@ fn some_titles_have_no_way(rt: HostRuntime) -> Result<(), Fail> {
     Ok(())
 }
 
+/// A marking that closes both points: one by its SCCP, listed before its subsystem, and one by its subsystem.
+fn both_shut(alloc: Global, near: PointCode, far: PointCode) -> Result<Marking, Fail> {
+    let mut marking = Marking::new(alloc);
+    marking.prohibit(Mark::Subsystem(near, 6))?;
+    marking.prohibit(Mark::Sccp(near))?;
+    marking.prohibit(Mark::Subsystem(far, 6))?;
+    Ok(marking)
+}
+
 #[test]
 fn prohibited_marks_close_targets(rt: HostRuntime) -> Result<(), Fail> {
     let alloc = rt.alloc();
     let (near, far) = (point(b"2-0-1")?, point(b"2-0-2")?);
     let rows = [row(kind_four(4)?, b"49", to(b"2-0-1")?, Some(to(b"2-0-2")?))?];
     let plan = one_relay(alloc, &rows)?;
-    let mut marking = Marking::new(alloc);
-    marking.prohibit(Mark::Subsystem(near, 6))?;
-    marking.prohibit(Mark::Sccp(near))?;
-    marking.prohibit(Mark::Subsystem(far, 6))?;
     let title = spot(0, kind_four(4)?, b"490")?;
-    match step_at(alloc, &plan, &title, &marking)? {
-        Step::Blocked { cause, marks } => {
-            let want = [Mark::Sccp(near), Mark::Subsystem(far, 6)];
-            assert_eq!(rt; marks.as_slice(), want.as_slice());
-            assert_eq!(rt; cause, 3);
-        }
-        _ => return Err("both targets are closed")?,
-    }
+    let step = step_at(alloc, &plan, &title, &both_shut(alloc, near, far)?)?;
+    assert!(rt; closed_by(&step, 3, &[Mark::Sccp(near), Mark::Subsystem(far, 6)]));
     Ok(())
 }
 
@@ -384,59 +391,33 @@ fn fault_of_nodes(
 }
 
 #[test]
-fn nodes_that_make_no_plan(rt: HostRuntime) -> Result<(), Fail> {
+fn nodes_have_names_and_points_of_their_own(rt: HostRuntime) -> Result<(), Fail> {
+    let alloc = rt.alloc();
+    let lost = relay(b"1-0-7", 0, b"", None)?;
+    let name = Some(PlanFault::Repeated(Place::Node(1, Key::Name)));
+    assert_eq!(rt; fault_of_nodes(alloc, b"a", b"1-0-2", lost, None)?, name);
+    let point = Some(PlanFault::Repeated(Place::Node(1, Key::Point)));
+    assert_eq!(rt; fault_of_nodes(alloc, b"b", b"1-0-2", lost, None)?, point);
+    Ok(())
+}
+
+#[test]
+fn targets_lead_to_other_nodes(rt: HostRuntime) -> Result<(), Fail> {
     let alloc = rt.alloc();
     let end = to(b"2-0-1")?;
     let on = relay(b"1-0-3", 0, b"", None)?;
     let back = relay(b"1-0-2", 0, b"", None)?;
     let lost = relay(b"1-0-7", 0, b"", None)?;
-    let two: [(&[u8], &[u8], Target, Option<Target>, Option<PlanFault>); 7] = [
-        (b"b", b"1-0-3", end, Some(on), None),
-        (
-            b"a",
-            b"1-0-2",
-            lost,
-            None,
-            Some(PlanFault::Repeated(Place::Node(1, Key::Name))),
-        ),
-        (
-            b"b",
-            b"1-0-2",
-            lost,
-            None,
-            Some(PlanFault::Repeated(Place::Node(1, Key::Point))),
-        ),
-        (
-            b"b",
-            b"1-0-3",
-            lost,
-            None,
-            Some(PlanFault::UnknownNode(Place::Row(0, 0, Key::First))),
-        ),
-        (
-            b"b",
-            b"1-0-3",
-            end,
-            Some(lost),
-            Some(PlanFault::UnknownNode(Place::Row(0, 0, Key::Backup))),
-        ),
-        (
-            b"b",
-            b"1-0-3",
-            back,
-            None,
-            Some(PlanFault::RelayToSelf(Place::Row(0, 0, Key::First))),
-        ),
-        (
-            b"b",
-            b"1-0-3",
-            on,
-            Some(back),
-            Some(PlanFault::RelayToSelf(Place::Row(0, 0, Key::Backup))),
-        ),
+    let (first, backup) = (Place::Row(0, 0, Key::First), Place::Row(0, 0, Key::Backup));
+    let table = [
+        (end, Some(on), None),
+        (lost, None, Some(PlanFault::UnknownNode(first))),
+        (end, Some(lost), Some(PlanFault::UnknownNode(backup))),
+        (back, None, Some(PlanFault::RelayToSelf(first))),
+        (on, Some(back), Some(PlanFault::RelayToSelf(backup))),
     ];
-    for (name, pc, first, backup, want) in two {
-        assert_eq!(rt; fault_of_nodes(alloc, name, pc, first, backup)?, want);
+    for (first, backup, want) in table {
+        assert_eq!(rt; fault_of_nodes(alloc, b"b", b"1-0-3", first, backup)?, want);
     }
     Ok(())
 }
