@@ -259,6 +259,26 @@ fn some_titles_have_no_way(rt: HostRuntime) -> Result<(), Fail> {
     Ok(())
 }
 
+/// A marking that closes a destination twice: by its SCCP and by its subsystem.
+fn twice_shut(alloc: Global, near: PointCode) -> Result<Marking, Fail> {
+    let mut marking = Marking::new(alloc);
+    marking.prohibit(Mark::Subsystem(near, 6))?;
+    marking.prohibit(Mark::Sccp(near))?;
+    Ok(marking)
+}
+
+#[test]
+fn an_open_backup_is_taken_behind_a_target_closed_twice(rt: HostRuntime) -> Result<(), Fail> {
+    let alloc = rt.alloc();
+    let (near, far) = (point(b"2-0-1")?, point(b"2-0-2")?);
+    let rows = [row(kind_four(4)?, b"49", to(b"2-0-1")?, Some(to(b"2-0-2")?))?];
+    let plan = one_relay(alloc, &rows)?;
+    let title = spot(0, kind_four(4)?, b"490")?;
+    let step = step_at(alloc, &plan, &title, &twice_shut(alloc, near)?)?;
+    assert_eq!(rt; ended(&step), Some((far, 6, 1)));
+    Ok(())
+}
+
 /// A marking that closes both points: one by its SCCP, listed before its subsystem, and one by its subsystem.
 fn both_shut(alloc: Global, near: PointCode, far: PointCode) -> Result<Marking, Fail> {
     let mut marking = Marking::new(alloc);
