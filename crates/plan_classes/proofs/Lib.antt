@@ -1,0 +1,8 @@
+pub mod Parting
+pub mod Images
+pub mod Deciding
+pub mod Openings
+pub mod Taking
+pub mod Starting
+pub mod Ordered
+pub mod Members

@@ -1,0 +1,4 @@
+pub mod Titles
+pub mod Classes
+pub mod Leading
+pub mod Order

@@ -1,0 +1,45 @@
+//! From a rewritten title back to the one that it was made of.
+ghost use Rattle.std.specs.Prelude.{◌≡◌, ◌<◌, ◌≤◌, ◌++◌, length, take, drop, Some};
+ghost use Rattle.plan_model.specs.declared.hop.Step.TheVariants.{Sent};
+ghost use Rattle.plan_classes.specs.declared.leads.Image.TheVariants.{Next};
+ghost use Rattle.plan_classes.specs.Titles.{Titles, IsMember, spot_of};
+ghost use Rattle.plan_classes.specs.Classes.{Decided, HasImage};
+ghost use Rattle.plan_classes.specs.Leading.{IsInImage, brought};
+
+use crate::class::Class;
+use crate::class_rows::class_target;
+use plan_model::Plan;
+use plan_rules::Target;
+use sccp_base::Digits;
+
+/// The digits without those that were put, behind the known ones that were stripped.
+fn carried_back(known: &Digits, strip: u8, put: &Digits, digits: &Digits) -> Digits
+    requires strip { strip ≤ length known.now }
+    requires put { length put.now ≤ length digits.now }
+    requires few { length (take strip known.now ++ drop (length put.now) digits.now) ≤ 32 }
+    ensures { result ≡ take strip known.now ++ drop (length put.now) digits.now }
+{
+    let stripped = &known.as_slice()[..usize::from(strip)];
+    let kept = &digits.as_slice()[put.len()..];
+    match Digits::joined(stripped, kept) {
+        Some(back) => back,
+        None => unreachable!(),
+    }
+}
+
+/// The title of the class whose rewriting by a target is these digits. The class is decided, the target leads it to a next
+/// class, and the digits are one of that class's titles. It takes no memory.
+pub fn carry_back(plan: &Plan, class: &Class, target: u8, digits: &Digits) -> Digits
+    requires node { class.now.node < length plan.now.nodes }
+    requires decided { Decided plan.now class.now }
+    requires next { IsInImage plan.now class.now target digits.now }
+    ensures member { IsMember class.now result }
+    ensures leads { (next : Titles) → HasImage plan.now class.now target (Next next) → brought plan.now class.now target result ≡ Some (Sent (spot_of next digits.now) target) }
+{
+    match class_target(plan, class, target) {
+        Some(Target::Relay { strip, put, .. }) => {
+            carried_back(class.known(), *strip, put, digits)
+        }
+        _ => unreachable!(),
+    }
+}

@@ -1,0 +1,159 @@
+ghost use Rattle.std.specs.Prelude.{◌≡◌, ◌+◌, ◌<◌, ◌≤◌, ◌↔◌, length, IsTrue, SomeIff};
+
+use sccp_base::{Digits, Selector};
+use std::marker::Model;
+
+/// The titles of a cover at a relay, under a selector and a subsystem number, whose digits are the known ones and then `least`
+/// to `most` further decimal ones. Classes are ordered by these fields as they are written, digits as lists.
+#[derive(Clone, Copy, Debug, PartialEq, Eq, PartialOrd, Ord)]
+pub struct Class {
+    cover: u16,
+    node: u8,
+    selector: Selector,
+    ssn: u8,
+    known: Digits,
+    least: u8,
+    most: u8,
+}
+
+impl Model for Class {
+    ghost use Rattle.plan_classes.specs.Titles.{Titles, IsClass, titles};
+
+    ghost Value = { Titles };
+
+    ghost view = { λ c. titles c.cover c.node c.selector c.ssn c.known c.least c.most };
+
+    ghost invariant = { λ c. IsClass (titles c.cover c.node c.selector c.ssn c.known c.least c.most) };
+
+    ghost inverse = { λ t. record { cover = t.cover; node = t.node; selector = t.selector; ssn = t.ssn; known = t.known; least = t.least; most = t.most } };
+}
+
+impl Class {
+    ghost use Rattle.plan_classes.specs.Titles.{titles, IsClass, IsMember, closed, extended};
+
+    /// `None` where `least` is above `most`, or the number of known digits and `most` add up to more than 32.
+    pub fn new(
+        cover: u16,
+        node: u8,
+        selector: Selector,
+        ssn: u8,
+        known: Digits,
+        least: u8,
+        most: u8,
+    ) -> Option<Class>
+        ensures { SomeIff result ((least ≤ most) × (length known + most ≤ 32)) (titles cover node selector ssn known least most) }
+    {
+        if least <= most && known.len() + usize::from(most) <= 32 {
+            Some(Class {
+                cover,
+                node,
+                selector,
+                ssn,
+                known,
+                least,
+                most,
+            })
+        } else {
+            None
+        }
+    }
+
+    /// The place of the cover that its titles come from.
+    pub fn cover(&self) -> u16
+        ensures value { result ≡ self.now.cover }
+        ensures class { IsClass self.now }
+    {
+        self.cover
+    }
+
+    /// The place of its node in the plan.
+    pub fn node(&self) -> u8
+        ensures value { result ≡ self.now.node }
+        ensures class { IsClass self.now }
+    {
+        self.node
+    }
+
+    /// Its titles' selector.
+    pub fn selector(&self) -> Selector
+        ensures value { result ≡ self.now.selector }
+        ensures class { IsClass self.now }
+    {
+        self.selector
+    }
+
+    /// Its titles' subsystem number, 0 where the address has none.
+    pub fn ssn(&self) -> u8
+        ensures value { result ≡ self.now.ssn }
+        ensures class { IsClass self.now }
+    {
+        self.ssn
+    }
+
+    /// The digits that its titles begin with.
+    pub fn known(&self) -> &Digits
+        ensures value { result.now ≡ self.now.known }
+        ensures class { IsClass self.now }
+    {
+        &self.known
+    }
+
+    /// How many further digits there are at least.
+    pub fn least(&self) -> u8
+        ensures value { result ≡ self.now.least }
+        ensures class { IsClass self.now }
+    {
+        self.least
+    }
+
+    /// How many further digits there are at most.
+    pub fn most(&self) -> u8
+        ensures value { result ≡ self.now.most }
+        ensures class { IsClass self.now }
+    {
+        self.most
+    }
+
+    /// Whether these are the digits of one of its titles.
+    pub fn has(&self, digits: &Digits) -> bool
+        ensures { IsTrue result ↔ IsMember self.now digits.now }
+    {
+        let known = self.known();
+        if !digits.starts_with(known) {
+            return false;
+        }
+        if digits.len() < known.len() + usize::from(self.least()) {
+            return false;
+        }
+        if known.len() + usize::from(self.most()) < digits.len() {
+            return false;
+        }
+        digits.is_decimal_from(known.len())
+    }
+
+    /// The one title with no further digit.
+    pub(crate) fn closed(&self) -> Class
+        requires { self.now.least ≡ 0 }
+        ensures { result ≡ closed self.now }
+    {
+        Class {
+            least: 0,
+            most: 0,
+            ..*self
+        }
+    }
+
+    /// The titles with this next digit.
+    pub(crate) fn extended(&self, digit: u8) -> Class
+        requires digit { digit < 10 }
+        requires more { 0 < self.now.most }
+        ensures { result ≡ extended self.now digit }
+    {
+        Class {
+            known: self.known.with(digit),
+            least: self.least.saturating_sub(1),
+            most: self.most - 1,
+            ..*self
+        }
+    }
+}

@@ -1,0 +1,15 @@
+use crate::class::Class;
+use sccp_base::PointCode;
+
+/// Where a target leads the titles of a class (Q.714 section 2).
+#[derive(Clone, Copy, Debug, PartialEq, Eq)]
+pub enum Image {
+    /// They go on to another relay, as exactly these titles.
+    Next(Class),
+    /// They all have this destination. The subsystem number is the class's where the target names none.
+    Ends { pc: PointCode, ssn: u8 },
+    /// The destination is the class's node itself, which hasn't the subsystem.
+    NotEquipped,
+    /// The target is a relay, and the longest title would come to have more than 32 digits.
+    TooLong,
+}
