@@ -1,0 +1,8 @@
+use Rattle.std.proofs.Common.{take}
+use Rattle.std.specs.List.{All}
+use Rattle.plan_check.specs.Checks.{MayLead}
+use Rattle.plan_check.proofs.leading.all_may_lead.Given as goal
+
+-- those so far do
+abbrev pub invariant-loop-image : goal.invariant-loop-image
+invariant-loop-image l = All (MayLead l.plan l.cover) (take l.image-index l.images)

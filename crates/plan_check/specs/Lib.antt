@@ -1,0 +1,4 @@
+pub mod Ranking
+pub mod Ranked
+pub mod Checks
+pub mod Verified

@@ -1,0 +1,108 @@
+//! Where the targets of a decided class lead it.
+ghost use Rattle.std.specs.Prelude.{◌≡◌, ◌<◌, ℕ, length, IsTrue, ◌↔◌, IfOk};
+ghost use Rattle.std.specs.List.{All, Contains};
+ghost use Rattle.plan_classes.specs.declared.leads.Image.{Image};
+ghost use Rattle.plan_classes.specs.Classes.{Decided};
+ghost use Rattle.plan_check.specs.Ranking.{rank_in};
+ghost use Rattle.plan_check.specs.Ranked.{Allows};
+ghost use Rattle.plan_check.specs.Checks.{LeadsTo, MayLead, NextHasRank, NextIsLower};
+
+use crate::ranks::Ranks;
+use plan_classes::{Class, Image, image, reaches, target_count};
+use plan_model::Plan;
+use sccp_base::{List, OutOfMemory, PointCode};
+use std::alloc::Global;
+
+/// Whether a cover allows a place.
+pub fn allows(plan: &Plan, cover: u16, pc: PointCode, ssn: u8) -> bool
+    requires { cover < length plan.now.covers }
+    ensures { IsTrue result ↔ Allows plan.now cover pc ssn }
+{
+    plan.covers().as_slice()[usize::from(cover)].allows(pc, ssn)
+}
+
+/// Where the targets that can be the first open one lead a class.
+pub(crate) fn images(alloc: Global, plan: &Plan, class: &Class) -> Result<List<Image>, OutOfMemory>
+    requires node { class.now.node < length plan.now.nodes }
+    requires decided { Decided plan.now class.now }
+    ensures each { IfOk result (All (LeadsTo plan.now class.now)) }
+    ensures every { IfOk result (λ images. (image : Image) → LeadsTo plan.now class.now image → Contains images image) }
+{
+    let mut images = List::new(alloc);
+    for place in 0..target_count(plan, class) {
+        if reaches(plan, class, place) {
+            images.push(image(plan, class, place))?;
+        }
+    }
+    Ok(images)
+}
+
+/// Whether titles may go on there, or end there.
+fn may_lead(plan: &Plan, cover: u16, image: &Image) -> bool
+    requires { cover < length plan.now.covers }
+    ensures { IsTrue result ↔ MayLead plan.now cover image.now }
+{
+    match image {
+        Image::Next(_) => true,
+        Image::Ends { pc, ssn } => allows(plan, cover, *pc, *ssn),
+        Image::NotEquipped => false,
+        Image::TooLong => false,
+    }
+}
+
+pub(crate) fn all_may_lead(plan: &Plan, cover: u16, images: &[Image]) -> bool
+    requires { cover < length plan.now.covers }
+    ensures { IsTrue result ↔ All (MayLead plan.now cover) images.now }
+{
+    for image in images {
+        if !may_lead(plan, cover, image) {
+            return false;
+        }
+    }
+    true
+}
+
+/// Whether the class that titles go on to has a rank.
+fn next_has_rank(ranks: &Ranks, image: &Image) -> bool
+    ensures { IsTrue result ↔ NextHasRank (rank_in ranks.now) image.now }
+{
+    match image {
+        Image::Next(next) => ranks.has(next),
+        _ => true,
+    }
+}
+
+pub(crate) fn all_next_have_ranks(ranks: &Ranks, images: &[Image]) -> bool
+    ensures { IsTrue result ↔ All (NextHasRank (rank_in ranks.now)) images.now }
+{
+    for image in images {
+        if !next_has_rank(ranks, image) {
+            return false;
+        }
+    }
+    true
+}
+
+/// Whether the class that titles go on to has a rank below the bound.
+fn next_is_lower(ranks: &Ranks, bound: u8, image: &Image) -> bool
+    ensures { IsTrue result ↔ NextIsLower (rank_in ranks.now) bound image.now }
+{
+    match image {
+        Image::Next(next) => match ranks.get(next) {
+            Some(rank) => rank < bound,
+            None => false,
+        },
+        _ => true,
+    }
+}
+
+pub(crate) fn all_next_are_lower(ranks: &Ranks, bound: u8, images: &[Image]) -> bool
+    ensures { IsTrue result ↔ All (NextIsLower (rank_in ranks.now) bound) images.now }
+{
+    for image in images {
+        if !next_is_lower(ranks, bound, image) {
+            return false;
+        }
+    }
+    true
+}
