@@ -1,0 +1,19 @@
+use Rattle.std.proofs.Common.{sym, ap}
+use Rattle.std.specs.Option.{option_map}
+use Rattle.plan_model.specs.declared.place.Place.TheVariants.{Row as AtRow}
+use Rattle.plan_rules.proofs.FirstOf.{first_of_here, first_of_next, first_of_end}
+use Rattle.plan_text.specs.Tests.{self_at}
+use Rattle.plan_text.proofs.drafts.first_to_self.Goals as goal
+
+pub returns-in-Some : goal.returns-in-Some
+returns-in-Some c =
+    first_of_here self_at _ c.loop-i.i c.index-drafts-i.result _ _ c.loop-i-test.true (sym c.index-drafts-i.is)
+    (ap (option_map (λ p. AtRow c.loop-i.i p.0 p.1)) (sym c.in-Some.ensures)) c.loop-i.invariant
+
+pub loop-i-preserved : goal.loop-i-preserved
+loop-i-preserved c =
+    first_of_next self_at _ c.loop-i.i c.index-drafts-i.result _ c.loop-i-test.true (sym c.index-drafts-i.is)
+    (ap (option_map (λ p. AtRow c.loop-i.i p.0 p.1)) (sym c.in_default.ensures)) c.loop-i.invariant
+
+pub returns : goal.returns
+returns c = first_of_end self_at _ c.loop-i.i _ c.loop-i-test.false c.loop-i.invariant

@@ -1,0 +1,6 @@
+use Rattle.plan_text.specs.Shape.{node_shape}
+use Rattle.plan_text.proofs.Elements.{each_table}
+use Rattle.plan_text.proofs.shape.nodes_shape.Goals as goal
+
+pub returns-in-Some : goal.returns-in-Some
+returns-in-Some c = each_table node_shape _ _ _ _ _ c.as_slice.ensures.value c.in-Some.ensures c.each_node.ensures

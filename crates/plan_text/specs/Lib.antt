@@ -1,0 +1,13 @@
+pub mod Counts
+pub mod Covers
+pub mod Document
+pub mod Drafts
+pub mod EachOk
+pub mod Faults
+pub mod PlanText
+pub mod Rows
+pub mod Shape
+pub mod Tabled
+pub mod Targets
+pub mod Tests
+pub mod Words

@@ -1,0 +1,109 @@
+//! The covers, as a plan text writes them.
+ghost use Rattle.std.specs.Prelude.{◌≡◌, ◌≤◌, ◌<◌, IfOk, IfSome, All, map, length};
+ghost use Rattle.toml.specs.View.{view};
+ghost use Rattle.sccp_base.specs.Answers.{Answers};
+ghost use Rattle.plan_model.specs.Faults.{HasFewDigits};
+ghost use Rattle.plan_text.specs.EachOk.{each_ok};
+ghost use Rattle.plan_text.specs.Faults.{is_memory};
+ghost use Rattle.std.specs.List.{position};
+ghost use Rattle.plan_text.specs.Targets.{is_named};
+ghost use Rattle.plan_text.specs.Covers.{node_place, number_at, allowed_at, cover_of, covers_of};
+
+use crate::document::{elements_at, integer_if_there, text_at, text_of};
+use crate::put::put;
+use crate::targets::is_named;
+use crate::words::{digits_up_to, name_of, place_of, within};
+use plan_model::{Cover, Key, Place, PlanFault};
+use sccp_base::{List, PointCode, Selector};
+use std::alloc::Global;
+use toml::Value;
+
+/// The place of the first node of a name.
+fn place_named(nodes: &[Value], name: &[u8]) -> Option<usize>
+    ensures place { result ≡ position (λ node. is_named name.now (view node)) nodes.now }
+    ensures inside { IfSome result (λ i. i < length nodes.now) }
+{
+    nodes.iter().position(|node| is_named(node, name))
+}
+
+/// The place of the first node of a name, or the number of nodes where none has it.
+#[tactic(auto, unfolding(crate::specs::Covers::node_place))]
+fn node_place(nodes: &[Value], name: &[u8]) -> u8
+    requires { length nodes.now ≤ 64 }
+    ensures { result ≡ node_place (map view nodes.now) name.now }
+{
+    place_named(nodes, name).unwrap_or(nodes.len()) as u8
+}
+
+/// The number under a key, from 0 to so many.
+#[tactic(auto, unfolding(crate::specs::Covers::number_at))]
+fn number_at(most: u8, key: &str, table: &Value) -> Option<u8>
+    ensures value { result ≡ number_at most key.now (view table.now) }
+    ensures most { IfSome result (λ number. number ≤ most) }
+{
+    match integer_if_there(table, key) {
+        Some(number) => within(0, most, number),
+        None => None,
+    }
+}
+
+/// The places that the cover at place i allows, or its fault where one doesn't read.
+fn allowed_of(alloc: Global, i: usize, values: &[Value]) -> Result<List<(PointCode, u8)>, PlanFault>
+    ensures { Answers is_memory (λ read. read) result (each_ok (allowed_at i) 0 (map view values.now)) }
+{
+    let mut read = List::new(alloc);
+    for value in values {
+        let next = place_of(text_of(value).as_bytes()).ok_or(PlanFault::BadValue(Place::Cover(
+            i,
+            Key::Allowed,
+        )))?;
+        put(&mut read, next)?;
+    }
+    Ok(read)
+}
+
+/// The cover at place i, or the first key whose value doesn't read.
+#[tactic(auto, unfolding(crate::specs::Covers::cover_of))]
+fn cover_of(alloc: Global, nodes: &[Value], i: usize, cover: &Value) -> Result<Cover, PlanFault>
+    requires { length nodes.now ≤ 64 }
+    ensures value { Answers is_memory (λ cover. cover) result (cover_of (map view nodes.now) i (view cover.now)) }
+    ensures few { IfOk result HasFewDigits }
+{
+    let bad = |key| PlanFault::BadValue(Place::Cover(i, key));
+    let node = name_of(text_at(cover, "node").as_bytes()).ok_or(bad(Key::Node))?;
+    let selector = Selector::parse(text_at(cover, "selector").as_bytes()).ok_or(bad(
+        Key::Selector,
+    ))?;
+    let ssn = number_at(255, "ssn", cover).ok_or(bad(Key::Ssn))?;
+    let prefix = digits_up_to(32, text_at(cover, "prefix").as_bytes()).ok_or(bad(Key::Prefix))?;
+    let least = number_at(32, "least", cover).ok_or(bad(Key::Least))?;
+    let most = number_at(32, "most", cover).ok_or(bad(Key::Most))?;
+    let allowed = allowed_of(alloc, i, elements_at(cover, "allowed"))?;
+    Ok(Cover {
+        node: node_place(nodes, node.as_slice()),
+        selector,
+        ssn,
+        prefix,
+        least,
+        most,
+        allowed,
+    })
+}
+
+/// All covers in their order, or the first value of them that doesn't read.
+pub(crate) fn covers_of(
+    alloc: Global,
+    nodes: &[Value],
+    covers: &[Value],
+) -> Result<List<Cover>, PlanFault>
+    requires { length nodes.now ≤ 64 }
+    ensures value { Answers is_memory (λ read. read) result (covers_of (map view nodes.now) (map view covers.now)) }
+    ensures few { IfOk result (All HasFewDigits) }
+{
+    let mut read = List::new(alloc);
+    for (i, cover) in covers.iter().enumerate() {
+        let next = cover_of(alloc, nodes, i, cover)?;
+        put(&mut read, next)?;
+    }
+    Ok(read)
+}
