@@ -1,0 +1,8 @@
+pub mod Cuts
+pub mod FromStarts
+pub mod Keeping
+pub mod Ranking
+pub mod SameSteps
+pub mod Tracing
+pub mod Unions
+pub mod Wide

@@ -1,0 +1,51 @@
+-- a full table shows that the plan reaches many classes
+use Rattle.std.specs.Prelude.{ℕ, ◌≡◌, ◌≤◌, ◌<◌, true, false, List, [], ◌∷◌, length, take, Some, refl, get_or, cond, Bool}
+use Rattle.std.specs.List.{All}
+use Rattle.std.specs.List.Sorted.{IsStrictlySortedBy}
+use Rattle.std.specs.Ordering.{is_eq}
+use Rattle.std.specs.declared.cmp.Ordering.TheVariants.{Less, Equal}
+use Rattle.std.proofs.Common.{sym, ◌∙◌, ap, arith, length-take-le}
+use Rattle.std.proofs.lemmas.List.{get_or-take, length-map}
+use Rattle.std.proofs.lemmas.List.Elements.{All-cons, All-nil, All-take}
+use Rattle.std.proofs.lemmas.Map.Keys.{Less-from_sorted}
+use Rattle.plan_model.specs.Network.{Network}
+use Rattle.plan_classes.specs.Titles.{Titles}
+use Rattle.plan_classes.specs.Classes.{Reachable, ReachesAtLeast}
+use Rattle.plan_check.specs.Ranking.{rank_in, class_cmp, classes_in}
+use Rattle.plan_check.proofs.Orders.{own_class, own_order}
+use Rattle.plan_verify.specs.Searching.{IsSound}
+
+-- a class of the table has a rank in it
+has_rank : (ranks : List (Titles × ℕ)) → All (λ c. (r : ℕ) × (rank_in ranks c ≡ Some r)) (classes_in ranks)
+has_rank [] = All-nil (λ c. (r : ℕ) × (rank_in [] c ≡ Some r))
+has_rank (e ∷ es) =
+    All-cons (λ c. (r : ℕ) × (rank_in (e ∷ es) c ≡ Some r)) e.0 (classes_in es)
+    (e.1, ap (λ (b : Bool). cond b (Some e.1) (rank_in es e.0)) (own_class e.0))
+    (λ k d lt.
+    let h = has_rank es k d lt in
+    elim (is_eq (class_cmp (get_or (classes_in es) k d) e.0)) as (λ b. (r : ℕ) × (cond b (Some e.1) (rank_in es (get_or (classes_in es) k d)) ≡ Some r)) [
+      | true ↦ (e.1, refl)
+      | false ↦ h
+    ])
+
+pub wide : (plan : Network) (ranks : List (Titles × ℕ)) (count : ℕ) → IsSound plan ranks → IsStrictlySortedBy class_cmp (classes_in ranks) → count ≤ length ranks → ReachesAtLeast plan count
+wide plan ranks count sound ordered le = (
+  take count (classes_in ranks),
+  short,
+  apart,
+  All-take (λ c. (depth : ℕ) × Reachable plan depth c) count (classes_in ranks) (λ k d lt. let h = has_rank ranks k d lt in sound.reached (get_or (classes_in ranks) k d) h.0 h.1),
+)
+  where
+    long : count ≤ length (classes_in ranks)
+    long = omega (arith, length-map ranks (λ (e : Titles × ℕ). e.0))
+
+    short : length (take count (classes_in ranks)) ≡ count
+    short = length-take-le count (classes_in ranks) long
+
+    apart : (i j : ℕ) (d : Titles) → i < j → j < length (take count (classes_in ranks)) → get_or (take count (classes_in ranks)) i d ≡ get_or (take count (classes_in ranks)) j d → ⊥
+    apart i j d lt in' same =
+        let less : class_cmp (get_or (classes_in ranks) i d) (get_or (classes_in ranks) j d) ≡ Less = Less-from_sorted class_cmp (classes_in ranks) i j d ordered lt (omega (arith, short, long)) in
+        let one : get_or (classes_in ranks) i d ≡ get_or (classes_in ranks) j d = sym (get_or-take count (classes_in ranks) i d (omega (arith, short))) ∙ same ∙ get_or-take count (classes_in ranks) j d (omega (arith, short)) in
+        let equal : class_cmp (get_or (classes_in ranks) i d) (get_or (classes_in ranks) j d) ≡ Equal = ap (class_cmp (get_or (classes_in ranks) i d)) (sym one) ∙ own_order (get_or (classes_in ranks) i d) in
+        let clash : Less ≡ Equal = sym less ∙ equal in
+        absurd (cc)

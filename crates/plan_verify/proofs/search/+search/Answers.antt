@@ -1,0 +1,93 @@
+use Rattle.std.proofs.Common.{◌≡◌, ◌<◌, ◌∙◌, subst, arith, rules, length}
+use Rattle.plan_classes.specs.Titles.{IsPart}
+use Rattle.plan_verify.specs.declared.found.Found.{Found}
+use Rattle.plan_verify.specs.Searching.{IsFound, IsLed}
+use Rattle.plan_verify.proofs.Keeping.{keeps_more}
+use Rattle.plan_verify.proofs.Ranking.{parts_ranked, parts_attained, open_borne, part_of, part_reached, targets_led, targets_high, image_reached, decided_borne}
+use Rattle.plan_verify.proofs.Tracing.{fifteenth, without_row}
+use Rattle.plan_verify.proofs.search.+search.Goals as goal
+
+pub explore-returns-then-depth-eq14-clause-found : goal.explore-returns-then-depth-eq14-clause-found
+explore-returns-then-depth-eq14-clause-found t c =
+    fifteenth c.args.plan.now c.args.class.now c.args.depth c.in_ok-least_title.field-0 c.in_ok-least_title.ensures.member c.in_ok-least_title.ensures.markings (omega (arith, c.if-depth-eq14.true))
+
+pub explore_parts-explore-requires : goal.explore_parts-explore-requires
+explore_parts-explore-requires t c =
+    let part : IsPart c.args.class.now c.part-item.result = part_of c.args.class.now _ _ c.loop-part.part-index _ c.in_ok-parts.ensures.splits c.as_slice-part-items.ensures c.loop-part-test.true c.part-item.is in (
+      search rules,
+      (
+        omega (arith, c.requires.depth),
+        (
+          omega (arith, part.node, c.requires.node),
+          (
+            omega (arith, part.cover, c.requires.cover),
+            (
+              part_reached _ _ c.args.class.now _ _ c.loop-part.part-index _ c.in_ok-parts.ensures.value c.as_slice-part-items.ensures c.loop-part-test.true c.part-item.is c.requires.reached c.requires.undecided,
+              c.loop-part.invariant.sound,
+            ),
+          ),
+        ),
+      ),
+    )
+
+pub explore_parts-loop-part-preserved : goal.explore_parts-loop-part-preserved
+explore_parts-loop-part-preserved t c =
+    let found = subst (λ (f : Found). IsFound c.args.plan.now c.part-item.result c.args.depth c.explore.new.ranks f) c.in-Rank.is c.in_ok-other.ensures.found in
+    record {
+      keeps = keeps_more _ _ _ c.loop-part.invariant.keeps c.explore.ensures.keeps;
+      sound = c.explore.ensures.sound;
+      low = omega (arith, c.max-rank.ensures, c.loop-part.invariant.low);
+      few = omega (arith, c.max-rank.ensures, c.loop-part.invariant.few, found.1);
+      below = rw c.max-rank.ensures (parts_ranked _ _ _ c.loop-part.part-index c.loop-part.rank c.in-Rank.other _ c.loop-part-test.true c.part-item.is c.explore.ensures.keeps found.0 c.loop-part.invariant.below);
+      some = rw c.max-rank.ensures (parts_attained _ _ _ c.loop-part.part-index c.loop-part.rank c.in-Rank.other _ c.loop-part-test.true c.part-item.is c.explore.ensures.keeps found.0 c.loop-part.invariant.some);
+    }
+
+pub explore_parts-returns-clause-found : goal.explore_parts-returns-clause-found
+explore_parts-returns-clause-found t c = (
+  open_borne _ _ _ c.as_slice-part-items.result.now c.loop-part.rank c.loop-part.part-index (c.as_slice-part-items.ensures ∙ c.in_ok-parts.ensures.value) c.loop-part-test.false c.parts.ensures.class c.requires.node c.requires.cover c.requires.undecided c.requires.more c.loop-part.invariant.low (omega (arith, c.loop-part.invariant.few)) c.loop-part.invariant.below c.loop-part.invariant.some,
+  c.loop-part.invariant.few,
+)
+
+pub explore_target-explore-requires : goal.explore_target-explore-requires
+explore_target-explore-requires t c =
+    let stays : (c.in-Next.next.node < length c.args.plan.now.nodes) × (c.in-Next.next.cover ≡ c.args.class.now.cover) × (c.in-Next.next.most ≡ c.args.class.now.most) = c.in-Next.ensures.stays in
+    let nearer : c.args.depth < 14 = c.requires.depth in (
+      search rules,
+      (
+        omega arith,
+        (
+          stays.0,
+          (
+            omega (arith, stays.1, c.requires.cover),
+            (
+              image_reached _ c.args.depth c.args.place c.args.class.now _ c.in-Next.ensures.image (c.reaches.ensures.0 c.if-not-reaches.false) c.requires.decided c.requires.depth c.requires.reached,
+              c.requires.sound,
+            ),
+          ),
+        ),
+      ),
+    )
+
+pub explore_targets-returns-then-count-eq0-clause-found : goal.explore_targets-returns-then-count-eq0-clause-found
+explore_targets-returns-then-count-eq0-clause-found t c =
+    without_row c.args.plan.now c.args.class.now c.args.depth c.in_ok-least_title.field-0 c.in_ok-least_title.ensures.member c.in_ok-least_title.ensures.digits c.in_ok-least_title.ensures.markings c.requires.depth (omega (arith, c.target_count-count.ensures, c.if-count-eq0.true))
+
+pub explore_targets-loop-place-preserved : goal.explore_targets-loop-place-preserved
+explore_targets-loop-place-preserved t c =
+    let found = subst (λ (f : Found). IsLed c.args.plan.now c.args.class.now c.args.depth c.loop-place.place c.explore_target.new.ranks f) c.in-Rank.is c.in_ok-other.ensures.found in
+    record {
+      keeps = keeps_more _ _ _ c.loop-place.invariant.keeps c.explore_target.ensures.keeps;
+      sound = c.explore_target.ensures.sound;
+      low = omega (arith, c.max-rank.ensures, c.loop-place.invariant.low);
+      few = omega (arith, c.max-rank.ensures, c.loop-place.invariant.few, found.1);
+      leads = rw c.max-rank.ensures (targets_led c.args.plan.now _ _ c.args.class.now c.loop-place.place c.loop-place.rank c.in-Rank.other c.explore_target.ensures.keeps found.0.well c.loop-place.invariant.leads);
+      some = rw c.max-rank.ensures (targets_high c.args.plan.now _ _ c.args.class.now c.loop-place.rank c.in-Rank.other c.explore_target.ensures.keeps found.0.high c.loop-place.invariant.some);
+    }
+
+pub explore_targets-returns-clause-found : goal.explore_targets-returns-clause-found
+explore_targets-returns-clause-found t c = (
+  decided_borne _ _ c.args.class.now c.loop-place.rank c.loop-place.place c.requires.class c.requires.node c.requires.cover c.requires.decided
+      (omega (arith, c.target_count-count.ensures, c.if-count-eq0.false)) (omega (arith, c.target_count-count.ensures, c.loop-place-test.false))
+      c.loop-place.invariant.low (omega (arith, c.loop-place.invariant.few)) c.loop-place.invariant.leads c.loop-place.invariant.some,
+  c.loop-place.invariant.few,
+)

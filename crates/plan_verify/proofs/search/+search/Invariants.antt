@@ -1,0 +1,44 @@
+use Rattle.std.proofs.Common.{◌+◌, ◌-◌, ◌*◌, ◌≤◌, ◌<◌, ℕ, take}
+use Rattle.std.specs.List.{All, Any}
+use Rattle.plan_check.specs.Ranking.{rank_in}
+use Rattle.plan_check.specs.Ranked.{RanksUpTo, LeadsWell}
+use Rattle.plan_classes.specs.declared.leads.Image.{Image}
+use Rattle.plan_classes.specs.Classes.{Reaches, HasImage}
+use Rattle.plan_verify.specs.Attained.{RanksFrom, LeadsHigh}
+use Rattle.plan_verify.specs.Searching.{Keeps, IsSound}
+use Rattle.plan_verify.proofs.search.+search.Given as goal
+
+-- a part has fewer open digits, and what a target leads to as many and one rewriting more behind it
+abbrev pub decreases-explore : goal.decreases-explore
+decreases-explore l = 3 * ((14 - l.depth) + l.class.now.most) + 2
+
+abbrev pub decreases-explore_parts : goal.decreases-explore_parts
+decreases-explore_parts l = 3 * ((14 - l.depth) + l.class.now.most) + 1
+
+-- the parts so far rank up to the greatest, and one of them has it
+abbrev pub invariant-explore_parts-loop-part : goal.invariant-explore_parts-loop-part
+invariant-explore_parts-loop-part l = record {
+  keeps : Keeps l.fn.ranks l.ranks;
+  sound : IsSound l.plan l.ranks;
+  low : 1 ≤ l.rank;
+  few : l.depth + l.rank ≤ 14;
+  below : All (RanksUpTo (rank_in l.ranks) l.rank) (take l.part-index l.part-items);
+  some : 2 ≤ l.rank → Any (RanksFrom (rank_in l.ranks) l.rank) (take l.part-index l.part-items);
+}
+
+abbrev pub decreases-explore_targets : goal.decreases-explore_targets
+decreases-explore_targets l = 3 * ((14 - l.depth) + l.class.now.most) + 1
+
+abbrev pub decreases-explore_target : goal.decreases-explore_target
+decreases-explore_target l = 3 * ((14 - l.depth) + l.class.now.most)
+
+-- the targets so far lead well, and one of them as high as can be
+abbrev pub invariant-explore_targets-loop-place : goal.invariant-explore_targets-loop-place
+invariant-explore_targets-loop-place l = record {
+  keeps : Keeps l.fn.ranks l.ranks;
+  sound : IsSound l.plan l.ranks;
+  low : 1 ≤ l.rank;
+  few : l.depth + l.rank ≤ 14;
+  leads : (place : ℕ) (image : Image) → place < l.place → Reaches l.plan l.class place → HasImage l.plan l.class place image → LeadsWell l.plan (rank_in l.ranks) l.class.cover l.rank image;
+  some : 2 ≤ l.rank → LeadsHigh l.plan (rank_in l.ranks) l.class (l.rank - 1);
+}

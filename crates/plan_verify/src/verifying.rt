@@ -1,0 +1,96 @@
+//! The verdict on a plan.
+ghost use Rattle.std.specs.Prelude.{◌≡◌, ◌<◌, ◌≤◌, IfOk, IsSomeAnd, slice_get, length};
+ghost use Rattle.plan_model.specs.Network.{IsPlan};
+ghost use Rattle.plan_model.specs.Verdicts.{Tight};
+ghost use Rattle.plan_classes.specs.Classes.{start_of};
+ghost use Rattle.plan_check.specs.Ranking.{rank_in};
+ghost use Rattle.plan_check.specs.Ranked.{StartsBelow};
+ghost use Rattle.plan_verify.specs.Lawful.{IsLawful, plan_of};
+ghost use Rattle.plan_verify.specs.Searching.{IsSound, HasStart};
+ghost use Rattle.plan_verify.specs.Traces.{IsTrace};
+ghost use Rattle.plan_verify.specs.Witnesses.{IsWitness};
+
+use crate::descending::descend;
+use crate::outcome::{Greatest, Outcome};
+use crate::starts::explore_starts;
+use crate::trace::{Trace, spot_of};
+use crate::verdict::Verdict;
+use crate::witness::Witness;
+use plan_check::{CheckFault, Longest, Ranks, check};
+use plan_classes::start;
+use plan_model::Plan;
+use sccp_base::OutOfMemory;
+use std::alloc::Global;
+
+/// The verdict on a plan. `Accepted` where each covered title, whatever the relays on its route have prohibited, is blocked
+/// or has an allowed end within fourteen hops; `Refused` where one has a bad route; `TooWide` where so many titles are to be
+/// told apart that the search gave up, which comes only where the plan reaches at least 262,144 classes of them.
+pub fn verify(alloc: Global, plan: Plan) -> Result<Verdict, OutOfMemory>
+    ensures same { IfOk result (λ verdict. plan_of verdict ≡ plan) }
+    ensures lawful { IfOk result (IsLawful plan) }
+{
+    let mut ranks = Ranks::new(alloc);
+    match explore_starts(alloc, &plan, &mut ranks)? {
+        Outcome::Ranked(greatest) => accept(alloc, plan, &ranks, greatest),
+        Outcome::Refuted(number, trace) => {
+            let witness = refute(alloc, &plan, number, trace)?;
+            Ok(Verdict::Refused(plan, witness))
+        }
+        Outcome::TooMany => Ok(Verdict::TooWide(plan)),
+    }
+}
+
+/// The witness of a title that a cover has.
+fn refute(alloc: Global, plan: &Plan, number: u16, trace: Trace) -> Result<Witness, OutOfMemory>
+    requires plan { IsPlan plan.now }
+    requires trace { IsSomeAnd (slice_get plan.now.covers number) (λ cover. IsTrace plan.now (start_of number cover) 0 trace) }
+    ensures { IfOk result (IsWitness plan.now) }
+{
+    let Trace { digits, markings } = trace;
+    let spot = spot_of(&start(plan, number), &digits);
+    Witness::of_route(alloc, plan, number, &spot, markings)
+}
+
+/// The plan with the greatest rank of a start as its bound.
+fn accept(
+    alloc: Global,
+    plan: Plan,
+    ranks: &Ranks,
+    greatest: Greatest,
+) -> Result<Verdict, OutOfMemory>
+    requires plan { IsPlan plan }
+    requires sound { IsSound plan ranks.now }
+    requires starts { StartsBelow plan (rank_in ranks.now) greatest.rank }
+    requires start { HasStart plan ranks.now greatest }
+    ensures same { IfOk result (λ verdict. plan_of verdict ≡ plan) }
+    ensures lawful { IfOk result (IsLawful plan) }
+{
+    let longest = longest(alloc, &plan, ranks, greatest)?;
+    match check(alloc, plan, ranks, longest) {
+        Ok(accepted) => Ok(Verdict::Accepted(accepted)),
+        Err(unchecked) => match unchecked.fault {
+            CheckFault::OutOfMemory => Err(OutOfMemory),
+            _ => unreachable!(),
+        },
+    }
+}
+
+/// A title that the cover has, whose route has as many hops as the rank of the cover's start.
+fn longest(
+    alloc: Global,
+    plan: &Plan,
+    ranks: &Ranks,
+    greatest: Greatest,
+) -> Result<Longest, OutOfMemory>
+    requires plan { IsPlan plan.now }
+    requires sound { IsSound plan.now ranks.now }
+    requires start { HasStart plan.now ranks.now greatest }
+    ensures { IfOk result (λ longest. Tight plan.now greatest.rank longest.spot longest.markings) }
+{
+    let class = start(plan, greatest.cover);
+    let Trace { digits, markings } = descend(alloc, plan, ranks, &class, greatest.rank)?;
+    Ok(Longest {
+        spot: spot_of(&class, &digits),
+        markings,
+    })
+}
