@@ -1,1 +1,4 @@
 pub mod Hexadecimal
+pub mod HopLines
+pub mod InPlan
+pub mod InVerdict

@@ -2,3 +2,6 @@ pub mod Values
 pub mod Fields
 pub mod Faults
 pub mod MessageText
+pub mod Hops
+pub mod PlanFaults
+pub mod Verdicts

@@ -1,19 +1,30 @@
-//! The printed text of SCCP messages.
+//! The printed text of SCCP messages, of the routes that titles take through a plan, and of the verdicts on plans.
 //!
 //! `message_text` gives the lines of the message that octets are: its type, a line for each field in the order of the message type (ITU-T Q.713 section 4),
 //! and a line for each optional parameter. Octets that are no message give one line that says why. The crate above may rely on the whole text being exactly
 //! that of `specs/MessageText`, which is built from a text for each field (`specs/Fields`) and for each value (`specs/Values`).
+//!
+//! `hops_text` gives a line for each hop of a route: the title, what was held prohibited, and what the relay did with it (Q.714 section 2).
+//! `plan_fault_text` says why a text is no plan, and where. `verdict_text` gives the verdict on a plan and the route that shows it, `accepted_text` the one line
+//! that a plan is accepted. These texts are exactly those of `specs/Hops`, `specs/PlanFaults` and `specs/Verdicts`.
 #![tactic(auto)]
 
 mod address;
 mod fault;
 mod fields;
+mod hop;
+mod mark;
 mod message;
+mod plan_fault;
 mod report;
 mod text;
 mod values;
+mod verdict;
 
+pub use hop::hops_text;
+pub use plan_fault::plan_fault_text;
 pub use report::message_text;
+pub use verdict::{accepted_text, verdict_text};
 
 #[cfg(test)]
 mod tests;

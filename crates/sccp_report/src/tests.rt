@@ -1,3 +1,8 @@
+mod plan_faults;
+mod routes;
+mod verdicts;
+mod whole_verdicts;
+
 use super::*;
 use std::alloc::Global;
 use std::test::*;

@@ -62,6 +62,15 @@ impl Text {
         self.put_number(number)
     }
 
+    /// Appends a name and a place or a count behind it.
+    #[tactic(auto, unfolding(crate::specs::Values::numbered))]
+    pub fn put_counted(&mut self, name: &[u8], count: usize) -> Result<(), OutOfMemory>
+        ensures { OnOk result (self.new ≡ self.old ++ numbered name.now count) }
+    {
+        self.put(name)?;
+        self.put(itoa::Buffer::new().format(count).as_bytes())
+    }
+
     /// Appends the two hexadecimal digits of an octet.
     #[tactic(auto, unfolding(hex::specs::Hex::encode_with))]
     pub fn put_octet(&mut self, octet: u8) -> Result<(), OutOfMemory>
