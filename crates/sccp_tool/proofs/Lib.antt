@@ -1,8 +1,12 @@
 mod CauseLemmas
 mod LimitLemmas
 mod LineLemmas
+mod PlanEnds
 mod ReadingLemmas
 mod RoseLemmas
 mod ShowLemmas
+mod StartLemmas
+mod VerdictEnds
+mod VerifyLemmas
 mod WorkLemmas
 mod WritingLemmas

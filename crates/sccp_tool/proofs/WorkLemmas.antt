@@ -3,13 +3,16 @@ use Rattle.std.proofs.Common.{◌≡◌, ◌≤◌, ℕ, List, [], ◌++◌, Opt
 use Rattle.std.specs.Prelude.{is_none, IsErrOf, OnOk}
 use Rattle.std.specs.Io.{StartsWith}
 use Rattle.std.specs.Io.KnownBytes.{append_known}
+use Rattle.plan_model.specs.Network.{Network}
+use Rattle.plan_verify.specs.Lawful.{IsLawful}
+use Rattle.plan_verify.specs.declared.verdict.Verdict.{Verdict}
 use Rattle.sccp_io.specs.Faults.{Rose}
 use Rattle.sccp_io.specs.Files.{Contents, Reads, lacks}
 use Rattle.sccp_tool.specs.Ending.{Goes, IsCut, IsSpared, Stops, Works, Answers, Outcome, Closes, answer_of}
 use Rattle.sccp_tool.specs.Moment.{Moment}
 use Rattle.sccp_tool.specs.Texts.{read_fault}
 use Rattle.sccp_tool.specs.Writing.{Writes}
-use Rattle.sccp_tool.specs.Work.{Work, finish, print, read, answered, Ends, ComesToReading, BeginsWith, HasFiles}
+use Rattle.sccp_tool.specs.Work.{Work, finish, print, read, judge, answered, Ends, ComesToReading, BeginsWith, HasFiles}
 use Rattle.sccp_tool.specs.declared.status.Status.{Status}
 use Rattle.sccp_tool.specs.declared.status.Status.TheVariants.{NoMemory, ReadFault, WriteFault}
 use Rattle.sccp_tool.specs.declared.stop.Stop.{Stop}
@@ -54,6 +57,7 @@ pub BeginsWith-nil : (contents : Option Contents) (work : Work) → BeginsWith c
 BeginsWith-nil contents (finish s) = refl
 BeginsWith-nil contents (print t w) = inl refl
 BeginsWith-nil contents (read name f) = inl refl
+BeginsWith-nil contents (judge plan f) = inl refl
 
 -- ---- want of memory before anything else
 
@@ -145,6 +149,25 @@ Works-reading name f stop b m p spared failed no_writing = record {
   at : (k : Option Contents) → b.contents ≡ k → IsTrue b.sound → IfSome k (λ c. HasFiles c (read name f) → m.read_faults ≡ b.read_faults)
   at None e h = tt
   at (Some c) e h = λ has. spared h (subst (λ k. lacks k name ≡ false) (sym e) (there (c name) has.0 has.1))
+
+-- ---- a verdict
+
+pub Works-judge : (plan : Network) (f : Verdict → Work) (verdict : Verdict) (result : Result Status Stop) (b a : Moment) → IsLawful plan verdict → Works (f verdict) result b a → Works (judge plan f) result b a
+Works-judge plan f verdict result b a lawful w = record {
+  text = w.text;
+  goes = w.goes;
+  stops = stops_judge result w.stops;
+  spared = λ h. at b.contents (w.spared h);
+} where
+  stops_judge : (r : Result Status Stop) → Stops (f verdict) r w.text b a → Stops (judge plan f) r w.text b a
+  stops_judge (Ok s) e = (e.0, (verdict, lawful, e.1))
+  stops_judge (Err Read) e = (e.0, (verdict, lawful, e.1))
+  stops_judge (Err Write) e = (e.0, inr (verdict, lawful, e.1))
+  stops_judge (Err Memory) e = inr (verdict, lawful, e)
+
+  at : (k : Option Contents) → IfSome k (λ c. HasFiles c (f verdict) → a.read_faults ≡ b.read_faults) → IfSome k (λ c. HasFiles c (judge plan f) → a.read_faults ≡ b.read_faults)
+  at None h = tt
+  at (Some c) h = λ has. h (has verdict lawful)
 
 -- ---- the end of the call
 

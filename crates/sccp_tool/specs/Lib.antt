@@ -6,11 +6,15 @@ pub mod LineFault
 pub mod Lines
 pub mod Moment
 pub mod Parsed
+pub mod Plans
 pub mod Reading
+pub mod Route
 pub mod Run
 pub mod Show
 pub mod Shown
+pub mod Starts
 pub mod Status
 pub mod Texts
+pub mod Verify
 pub mod Work
 pub mod Writing

@@ -1,4 +1,5 @@
-//! Shows SCCP messages (Q.713) that are given in hexadecimal digits, as a word or in a file with one a line.
+//! Shows SCCP messages (Q.713) that are given in hexadecimal digits, as a word or in a file with one a line, verifies a plan
+//! of relays, and follows a title through them (Q.714 section 2).
 //!
 //! The contract of `run` is what the program promises: the text that it writes and the status that it ends with, for any
 //! words, files and sink, with the cause of each status. `main` only makes the real files and the real sink and passes on
@@ -10,13 +11,17 @@ mod hex_word;
 mod limit;
 mod line_fault;
 mod lines;
+mod plans;
 mod reading;
+mod route;
 mod run;
 mod show;
+mod start;
 mod status;
 mod stop;
 #[cfg(test)]
 mod tests;
+mod verify;
 mod writing;
 
 use run::run;

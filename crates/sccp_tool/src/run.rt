@@ -1,23 +1,27 @@
 //! The whole program but for its edge.
-ghost use Rattle.std.specs.Prelude.{◌≡◌, ◌≢◌, ◌<◌, ◌-◌, ◌^◌, IsTrue, IfSome, None, Err};
+ghost use Rattle.std.specs.Prelude.{◌≡◌, ◌≢◌, ◌<◌, ◌-◌, ◌^◌, IsTrue, IfSome, Some, None, Err};
 ghost use Rattle.sccp_io.specs.Faults.{Rose};
 ghost use Rattle.sccp_tool.specs.Commands.{task_of, texts};
 ghost use Rattle.sccp_tool.specs.Ending.{Works, Outcome, Closes, answer_of};
 ghost use Rattle.sccp_tool.specs.Moment.{moment};
-ghost use Rattle.sccp_tool.specs.Run.{work_of, show_work, ExactlyWhere, CanBeDone, HasBadLine, HasLongFile, IsBuilt};
+ghost use Rattle.sccp_tool.specs.Parsed.{task_in};
+ghost use Rattle.sccp_tool.specs.Run.{work_of, show_work, ExactlyWhere, ComesWhere, RefusedWhere, CanBeDone, MustBeDone, HasBadRoute, HasWidePlan, HasBadPlan, HasBadLine, HasLongFile, TellsVerdict};
 ghost use Rattle.sccp_tool.specs.Work.{HasFiles};
 
 use crate::command::{Command, parse};
 use crate::limit::{Given, within_limit};
+use crate::route::route;
 use crate::show::show_answer;
 use crate::status::Status;
 use crate::stop::Stop;
+use crate::verify::verify;
 use crate::writing::print_last;
 use sccp_io::{Files, Sink};
 use sccp_report::message_text;
-use std::alloc::Global;
+use std::alloc::{AllocError, Global};
 
-const USAGE: &[u8] = b"usage: show-hex HEX | show FILE\n";
+const USAGE: &[u8] =
+    b"usage: show-hex HEX | show FILE | verify PLAN | route PLAN NODE SELECTOR SSN DIGITS\n";
 
 const READ_FAULT: &[u8] = b"read fault\n";
 
@@ -28,10 +32,20 @@ pub fn run<F: Files, K: Sink>(alloc: Global, words: &[String], files: &mut F, ou
         (moment F.contents F.sound F.faults K.taken K.faults files.old out.old)
         (moment F.contents F.sound F.faults K.taken K.faults files.new out.new) }
 
+    // The verdict on a plan, and its text.
+    ensures verdict { IfSome (F.contents files.old)
+        (λ c. TellsVerdict c (task_of (texts words.now)) result (K.taken out.old) (K.taken out.new)) }
+
     // The cause of each answer.
     ensures done { IfSome (F.contents files.old)
-        (λ c. ExactlyWhere Status.Done result (CanBeDone c (task_of (texts words.now)))) }
+        (λ c. ComesWhere Status.Done result (CanBeDone c (task_of (texts words.now))) (MustBeDone c (task_of (texts words.now)))) }
+    ensures refused { IfSome (F.contents files.old)
+        (λ c. RefusedWhere result (HasBadRoute c (task_of (texts words.now)))) }
+    ensures too_wide { IfSome (F.contents files.old)
+        (λ c. result ≡ Status.TooWide → HasWidePlan c (task_of (texts words.now))) }
     ensures usage { ExactlyWhere Status.Usage result (task_of (texts words.now) ≡ None) }
+    ensures bad_plan { IfSome (F.contents files.old)
+        (λ c. ExactlyWhere Status.BadPlan result (HasBadPlan c (task_of (texts words.now)))) }
     ensures bad_trace { IfSome (F.contents files.old)
         (λ c. ExactlyWhere Status.BadTrace result (HasBadLine c (task_of (texts words.now)))) }
     ensures too_long { IfSome (F.contents files.old)
@@ -41,7 +55,6 @@ pub fn run<F: Files, K: Sink>(alloc: Global, words: &[String], files: &mut F, ou
     // Sound files that have each file which the work comes to don't fail.
     ensures sound { IsTrue (F.sound files.old) → IfSome (F.contents files.old) (λ c. HasFiles c (work_of (task_of (texts words.now)))
         → (F.faults files.new ≡ F.faults files.old) × (F.faults files.old < 2 ^ 64 - 1 → result ≢ Status.ReadFault)) }
-    ensures built { IsBuilt result }
 {
     let worked = carry_out(alloc, words, files, out);
     close(worked, out)
@@ -58,13 +71,32 @@ fn carry_out<F: Files, K: Sink>(
         (moment F.contents F.sound F.faults K.taken K.faults files.old out.old)
         (moment F.contents F.sound F.faults K.taken K.faults files.new out.new) }
 {
-    match parse(alloc, words)? {
-        Some(Command::ShowHex(octets)) => {
-            let text = message_text(alloc, &octets)?;
+    match parse(alloc, words) {
+        Ok(Some(command)) => obey(alloc, &command, files, out),
+        Ok(None) => print_last(out, USAGE, Status::Usage),
+        Err(AllocError) => Err(Stop::Memory),
+    }
+}
+
+/// Does the work of a command.
+fn obey<F: Files, K: Sink>(
+    alloc: Global,
+    command: &Command<'_>,
+    files: &mut F,
+    out: &mut K,
+) -> Result<Status, Stop>
+    ensures { Works (work_of (task_in (Some command.now))) result
+        (moment F.contents F.sound F.faults K.taken K.faults files.old out.old)
+        (moment F.contents F.sound F.faults K.taken K.faults files.new out.new) }
+{
+    match command {
+        Command::ShowHex(octets) => {
+            let text = message_text(alloc, octets)?;
             print_last(out, text.as_slice(), Status::Done)
         }
-        Some(Command::Show(name)) => show(alloc, name, files, out),
-        None => print_last(out, USAGE, Status::Usage),
+        Command::Show(name) => show(alloc, name, files, out),
+        Command::Verify(name) => verify(alloc, name, files, out),
+        Command::Route(name, start) => route(alloc, name, start, files, out),
     }
 }
 

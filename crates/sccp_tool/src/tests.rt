@@ -5,13 +5,18 @@ ghost use Rattle.sccp_tool.specs.Commands.{task_of, texts};
 ghost use Rattle.sccp_tool.specs.Run.{work_of};
 ghost use Rattle.sccp_tool.specs.Work.{HasFiles};
 
+mod routes;
+mod verdicts;
+
 use crate::run::run;
 use crate::status::Status;
+use sccp_base::Octets;
 use sccp_io::{Files, MemoryFiles, MemorySink, Sink, SoundFiles, SoundSink};
 use std::alloc::{AllocError, Global};
 use std::test::Fail;
 
-const USAGE: &str = "usage: show-hex HEX | show FILE\n";
+const USAGE: &str =
+    "usage: show-hex HEX | show FILE | verify PLAN | route PLAN NODE SELECTOR SSN DIGITS\n";
 
 /// A UDT that routes on a global title, the same with two unused octets before the data, and the lines of each.
 const UDT: &str = "0900030E120B1206001204947101000021044301080802AABB";
@@ -29,6 +34,27 @@ called route title point - ssn 6 title 4:0:1:4 digits 491710000012\n\
 calling route ssn point 1-0-1 ssn 8 title - digits -\n\
 data AABB\n\
 canonical no\n";
+
+/// One relay with a destination and a backup.
+const ONE_RELAY: &str = r#"version = 1
+[[node]]
+name = "a"
+point = "1-0-2"
+subsystems = [8]
+[[node.row]]
+selector = "4:0:1:4"
+prefix = "49"
+first = { final = "2-0-1", ssn = 6 }
+backup = { final = "2-0-2", ssn = 6 }
+[[cover]]
+node = "a"
+selector = "4:0:1:4"
+ssn = 6
+prefix = "49"
+least = 12
+most = 12
+allowed = ["2-0-1/6", "2-0-2/6"]
+"#;
 
 /// The words between the blanks of a line.
 fn words_of(alloc: Global, line: &str) -> Result<Vec<String>, AllocError> {
@@ -56,6 +82,18 @@ fn run_into_sound_sink<F: Files>(
     ensures { result ≢ Status.WriteFault }
 {
     run(alloc, words, files, out)
+}
+
+/// The status and the text of these words, over one file named `f`.
+fn answer(alloc: Global, line: &str, octets: &[u8]) -> Result<(Status, Octets), Fail> {
+    let words = words_of(alloc, line)?;
+    let mut files = SoundFiles::new(one_file(alloc, octets)?);
+    let mut out = SoundSink::new(alloc);
+    let status = run_into_sound_sink(alloc, &words, &mut files, &mut out);
+    Ok((
+        status,
+        Octets::from_vec(Vec::from_slice(alloc, out.taken())?),
+    ))
 }
 
 /// Files in memory that are all there never fail, so no `ReadFault` comes.
@@ -88,6 +126,11 @@ fn words_without_a_shape_give_the_usage_line(rt: HostRuntime) -> Result<(), Fail
         "show \t",
         "show \u{e9}",
         "show f f",
+        "verify",
+        "verify ",
+        "verify \t",
+        "verify f f",
+        "Verify f",
         "--help",
         "--version",
     ] {

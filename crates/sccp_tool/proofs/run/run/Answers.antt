@@ -3,7 +3,7 @@ use Rattle.sccp_tool.specs.Commands.{Task, task_of, texts}
 use Rattle.sccp_tool.specs.Ending.{Outcome}
 use Rattle.sccp_tool.specs.Moment.{Moment, moment}
 use Rattle.sccp_tool.specs.Run.{work_of}
-use Rattle.sccp_tool.proofs.CauseLemmas.{done_cause, usage_cause, bad_line_cause, long_cause, read_cause, write_cause, sound_cause, built}
+use Rattle.sccp_tool.proofs.CauseLemmas.{verdict_told, done_cause, refused_cause, wide_cause, usage_cause, bad_plan_cause, bad_line_cause, long_cause, read_cause, write_cause, sound_cause}
 use Rattle.sccp_tool.proofs.WorkLemmas.{Outcome-closed}
 use Rattle.sccp_tool.proofs.run.run.Goals as goal
 
@@ -17,12 +17,15 @@ returns g c =
     Outcome-closed (work_of task) c.carry_out-worked.result c.close.result b m a c.carry_out-worked.ensures c.close.ensures refl refl refl in
     record {
       outcome = o;
+      verdict = verdict_told task c.close.result b a o;
       done = done_cause task c.close.result b a o;
+      refused = refused_cause task c.close.result b a o;
+      too_wide = wide_cause task c.close.result b a o;
       usage = usage_cause task c.close.result b a o;
+      bad_plan = bad_plan_cause task c.close.result b a o;
       bad_trace = bad_line_cause task c.close.result b a o;
       too_long = long_cause task c.close.result b a o;
       read_fault = read_cause task c.close.result b a o;
       write_fault = write_cause task c.close.result b a o;
       sound = sound_cause task c.close.result b a o;
-      built = built task c.close.result b a o;
     }

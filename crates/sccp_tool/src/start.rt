@@ -1,0 +1,65 @@
+//! Where a route begins.
+ghost use Rattle.std.specs.Prelude.{◌≡◌};
+ghost use Rattle.sccp_tool.specs.Starts.{node_name, ssn_of, digits_word, title_digits, start_of};
+
+use sccp_base::{Digits, Name, Selector, decimal};
+
+/// A title, and the name of the node where it is.
+#[derive(Clone, Copy, Debug)]
+pub struct Start {
+    pub node: Name,
+    pub selector: Selector,
+    pub ssn: u8,
+    pub digits: Digits,
+}
+
+/// The start that four words spell, or none where one of them has not its form.
+#[tactic(auto, unfolding(crate::specs::Starts::start_of))]
+pub fn start_of(node: &str, selector: &str, ssn: &str, digits: &str) -> Option<Start>
+    ensures { result ≡ start_of node.now selector.now ssn.now digits.now }
+{
+    let node = node_name(node.as_bytes())?;
+    let selector = Selector::parse(selector.as_bytes())?;
+    let ssn = ssn_of(ssn.as_bytes())?;
+    let digits = title_digits(digits)?;
+    Some(Start {
+        node,
+        selector,
+        ssn,
+        digits,
+    })
+}
+
+/// The name of a node.
+fn node_name(word: &[u8]) -> Option<Name>
+    ensures { result ≡ node_name word.now }
+{
+    Name::parse(word)
+}
+
+/// A subsystem number of one to ten decimal digits.
+fn ssn_of(word: &[u8]) -> Option<u8>
+    ensures { result ≡ ssn_of word.now }
+{
+    match decimal(word, 10) {
+        Some(value) if value < 256 => Some(value as u8),
+        _ => None,
+    }
+}
+
+/// The word that spells the digits: a hyphen stands for the empty one.
+fn digits_word(word: &str) -> &str
+    ensures { result.now ≡ digits_word word.now }
+{
+    if word == "-" { "" } else { word }
+}
+
+/// The digits of a title.
+fn title_digits(word: &str) -> Option<Digits>
+    ensures { result ≡ title_digits word.now }
+{
+    match Digits::parse(digits_word(word).as_bytes()) {
+        Ok(digits) => Some(digits),
+        Err(_) => None,
+    }
+}

@@ -1,0 +1,71 @@
+//! The command that verifies a plan.
+ghost use Rattle.std.specs.Prelude.{◌≡◌, IfOk};
+ghost use Rattle.plan_model.specs.Network.{IsPlan};
+ghost use Rattle.plan_verify.specs.Lawful.{IsLawful, plan_of};
+ghost use Rattle.sccp_report.specs.Verdicts.{verdict_text};
+ghost use Rattle.sccp_tool.specs.Ending.{Works};
+ghost use Rattle.sccp_tool.specs.Moment.{moment};
+ghost use Rattle.sccp_tool.specs.Verify.{status_of, verify_work};
+
+use crate::plans::{Planned, with_plan};
+use crate::status::Status;
+use crate::stop::Stop;
+use crate::writing::print_last;
+use plan_model::Plan;
+use plan_verify::Verdict;
+use sccp_base::{Octets, OutOfMemory};
+use sccp_io::{Files, Sink};
+use sccp_report::verdict_text;
+use std::alloc::Global;
+
+/// Prints the verdict on the plan of a file, and the route that shows it.
+pub fn verify<F: Files, K: Sink>(
+    alloc: Global,
+    name: &str,
+    files: &mut F,
+    out: &mut K,
+) -> Result<Status, Stop>
+    ensures { Works (verify_work name.now) result
+        (moment F.contents F.sound F.faults K.taken K.faults files.old out.old)
+        (moment F.contents F.sound F.faults K.taken K.faults files.new out.new) }
+{
+    match with_plan(alloc, name, files, out)? {
+        Planned::Plan(plan) => {
+            let verdict = plan_verify::verify(alloc, plan)?;
+            let text = lawful_text(alloc, plan_of(&verdict), &verdict)?;
+            print_last(out, text.as_slice(), status_of(&verdict))
+        }
+        Planned::Answered(status) => Ok(status),
+    }
+}
+
+/// The text of a lawful verdict, whose route stays in the plan.
+fn lawful_text(alloc: Global, plan: &Plan, verdict: &Verdict) -> Result<Octets, OutOfMemory>
+    requires plan { IsPlan plan.now }
+    requires same { plan_of verdict.now ≡ plan.now }
+    requires lawful { IsLawful plan.now verdict.now }
+    ensures { IfOk result (λ text. text ≡ verdict_text plan.now verdict.now) }
+{
+    verdict_text(alloc, plan, verdict)
+}
+
+/// The plan that the verdict is on.
+fn plan_of(verdict: &Verdict) -> &Plan
+    ensures { result.now ≡ plan_of verdict.now }
+{
+    match verdict {
+        Verdict::Accepted(accepted) => accepted.plan(),
+        Verdict::Refused(plan, _) | Verdict::TooWide(plan) => plan,
+    }
+}
+
+/// The answer of a verdict.
+fn status_of(verdict: &Verdict) -> Status
+    ensures { result ≡ status_of verdict.now }
+{
+    match verdict {
+        Verdict::Accepted(_) => Status::Done,
+        Verdict::Refused(_, _) => Status::Refused,
+        Verdict::TooWide(_) => Status::TooWide,
+    }
+}
