@@ -24,7 +24,7 @@ use Rattle.sccp_tool.specs.declared.line_fault.LineFault.{LineFault}
 use Rattle.sccp_tool.specs.declared.start.Start.{Start}
 use Rattle.sccp_tool.specs.declared.status.Status.{Status}
 use Rattle.sccp_tool.specs.declared.status.Status.TheVariants.{Done, Refused, Usage, BadPlan, BadTrace, TooWide, TooLong, NoMemory, ReadFault, WriteFault}
-use Rattle.sccp_tool.proofs.PlanEnds.{PlanEnds, not_both, long, bad, good, Ends-planned, PlanEnds-bad, PlanEnds-long, bad_from_err, long_from_more, on_from_ok}
+use Rattle.sccp_tool.proofs.PlanEnds.{PlanEnds, not_both, good, Ends-planned, PlanEnds-bad, PlanEnds-long, bad_from_err, long_from_more, on_from_ok}
 use Rattle.sccp_tool.proofs.VerdictEnds.{Judged, Ends-verified, Ends-on_verdict, HasPlan-of, on_verdict, at_verify, judged_at, safe_from_done, bad_from_refused, wide_from_too_wide, done_if_safe, refused_if_bad, told as verdict_tells}
 use Rattle.sccp_tool.proofs.WorkLemmas.{same_octets}
 

@@ -1,5 +1,5 @@
 //! Whole calls over files and sinks in memory.
-ghost use Rattle.std.specs.Prelude.{◌≡◌, ◌≢◌, Some, IsSome};
+ghost use Rattle.std.specs.Prelude.{◌≢◌};
 ghost use Rattle.sccp_io.specs.Memory.{file_named, files_in};
 ghost use Rattle.sccp_tool.specs.Commands.{task_of, texts};
 ghost use Rattle.sccp_tool.specs.Run.{work_of};
