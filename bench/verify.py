@@ -1,0 +1,56 @@
+#!/usr/bin/env python3
+"""Measures the verdict: time and peak memory of `verify` on plans of growing width and of growing number of relays.
+
+The plans are made so: relays n0, n1 and so on in a chain, each with a hundred rows of two decimal digits that relay to the
+next, the last with a hundred destinations; covers at n0, equal to each other, of exactly two digits. Each cover has 111
+classes at n0, with no, one or two known digits, and 100 at each relay behind it. The time has to grow as their number does;
+the last plan has more than 262,144 and is too wide.
+
+Run it from anywhere: bench/verify.py [PROGRAM]. It builds nothing: run ./sccp once before.
+"""
+import os
+import resource
+import subprocess
+import sys
+import tempfile
+import time
+
+TOP = os.path.dirname(os.path.dirname(os.path.abspath(__file__)))
+PROGRAM = sys.argv[1] if len(sys.argv) > 1 else os.path.join(TOP, "crates/sccp_tool/out/sccp_tool")
+CHILD = ("import resource, subprocess, sys, time; start = time.monotonic(); "
+         "done = subprocess.run(sys.argv[1:], capture_output=True); seconds = time.monotonic() - start; "
+         "print(done.returncode, seconds, resource.getrusage(resource.RUSAGE_CHILDREN).ru_maxrss, "
+         "done.stdout.decode().split(chr(10))[0])")
+
+
+def plan(nodes, covers):
+    lines = ["version = 1"]
+    for i in range(nodes):
+        lines += ["[[node]]", f'name = "n{i}"', f'point = "{i + 1}"']
+        for j in range(100):
+            first = f'{{ relay = "n{i + 1}" }}' if i + 1 < nodes else '{ final = "2-0-1", ssn = 6 }'
+            lines += ["[[node.row]]", 'selector = "4:0:1:4"', f'prefix = "{j:02}"', f"first = {first}"]
+    for _ in range(covers):
+        lines += ["[[cover]]", 'node = "n0"', 'selector = "4:0:1:4"', "ssn = 6", 'prefix = ""', "least = 2", "most = 2",
+                  'allowed = ["2-0-1/6"]']
+    return "\n".join(lines) + "\n"
+
+
+def measure(folder):
+    done = subprocess.run([sys.executable, "-c", CHILD, PROGRAM, "verify", "plan.toml"], cwd=folder, capture_output=True)
+    status, seconds, peak, first = done.stdout.decode().strip().split(" ", 3)
+    return float(seconds), int(status), int(peak) / 1024, first
+
+
+def main():
+    with tempfile.TemporaryDirectory() as folder:
+        for nodes, covers in ((2, 1), (2, 16), (2, 64), (2, 256), (4, 256), (7, 256), (14, 23), (14, 46), (14, 92), (14, 185), (14, 256)):
+            with open(os.path.join(folder, "plan.toml"), "w") as made:
+                made.write(plan(nodes, covers))
+            seconds, status, peak, first = min(measure(folder) for _ in range(3))
+            classes = covers * (111 + 100 * (nodes - 1))
+            print(f"{nodes} relays, {covers} covers, {classes} classes: status {status}, {first}, "
+                  f"{seconds * 1000:.1f} ms, peak {peak:.1f} MB")
+
+
+main()
