@@ -1,4 +1,4 @@
-ghost use Rattle.std.specs.Prelude.{◌≡◌, ℕ, ◌<◌, ◌≤◌, ◌+◌, List, [], ◌∷◌, ◌++◌, length, take, IsTrue, ◌↔◌, slice_get, Some, drop, SomeIff, replicate};
+ghost use Rattle.std.specs.Prelude.{◌≡◌, ℕ, ◌<◌, ◌≤◌, ◌+◌, List, [], ◌∷◌, ◌++◌, length, IsTrue, ◌↔◌, slice_get, Some, drop, SomeIff, replicate};
 ghost use Rattle.std.specs.List.{starts_with, All};
 ghost use Rattle.std.specs.Prelude.{nat_eq, nat_le, ◌*◌, if◌then◌else◌, IfOk, IfSome, slice_index};
 ghost use Rattle.sccp_base.specs.Bcd.{halves, unpacked, packed};
@@ -204,7 +204,7 @@ impl Digits {
     pub fn starts_with(&self, prefix: &Digits) -> bool
         ensures { result ≡ starts_with nat_eq self.now prefix.now }
     {
-        self.as_slice().starts_with(prefix.as_slice())
+        begins(self.as_slice(), prefix.as_slice())
     }
 }
 
@@ -244,6 +244,22 @@ impl Ord for Digits {
     fn cmp(&self, other: &Digits) -> Ordering {
         self.as_slice().cmp(other.as_slice())
     }
+}
+
+/// Whether the second list begins the first. It is compared digit by digit, since most prefixes differ in one of the first.
+fn begins(digits: &[u8], prefix: &[u8]) -> bool
+    ensures { result ≡ starts_with nat_eq digits.now prefix.now }
+{
+    if digits.len() < prefix.len() {
+        return false;
+    }
+    let front = &digits[..prefix.len()];
+    for (i, digit) in prefix.iter().enumerate() {
+        if front[i] != *digit {
+            return false;
+        }
+    }
+    true
 }
 
 fn are_decimal(halves: &[u8]) -> bool
