@@ -1,16 +1,11 @@
 -- A loop that takes one value after another, as `each_ok` does. `seen` is what a definition sees of an element.
-use Rattle.std.proofs.Common.{◌≡◌, ℕ, ◌+◌, ◌<◌, ◌≤◌, Bool, true, false, List, [], ◌∷◌, ◌++◌, length, get_or, drop, map, Result, Ok, Err, refl, sym, ap, ◌∙◌, add-one, drop-cons, append_assoc}
+use Rattle.std.proofs.Common.{◌≡◌, ℕ, ◌+◌, ◌<◌, ◌≤◌, Bool, true, false, List, [], ◌∷◌, ◌++◌, length, get_or, drop, map, Result, Ok, Err, sym, ap, ◌∙◌, add-one, drop-cons}
 use Rattle.std.specs.Prelude.{⊤}
 use Rattle.std.specs.Bool.{MatchBool}
-use Rattle.std.proofs.lemmas.List.{append-nil}
+use Rattle.std.proofs.lemmas.List.{append-nil, drop_all}
 use Rattle.sccp_base.specs.Answers.{◌>>=◌}
-use Rattle.sccp_base.proofs.AllOk.{with_front}
+use Rattle.sccp_base.proofs.AllOk.{regroup, with_front}
 use Rattle.plan_text.specs.EachOk.{each_ok}
-use Rattle.plan_text.proofs.Seen.{drop_all}
-
-regroup : {B E : Type 0} (front : List B) (y : B) (read : Result (List B) E) → with_front front (read >>= λ ys. Ok (y ∷ ys)) ≡ with_front (front ++ y ∷ []) read
-regroup front y (Ok ys) = ap Ok (sym (append_assoc front (y ∷ []) ys))
-regroup front y (Err e) = refl
 
 -- what is still read from a place on
 abbrev pub ahead : {V A B E : Type 0} → (V → A) → (ℕ → A → Result B E) → ℕ → List V → Result (List B) E
@@ -41,5 +36,5 @@ ends is_memory e seen read front xs i x total lt at here so_far = ends_by (is_me
 pub is_done : {V A B E : Type 0} (seen : V → A) (read : ℕ → A → Result B E) (front : List B) (xs : List V) (i : ℕ) (total : Result (List B) E)
     → length xs ≤ i → with_front front (ahead seen read i xs) ≡ total → total ≡ Ok front
 is_done seen read front xs i total le so_far =
-    let one : with_front front (ahead seen read i xs) ≡ Ok front = ap (λ zs. with_front front (each_ok read i (map seen zs))) (drop_all xs i le) ∙ ap Ok (append-nil front) in
+    let one : with_front front (ahead seen read i xs) ≡ Ok front = ap (λ zs. with_front front (each_ok read i (map seen zs))) (drop_all i xs le) ∙ ap Ok (append-nil front) in
     sym so_far ∙ one

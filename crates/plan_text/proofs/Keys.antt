@@ -1,5 +1,5 @@
 -- What a table has under one key, and the keys that it has beside the listed ones.
-use Rattle.std.proofs.Common.{◌≡◌, ℕ, Bool, true, false, not, ◌||◌, nat_eq, List, [], ◌∷◌, map, Option, Some, None, Bor, String, Global, string_bytes, refl, ap, ◌∙◌}
+use Rattle.std.proofs.Common.{◌≡◌, ℕ, Bool, true, false, not, nat_eq, List, ◌∷◌, map, Option, Some, None, Bor, String, Global, string_bytes, ap, ◌∙◌}
 use Rattle.std.specs.List.{list_any}
 use Rattle.std.specs.Option.{option_map_or}
 use Rattle.std.specs.Cmp.Lexicographic.{pointwise}
@@ -7,6 +7,7 @@ use Rattle.toml.specs.Data.{Data, Members, get_member}
 use Rattle.toml.specs.View.{members_view}
 use Rattle.toml.specs.declared.value.Value.{Value}
 use Rattle.plan_text.specs.Shape.{Shape, Line, right_if, line_shape, has_other}
+use Rattle.plan_text.proofs.Seen.{list_any-map}
 
 -- a key that is there, and one that is absent
 pub there : (table : Members) (l : Line) (d : Data) (answer : Shape) → Some d ≡ get_member l.word table → answer ≡ l.check l.place d → answer ≡ line_shape table l
@@ -14,10 +15,6 @@ there table l d answer e checked = checked ∙ ap (λ (o : Option Data). option_
 
 pub absent : (table : Members) (l : Line) (answer : Shape) → None ≡ get_member l.word table → answer ≡ right_if (not l.is_required) l.place → answer ≡ line_shape table l
 absent table l answer e checked = checked ∙ ap (λ (o : Option Data). option_map_or (l.check l.place) o (right_if (not l.is_required) l.place)) e
-
-pub list_any-map : {A B : Type 0} (test : B → Bool) (f : A → B) (xs : List A) → list_any test (map f xs) ≡ list_any (λ x. test (f x)) xs
-list_any-map test f [] = refl
-list_any-map test f (x ∷ xs) = ap (λ (rest : Bool). test (f x) || rest) (list_any-map test f xs)
 
 abbrev pub texts : List (Bor (List ℕ)) → List (List ℕ)
 texts words = map (λ word. word.now) words

@@ -2,7 +2,8 @@
 use Rattle.std.specs.Prelude.{ℕ, ◌≡◌, ◌+◌, ◌<◌, ◌≤◌, Bool, true, false, not, ◌||◌, cond, List, [], ◌∷◌, map, length, drop, Option, Some, None, option_map, refl}
 use Rattle.std.specs.List.{find, list_any, position, prefix_len}
 use Rattle.std.specs.Option.{option_or, unwrap_or}
-use Rattle.std.proofs.Common.{zero, suc, sym, ◌∙◌, ap, arith, get_or, add-one, drop-cons}
+use Rattle.std.proofs.Common.{sym, ◌∙◌, ap, get_or, add-one, drop-cons}
+use Rattle.std.proofs.lemmas.List.{drop_all, length-map}
 use Rattle.plan_rules.specs.FirstOf.{first_of}
 
 pub find-map : {V A : Type 0} (p : A → Bool) (seen : V → A) (xs : List V) → find p (map seen xs) ≡ option_map seen (find (λ x. p (seen x)) xs)
@@ -17,15 +18,11 @@ prefix_len-map : {V A : Type 0} (p : A → Bool) (seen : V → A) (xs : List V) 
 prefix_len-map p seen [] = refl
 prefix_len-map p seen (x ∷ xs) = ap (λ n. cond (p (seen x)) (1 + n) 0) (prefix_len-map p seen xs)
 
-length-seen : {V A : Type 0} (seen : V → A) (xs : List V) → length (map seen xs) ≡ length xs
-length-seen seen [] = refl
-length-seen seen (x ∷ xs) = ap suc (length-seen seen xs)
-
 pub position-map : {V A : Type 0} (p : A → Bool) (seen : V → A) (xs : List V) → position p (map seen xs) ≡ position (λ x. p (seen x)) xs
-position-map p seen xs = rw (prefix_len-map (λ x. not (p x)) seen xs, length-seen seen xs) refl
+position-map p seen xs = rw (prefix_len-map (λ x. not (p x)) seen xs, length-map xs seen) refl
 
 pub position_or_length : {V A : Type 0} (p : A → Bool) (seen : V → A) (xs : List V) (o : Option ℕ) → o ≡ position (λ x. p (seen x)) xs → unwrap_or o (length xs) ≡ unwrap_or (position p (map seen xs)) (length (map seen xs))
-position_or_length p seen xs o e = ap (λ (q : Option ℕ). unwrap_or q (length xs)) (e ∙ sym (position-map p seen xs)) ∙ ap (λ n. unwrap_or (position p (map seen xs)) n) (sym (length-seen seen xs))
+position_or_length p seen xs o e = ap (λ (q : Option ℕ). unwrap_or q (length xs)) (e ∙ sym (position-map p seen xs)) ∙ ap (λ n. unwrap_or (position p (map seen xs)) n) (sym (length-map xs seen))
 
 pub list_any-map : {V A : Type 0} (p : A → Bool) (seen : V → A) (xs : List V) → list_any p (map seen xs) ≡ list_any (λ x. p (seen x)) xs
 list_any-map p seen [] = refl
@@ -45,11 +42,5 @@ pub first_next : {V A B : Type 0} (seen : V → A) (test : ℕ → A → Option 
 first_next {V} {A} {B} seen test xs j x whole lt at not_here rest =
     sym (first_of-drop seen test xs j x lt at ∙ ap (λ (o : Option B). option_or o (first_of test (j + 1) (map seen (drop (j + 1) xs)))) not_here) ∙ rest
 
-pub drop_all : {V : Type 0} (xs : List V) (j : ℕ) → length xs ≤ j → drop j xs ≡ []
-drop_all [] zero h = refl
-drop_all (x ∷ xs) zero h = absurd (omega arith)
-drop_all [] (suc j) h = refl
-drop_all (x ∷ xs) (suc j) h = drop_all xs j (omega arith)
-
 pub first_end : {V A B : Type 0} (seen : V → A) (test : ℕ → A → Option B) (xs : List V) (j : ℕ) (whole : Option B) → length xs ≤ j → first_of test j (map seen (drop j xs)) ≡ whole → None ≡ whole
-first_end seen test xs j whole le rest = sym (ap (λ zs. first_of test j (map seen zs)) (drop_all xs j le)) ∙ rest
+first_end seen test xs j whole le rest = sym (ap (λ zs. first_of test j (map seen zs)) (drop_all j xs le)) ∙ rest

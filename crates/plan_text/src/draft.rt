@@ -1,6 +1,5 @@
 //! Nodes, as a plan text writes them: their rows aren't yet a table.
-ghost use Rattle.std.specs.Prelude.{◌≡◌, ◌==◌, ◌<◌, IfOk, All, map, length, nat_eq};
-ghost use Rattle.std.specs.List.{list_any};
+ghost use Rattle.std.specs.Prelude.{◌≡◌, ◌==◌, ◌<◌, IfOk, map};
 ghost use Rattle.toml.specs.View.{view};
 ghost use Rattle.sccp_base.specs.Answers.{Answers};
 ghost use Rattle.plan_model.specs.Network.{IsNode};

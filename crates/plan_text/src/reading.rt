@@ -6,7 +6,7 @@ ghost use Rattle.plan_model.specs.Network.{IsNode, IsPlan};
 ghost use Rattle.plan_model.specs.Faults.{HasFewDigits};
 ghost use Rattle.plan_model.specs.declared.plan_fault.PlanFault.{PlanFault};
 ghost use Rattle.plan_text.specs.Faults.{is_memory};
-ghost use Rattle.plan_text.specs.PlanText.{document_of, version_of, finished, resolved, valued, limited, shaped, planned, plan_of};
+ghost use Rattle.plan_text.specs.PlanText.{document_of, version_of, finished, resolved, valued, limited, shaped, plan_of};
 
 use crate::counts::too_many;
 use crate::covers::covers_of;

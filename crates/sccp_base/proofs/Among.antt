@@ -1,12 +1,18 @@
 -- an element among those of a list, by recursion, and what a filter and a search make of it
 use Rattle.std.specs.Prelude.{ℕ, ◌≡◌, ◌<◌, ◌+◌, ◌⊎◌, Bool, true, false, cond, List, [], ◌∷◌, length, Some, None, refl, not, nat_lt, slice_get, ◌≤◌}
-use Rattle.std.specs.List.{filter, find, list_all, list_any, AllPairs, position, position_or_len, prefix_len}
+use Rattle.std.specs.List.{All, filter, find, list_all, list_any, AllPairs, position, position_or_len, prefix_len}
 use Rattle.std.proofs.Common.{zero, sym, ◌∙◌, ap, subst, inl, inr, ⊎_elim, arith, get_or, suc}
 use Rattle.std.proofs.lemmas.Bool.{false≢true, and_parts, and_from, cases_order, cond-false, not-true, ltb-false, or_parts}
 
 abbrev pub Among : {X : Type 0} → X → List X → Type 0
 Among x [] = ⊥
 Among x (y ∷ ys) = (y ≡ x) ⊎ Among x ys
+
+-- what holds of all elements holds of one among them
+pub All-among : {X : Type 0} (P : X → Type 0) (x : X) (xs : List X) → All P xs → Among x xs → P x
+All-among {X} P x [] all m = absurd m
+All-among {X} P x (y ∷ ys) all m =
+    ⊎_elim (λ (e : y ≡ x). subst P e (all 0 y (omega arith))) (λ (n : Among x ys). All-among P x ys (λ k d lt. all (suc k) d (omega arith)) n) m
 
 pub Among-filter : {X : Type 0} (p : X → Bool) (x : X) (xs : List X) → p x ≡ true → Among x xs → Among x (filter p xs)
 Among-filter p x [] h m = m

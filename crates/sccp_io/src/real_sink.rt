@@ -1,5 +1,5 @@
 //! The standard output.
-ghost use Rattle.std.specs.Prelude.{◌≡◌, ℕ, ◌<◌, None, length, OnOk, OnErr, IsErrOf};
+ghost use Rattle.std.specs.Prelude.{◌≡◌, ℕ, ◌<◌, None, OnOk, OnErr, IsErrOf};
 ghost use Rattle.sccp_io.specs.Faults.{Rose};
 ghost use Rattle.sccp_io.specs.Sinks.{TakesFront};
 

@@ -1,5 +1,5 @@
 //! Files in memory that fail at an absent name alone.
-ghost use Rattle.std.specs.Prelude.{◌≡◌, ◌<◌, Some, [], true, false, length, OnOk, OnErr, IsErrOf};
+ghost use Rattle.std.specs.Prelude.{◌≡◌, ◌<◌, Some, [], true, false, OnOk, OnErr, IsErrOf};
 ghost use Rattle.std.proofs.Common.{refl};
 ghost use Rattle.sccp_io.specs.Faults.{Rose, HasCause};
 ghost use Rattle.sccp_io.specs.Files.{BeginsFile};

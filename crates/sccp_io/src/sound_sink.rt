@@ -1,5 +1,5 @@
 //! A sink in memory that never fails but for memory.
-ghost use Rattle.std.specs.Prelude.{◌≡◌, ℕ, ◌<◌, List, Some, [], length};
+ghost use Rattle.std.specs.Prelude.{◌≡◌, ℕ, ◌<◌, List, Some, []};
 
 use crate::append::append;
 use crate::{IoFault, Sink};

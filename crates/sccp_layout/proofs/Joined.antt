@@ -14,7 +14,7 @@ use Rattle.sccp_layout.specs.Joining.{number_octets, spelled_part, spelled_parts
 use Rattle.sccp_layout.specs.Parts.{Fits, FitsLayout, ParamsAre, HasParts}
 use Rattle.sccp_layout.specs.Splitting.{parts_of}
 use Rattle.sccp_layout.specs.declared.parts.JoinFault.{JoinFault}
-use Rattle.sccp_layout.proofs.Laws.{parts_again}
+use Rattle.sccp_layout.proofs.Laws.{parts_again, some_part}
 
 abbrev pub whole : List (List ℕ) → List ℕ
 whole ps = flat_map (λ p. p) ps
@@ -208,11 +208,6 @@ fixed_here l p fits =
 some_octets : (two : Bool) (x more : List ℕ) → (o : ℕ) × (os : List ℕ) × (spelled_part two x ≡ o ∷ os)
 some_octets true x more = (length x % 256, length x / 256 ∷ x, refl)
 some_octets false x more = (length x, x, refl)
-
-some_part : (parts : List (List ℕ)) (i : ℕ) → i < length parts → (x : List ℕ) × (slice_get parts i ≡ Some x)
-some_part [] i lt = absurd (omega arith)
-some_part (x ∷ xs) zero lt = (x, refl)
-some_part (x ∷ xs) (suc i) lt = some_part xs i (omega arith)
 
 variable_here : (l : Layout) (p : Parts) → Fits l p → (i : ℕ) → i < l.variable → IsTrue (names_place l (joined l p) i) × (part l (joined l p) i ≡ slice_get p.variable i)
 variable_here l p fits i lt =

@@ -122,7 +122,7 @@ pub parts_take : (b : List ℕ) (p : Parts) → parts_of b ≡ Ok p → HasParts
 parts_take [] p e = absurd cc
 parts_take (code ∷ rest) p e = let l = if_layout (layout_of code) code (code ∷ rest) p e in by_takes code l.0 rest p l.1 l.2
 
-some_part : (parts : List (List ℕ)) (i : ℕ) → i < length parts → (x : List ℕ) × (slice_get parts i ≡ Some x)
+pub some_part : (parts : List (List ℕ)) (i : ℕ) → i < length parts → (x : List ℕ) × (slice_get parts i ≡ Some x)
 some_part [] i lt = absurd (omega arith)
 some_part (x ∷ xs) zero lt = (x, refl)
 some_part (x ∷ xs) (suc i) lt = some_part xs i (omega arith)
