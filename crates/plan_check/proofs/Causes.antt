@@ -1,46 +1,27 @@
 -- what passes the tests of a class, and why a class fails one
-use Rattle.std.specs.Prelude.{ℕ, ◌≡◌, ◌<◌, ◌≤◌, List, [], ◌∷◌, ◌++◌, length, Option, Some, None, IsSome, IsSomeAnd, refl}
+use Rattle.std.specs.Prelude.{ℕ, ◌≡◌, ◌<◌, ◌≤◌, List, length, Option, Some, None, IsSome, IsSomeAnd, refl}
 use Rattle.std.specs.List.{All, Contains}
-use Rattle.std.specs.Option.{option_map_or}
-use Rattle.std.proofs.Common.{sym, ◌∙◌, ap, subst, inl, inr, ⊎_elim, arith}
+use Rattle.std.proofs.Common.{sym, subst, inl, inr, ⊎_elim}
 use Rattle.std.proofs.lemmas.Bool.{cases_lt}
-use Rattle.std.proofs.lemmas.List.{append-nil}
 use Rattle.std.proofs.lemmas.List.Elements.{All-weaker, All-contains}
-use Rattle.plan_rules.specs.Rule.{Rule, targets}
 use Rattle.plan_model.specs.Network.{Network}
-use Rattle.plan_model.specs.Steps.{row_of}
 use Rattle.plan_classes.specs.declared.leads.Image.{Image}
 use Rattle.plan_classes.specs.declared.leads.Image.TheVariants.{Next, Ends, NotEquipped, TooLong}
-use Rattle.plan_classes.specs.Titles.{Titles, IsClass, IsMember, spot_of, parts_of}
-use Rattle.plan_classes.specs.Classes.{Decided, class_row, class_targets}
+use Rattle.plan_classes.specs.Titles.{Titles, IsClass, parts_of}
+use Rattle.plan_classes.specs.Classes.{Decided, class_row}
+use Rattle.plan_classes.proofs.Deciding.{one_decided}
 use Rattle.plan_check.specs.declared.check_fault.CheckFault.{CheckFault}
 use Rattle.plan_check.specs.declared.check_fault.CheckFault.TheVariants.{NoStart, NoRank, NotLower, BadEnd, NotTight, OutOfMemory}
 use Rattle.plan_check.specs.Ranked.{RanksUpTo, LeadsWell, IsRankedDecided, IsRankedOpen, IsRankedClass}
 use Rattle.plan_check.specs.Checks.{LeadsTo, MayLead, NextHasRank, NextIsLower, HasGoodEnds, HasRanks, IsLower, IsClassFault}
-
-empty : (xs : List ℕ) → length xs ≤ 0 → xs ≡ []
-empty [] le = refl
-empty (x ∷ xs) le = absurd (omega (arith, le))
-
--- a class without open digits has one member
-only : (c : Titles) (digits : List ℕ) → c.most ≤ 0 → IsMember c digits → digits ≡ c.known
-only c digits none m = m.whole ∙ ap (λ (xs : List ℕ). c.known ++ xs) (empty m.rest (omega (arith, none, m.most))) ∙ append-nil c.known
 
 -- so an undecided class has open digits
 pub open_more : (plan : Network) (c : Titles) → (Decided plan c → ⊥) → 0 < c.most
 open_more plan c undecided =
     ⊎_elim
     (λ (lt : 0 < c.most). lt)
-    (λ (none : c.most ≤ 0). absurd (undecided (λ d e m n. ap (λ (x : List ℕ). row_of plan (spot_of c x)) (only c d none m ∙ sym (only c e none n)))))
+    (λ (none : c.most ≤ 0). absurd (undecided (one_decided plan c none)))
     (cases_lt 0 c.most)
-
--- a class with targets has a row
-row_of_some : (o : Option Rule) → 0 < length (option_map_or targets o []) → IsSome o
-row_of_some None lt = absurd (omega (arith, lt))
-row_of_some (Some r) lt = refl
-
-pub has_row : (plan : Network) (c : Titles) → 0 < length (class_targets plan c) → IsSome (class_row plan c)
-has_row plan c lt = row_of_some (class_row plan c) lt
 
 -- an undecided class of the plan has no end
 pub open_ends : (plan : Network) (c : Titles) → c.cover < length plan.covers → c.node < length plan.nodes → (Decided plan c → ⊥) → HasGoodEnds plan c
@@ -94,7 +75,7 @@ next_has_rank rank r NotEquipped lower = tt
 next_has_rank rank r TooLong lower = tt
 
 -- a class that passes the tests is ranked
-pub decided_ranked : (plan : Network) (rank : Titles → Option ℕ) (c : Titles) (r : ℕ) → IsClass c → c.cover < length plan.covers → c.node < length plan.nodes → Decided plan c → 0 < length (class_targets plan c) → (images : List Image) → AreLed plan c images → All (MayLead plan c.cover) images → (1 ≤ r) × (r ≤ 14) × All (NextIsLower rank r) images → IsRankedClass plan rank c r
+pub decided_ranked : (plan : Network) (rank : Titles → Option ℕ) (c : Titles) (r : ℕ) → IsClass c → c.cover < length plan.covers → c.node < length plan.nodes → Decided plan c → IsSome (class_row plan c) → (images : List Image) → AreLed plan c images → All (MayLead plan c.cover) images → (1 ≤ r) × (r ≤ 14) × All (NextIsLower rank r) images → IsRankedClass plan rank c r
 decided_ranked plan rank c r class cover node decided row images is may lower = record {
   low = lower.0;
   high = lower.1;
@@ -103,7 +84,7 @@ decided_ranked plan rank c r class cover node decided row images is may lower = 
   cover = cover;
   follows = inr (record {
     decided = decided;
-    row = has_row plan c row;
+    row = row;
     leads = λ place image reached has.
         let led : LeadsTo plan c image = (place, reached, has) in
         leads_well plan rank c.cover r image (all_led plan c images (MayLead plan c.cover) is may image led) (all_led plan c images (NextIsLower rank r) is lower.2 image led);
@@ -121,11 +102,11 @@ open_ranked plan rank c r class cover node undecided lower = record {
 }
 
 -- and one that fails one isn't
-pub decided_ends : (plan : Network) (c : Titles) → c.cover < length plan.covers → c.node < length plan.nodes → Decided plan c → 0 < length (class_targets plan c) → (images : List Image) → AreLed plan c images → All (MayLead plan c.cover) images → HasGoodEnds plan c
+pub decided_ends : (plan : Network) (c : Titles) → c.cover < length plan.covers → c.node < length plan.nodes → Decided plan c → IsSome (class_row plan c) → (images : List Image) → AreLed plan c images → All (MayLead plan c.cover) images → HasGoodEnds plan c
 decided_ends plan c cover node decided row images is may = record {
   cover = cover;
   node = node;
-  row = λ d. has_row plan c row;
+  row = λ d. row;
   ends = λ d. all_led plan c images (MayLead plan c.cover) is may;
 }
 

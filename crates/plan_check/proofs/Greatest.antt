@@ -24,7 +24,7 @@ pub record AreRanked (plan : Network) (rank : Titles → Option ℕ) (count grea
   pub each : (number : ℕ) (cover : Cover) → number < count → slice_get plan.covers number ≡ Some cover → RanksUpTo rank greatest (start_of number cover)
   pub one : ((count ≡ 0) × (greatest ≡ 0)) ⊎ HasStartOf plan rank greatest
 
-wider : (o : Option ℕ) (m n : ℕ) → m ≤ n → IsSomeAnd o (λ s. s ≤ m) → IsSomeAnd o (λ s. s ≤ n)
+pub wider : (o : Option ℕ) (m n : ℕ) → m ≤ n → IsSomeAnd o (λ s. s ≤ m) → IsSomeAnd o (λ s. s ≤ n)
 wider None m n le h = h
 wider (Some s) m n le h = omega (arith, le, h)
 

@@ -1,12 +1,12 @@
 -- ranks show that a plan is safe
 use Rattle.std.specs.Prelude.{ℕ, ◌≡◌, ◌<◌, ◌≤◌, List, [], ◌∷◌, length, Option, Some, None, IsSome, IsSomeAnd, slice_get, get_or, refl}
-use Rattle.std.specs.List.{All, Contains, filter_map}
+use Rattle.std.specs.List.{Contains, filter_map}
 use Rattle.std.specs.Option.{option_and_then, option_map_or}
 use Rattle.std.proofs.Common.{zero, suc, sym, ◌∙◌, ap, subst, ⊎_elim, arith}
 use Rattle.std.proofs.lemmas.Option.{slice_get_cases, slice_get-get_or}
 use Rattle.sccp_base.specs.declared.mark.Mark.{Mark}
 use Rattle.sccp_base.specs.Selector.{Numbers}
-use Rattle.sccp_base.proofs.Among.{Among, Among-slice_get}
+use Rattle.sccp_base.proofs.Among.{All-among, Among, Among-slice_get}
 use Rattle.plan_rules.specs.declared.target.Target.{Target}
 use Rattle.plan_rules.specs.declared.target.Target.TheVariants.{Relay}
 use Rattle.plan_rules.specs.Rule.{Rule, targets}
@@ -65,11 +65,6 @@ node_here plan n lt =
     (at.0, at.2, Among-slice_get plan.nodes n at.0 at.2))
     (λ (past : (length plan.nodes ≤ n) × (slice_get plan.nodes n ≡ None)). absurd (omega (arith, past.0)))
     (slice_get_cases plan.nodes n).1
-
-All-among : {X : Type 0} (P : X → Type 0) (x : X) (xs : List X) → All P xs → Among x xs → P x
-All-among {X} P x [] all m = absurd m
-All-among {X} P x (y ∷ ys) all m =
-    ⊎_elim (λ (e : y ≡ x). subst P e (all 0 y (omega arith))) (λ (n : Among x ys). All-among P x ys (λ k d lt. all (suc k) d (omega arith)) n) m
 
 -- a decided class: the step is taken by its row, and leads on to a lower rank or ends well
 decided_well : (plan : Network) (rank : Titles → Option ℕ) (k : ℕ) → IsPlan plan → EndsWell plan rank k → (c : Titles) (r : ℕ) → IsRankedClass plan rank c r → IsRankedDecided plan rank c r → r ≤ suc k → (digits : List ℕ) → IsMember c digits → (m : List Mark) (ms : List (List Mark)) → r ≤ suc (length ms) →

@@ -7,13 +7,13 @@ use sccp_base::OutOfMemory;
 pub enum CheckFault {
     /// The start of this cover has no rank.
     NoStart(u16),
-    /// A part of this class, or what a reached target leads it on to, has no rank.
+    /// A part of this undecided class, or what a reached target leads this decided one on to, has no rank.
     NoRank(Class),
-    /// The rank of this class isn't from 1 to 14, is below that of a part, or isn't above that of what a reached target
-    /// leads it on to.
+    /// The rank of this class isn't from 1 to 14, is below that of a part where it is undecided, or isn't above that of
+    /// what a reached target leads it on to where it is decided.
     NotLower(Class),
-    /// The cover or node of this class isn't the plan's, it has no row, or a reached target ends where the cover doesn't
-    /// allow it.
+    /// The cover or node of this class isn't the plan's; or it is decided and has no row, or a reached target ends where the
+    /// cover doesn't allow it, ends at the node itself without the subsystem, or makes more than 32 digits.
     BadEnd(Class),
     /// The longest route isn't covered, or hasn't as many hops and markings as the greatest rank of a start.
     NotTight,

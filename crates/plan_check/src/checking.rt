@@ -1,10 +1,10 @@
 //! The check of a table of ranks.
-ghost use Rattle.std.specs.Prelude.{◌≡◌, ◌<◌, ℕ, length, IsTrue, ◌↔◌, OnOk, IfOk, IfErr};
+ghost use Rattle.std.specs.Prelude.{◌≡◌, ◌<◌, ℕ, length, IsTrue, ◌↔◌, IfOk, IfErr};
 ghost use Rattle.plan_model.specs.Network.{IsPlan};
 ghost use Rattle.plan_model.specs.Covered.{Covered};
 ghost use Rattle.plan_model.specs.Verdicts.{Safe, Tight};
 ghost use Rattle.plan_check.specs.Ranking.{rank_in};
-ghost use Rattle.plan_check.specs.Ranked.{IsGreatestStart, IsRanked};
+ghost use Rattle.plan_check.specs.Ranked.{IsGreatestStart};
 ghost use Rattle.plan_check.specs.Checks.{Passes, IsCheckFault};
 
 use crate::accepted::Accepted;

@@ -1,7 +1,7 @@
 //! The tests of the classes of a table.
-ghost use Rattle.std.specs.Prelude.{◌≡◌, ◌<◌, ◌≤◌, length, IsTrue, ◌↔◌, OnOk, IfErr, IsSome};
+ghost use Rattle.std.specs.Prelude.{◌≡◌, ◌<◌, ◌≤◌, length, IsTrue, ◌↔◌, OnOk, IfErr, IsSome, Some};
 ghost use Rattle.std.specs.List.{All};
-ghost use Rattle.plan_classes.specs.Classes.{Decided};
+ghost use Rattle.plan_classes.specs.Classes.{Decided, class_row};
 ghost use Rattle.plan_check.specs.Ranking.{rank_in};
 ghost use Rattle.plan_check.specs.Ranked.{RanksUpTo, IsRankedClass, IsRanked};
 ghost use Rattle.plan_check.specs.Checks.{NextIsLower, IsClassFault, IsTableFault};
@@ -9,8 +9,9 @@ ghost use Rattle.plan_check.specs.Checks.{NextIsLower, IsClassFault, IsTableFaul
 use crate::check_fault::CheckFault;
 use crate::leading::{all_may_lead, all_next_are_lower, all_next_have_ranks, images};
 use crate::ranks::Ranks;
-use plan_classes::{Class, Image, decided, parts, target_count};
+use plan_classes::{Class, Image, class_row, decided, parts};
 use plan_model::Plan;
+use plan_rules::Row;
 use std::alloc::Global;
 
 /// Whether each class has a rank.
@@ -61,8 +62,8 @@ fn is_higher(ranks: &Ranks, rank: u8, images: &[Image]) -> bool
     1 <= rank && rank <= 14 && all_next_are_lower(ranks, rank, images)
 }
 
-/// Tests an undecided class of the plan by its parts. Whether each has a rank is asked only where one fails: a rank is looked up
-/// once where all is well.
+/// Tests an undecided class of the plan by its parts. Whether each has a rank is asked only where one fails: a rank is
+/// looked up once where all is well.
 fn test_open(
     alloc: Global,
     plan: &Plan,
@@ -87,7 +88,7 @@ fn test_open(
     Err(CheckFault::NotLower(*class))
 }
 
-/// Tests a decided class of the plan by where its targets lead it.
+/// Tests a decided class of the plan by its row.
 fn test_decided(
     alloc: Global,
     plan: &Plan,
@@ -101,10 +102,29 @@ fn test_decided(
     ensures passed { OnOk result (IsRankedClass plan.now (rank_in ranks.now) class.now rank) }
     ensures fault { IfErr result (IsClassFault plan.now (rank_in ranks.now) class.now rank) }
 {
-    if target_count(plan, class) == 0 {
-        return Err(CheckFault::BadEnd(*class));
+    match class_row(plan, class) {
+        Some(row) => test_row(alloc, plan, ranks, class, row, rank),
+        None => Err(CheckFault::BadEnd(*class)),
     }
-    let led = images(alloc, plan, class)?;
+}
+
+/// Tests a decided class of the plan by where the targets of its row lead it.
+fn test_row(
+    alloc: Global,
+    plan: &Plan,
+    ranks: &Ranks,
+    class: &Class,
+    row: &Row,
+    rank: u8,
+) -> Result<(), CheckFault>
+    requires cover { class.now.cover < length plan.now.covers }
+    requires node { class.now.node < length plan.now.nodes }
+    requires decided { Decided plan.now class.now }
+    requires row { class_row plan.now class.now ≡ Some row.now }
+    ensures passed { OnOk result (IsRankedClass plan.now (rank_in ranks.now) class.now rank) }
+    ensures fault { IfErr result (IsClassFault plan.now (rank_in ranks.now) class.now rank) }
+{
+    let led = images(alloc, plan, class, row)?;
     let images = led.as_slice();
     if !all_may_lead(plan, class.cover(), images) {
         return Err(CheckFault::BadEnd(*class));

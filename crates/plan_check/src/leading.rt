@@ -1,15 +1,16 @@
 //! Where the targets of a decided class lead it.
-ghost use Rattle.std.specs.Prelude.{◌≡◌, ◌<◌, ℕ, length, IsTrue, ◌↔◌, IfOk};
+ghost use Rattle.std.specs.Prelude.{◌≡◌, ◌<◌, length, IsTrue, ◌↔◌, IfOk, Some};
 ghost use Rattle.std.specs.List.{All, Contains};
 ghost use Rattle.plan_classes.specs.declared.leads.Image.{Image};
-ghost use Rattle.plan_classes.specs.Classes.{Decided};
+ghost use Rattle.plan_classes.specs.Classes.{Decided, class_row};
 ghost use Rattle.plan_check.specs.Ranking.{rank_in};
 ghost use Rattle.plan_check.specs.Ranked.{Allows};
 ghost use Rattle.plan_check.specs.Checks.{LeadsTo, MayLead, NextHasRank, NextIsLower};
 
 use crate::ranks::Ranks;
-use plan_classes::{Class, Image, image, reaches, target_count};
+use plan_classes::{Class, Image, image_by, reaches_by};
 use plan_model::Plan;
+use plan_rules::Row;
 use sccp_base::{List, OutOfMemory, PointCode};
 use std::alloc::Global;
 
@@ -22,16 +23,22 @@ pub fn allows(plan: &Plan, cover: u16, pc: PointCode, ssn: u8) -> bool
 }
 
 /// Where the targets that can be the first open one lead a class.
-pub(crate) fn images(alloc: Global, plan: &Plan, class: &Class) -> Result<List<Image>, OutOfMemory>
+pub(crate) fn images(
+    alloc: Global,
+    plan: &Plan,
+    class: &Class,
+    row: &Row,
+) -> Result<List<Image>, OutOfMemory>
     requires node { class.now.node < length plan.now.nodes }
     requires decided { Decided plan.now class.now }
+    requires row { class_row plan.now class.now ≡ Some row.now }
     ensures each { IfOk result (All (LeadsTo plan.now class.now)) }
     ensures every { IfOk result (λ images. (image : Image) → LeadsTo plan.now class.now image → Contains images image) }
 {
     let mut images = List::new(alloc);
-    for place in 0..target_count(plan, class) {
-        if reaches(plan, class, place) {
-            images.push(image(plan, class, place))?;
+    for place in 0..row.target_count() {
+        if reaches_by(plan, class, row, place) {
+            images.push(image_by(plan, class, row, place))?;
         }
     }
     Ok(images)

@@ -1,5 +1,5 @@
 //! The ranks of the starts.
-ghost use Rattle.std.specs.Prelude.{◌≡◌, IfOk, IfErr};
+ghost use Rattle.std.specs.Prelude.{IfOk, IfErr};
 ghost use Rattle.plan_model.specs.Network.{IsPlan};
 ghost use Rattle.plan_check.specs.Ranking.{rank_in};
 ghost use Rattle.plan_check.specs.Ranked.{IsGreatestStart};

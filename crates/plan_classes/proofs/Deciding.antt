@@ -4,7 +4,7 @@ use Rattle.std.specs.List.{All, Any, starts_with, find}
 use Rattle.std.specs.Option.{option_and_then}
 use Rattle.std.proofs.Common.{zero, suc, sym, ◌∙◌, ap, subst, ⊎_elim, arith, append_assoc, length-append}
 use Rattle.std.proofs.lemmas.Bool.{and_parts, and_from, cases_lt, both_ways, not-true, not_from_false, false_from_ne_true}
-use Rattle.std.proofs.lemmas.List.{length-replicate}
+use Rattle.std.proofs.lemmas.List.{append-nil, length-replicate}
 use Rattle.std.proofs.Math.Seq.{drop-append_seam}
 use Rattle.std.proofs.lemmas.List.Elements.{All-cons, All-append, All-replicate, All-head, All-tail}
 use Rattle.sccp_base.specs.Selector.{Numbers}
@@ -16,7 +16,7 @@ use Rattle.plan_rules.proofs.Counting.{same_selector-≡, same_selector-own}
 use Rattle.plan_rules.proofs.Longest.{row_no_shorter}
 use Rattle.plan_model.specs.declared.node.Node.{Node}
 use Rattle.plan_model.specs.Network.{Network}
-use Rattle.plan_model.specs.Steps.{row_for}
+use Rattle.plan_model.specs.Steps.{row_for, row_of}
 use Rattle.plan_classes.specs.Titles.{Titles, IsClass, IsMember, spot_of}
 use Rattle.plan_classes.specs.Classes.{Decided}
 use Rattle.plan_model.proofs.Leading.{counting_row}
@@ -60,6 +60,17 @@ decided_from plan node c at none d e m n =
     apart r among ext =
         let k = place_of_Among r node.table among in
         none (k.0, r, k.1, k.2 r, ext)
+
+empty : (xs : List ℕ) → length xs ≤ 0 → xs ≡ []
+empty [] le = refl
+empty (x ∷ xs) le = absurd (omega (arith, le))
+
+-- a class without open digits has one member, so one row or none
+only : (c : Titles) (digits : List ℕ) → c.most ≤ 0 → IsMember c digits → digits ≡ c.known
+only c digits none m = m.whole ∙ ap (λ (xs : List ℕ). c.known ++ xs) (empty m.rest (omega (arith, none, m.most))) ∙ append-nil c.known
+
+pub one_decided : (plan : Network) (c : Titles) → c.most ≤ 0 → Decided plan c
+one_decided plan c none d e m n = ap (λ (x : List ℕ). row_of plan (spot_of c x)) (only c d none m ∙ sym (only c e none n))
 
 -- another digit
 abbrev other : ℕ → ℕ

@@ -1,12 +1,12 @@
 -- what becomes of the titles of a class where a target of its row is taken
-use Rattle.std.specs.Prelude.{ℕ, ◌≡◌, ◌+◌, ◌<◌, ◌≤◌, ◌&&◌, ◌==◌, not, nat_lt, if◌then◌else◌, Bool, true, false, List, [], ◌∷◌, ◌++◌, length, drop, take, Option, Some, None, slice_get, get_or, refl, IsSomeAnd}
+use Rattle.std.specs.Prelude.{ℕ, ◌≡◌, ◌+◌, ◌<◌, ◌≤◌, ◌&&◌, ◌==◌, not, nat_lt, if◌then◌else◌, Bool, true, false, List, [], ◌++◌, length, drop, take, Option, Some, None, slice_get, get_or, refl, IsSomeAnd}
 use Rattle.std.specs.List.{All, list_any}
 use Rattle.std.specs.Option.{unwrap_or, option_map, option_and_then, option_map_or}
-use Rattle.std.proofs.Common.{suc, sym, ◌∙◌, ap, subst, ⊎_elim, arith, append_assoc, length-append, length-drop, take-append-drop}
+use Rattle.std.proofs.Common.{sym, ◌∙◌, ap, subst, ⊎_elim, arith, append_assoc, length-append, length-drop, take-append-drop}
 use Rattle.std.proofs.Math.Seq.{drop-append_seam}
 use Rattle.std.proofs.lemmas.Bool.{ltb-true, ltb-false, lt-ltb, le-ltb}
 use Rattle.std.proofs.lemmas.Option.{slice_get_cases}
-use Rattle.sccp_base.proofs.Among.{Among, Among-slice_get}
+use Rattle.sccp_base.proofs.Among.{All-among, Among, Among-slice_get}
 use Rattle.sccp_base.specs.Selector.{Numbers}
 use Rattle.sccp_base.specs.declared.mark.Mark.{Mark}
 use Rattle.plan_rules.specs.Rule.{Rule, targets}
@@ -27,10 +27,12 @@ use Rattle.plan_classes.specs.Leading.{brought, ImageIsExact, IsInImage, OpensCl
 use Rattle.plan_classes.proofs.Images.{member_row, prefix_within, strip_within, drop_known, led_next}
 use Rattle.plan_classes.proofs.Openings.{first_open-at}
 
-All-among : {X : Type 0} (P : X → Type 0) (x : X) (xs : List X) → All P xs → Among x xs → P x
-All-among {X} P x [] all m = absurd m
-All-among {X} P x (y ∷ ys) all m =
-    ⊎_elim (λ (e : y ≡ x). subst P e (all 0 y (omega arith))) (λ (n : Among x ys). All-among P x ys (λ k d lt. all (suc k) d (omega arith)) n) m
+-- the targets of a class are those of its row
+pub row_targets : (plan : Network) (c : Titles) (r : Rule) → class_row plan c ≡ Some r → class_targets plan c ≡ targets r
+row_targets plan c r e = ap (λ (o : Option Rule). option_map_or targets o []) e
+
+pub row_target : (plan : Network) (c : Titles) (r : Rule) (place : ℕ) (t : Target) → class_row plan c ≡ Some r → Some t ≡ slice_get (targets r) place → slice_get (class_targets plan c) place ≡ Some t
+row_target plan c r place t e h = ap (λ (ts : List Target). slice_get ts place) (row_targets plan c r e) ∙ sym h
 
 -- a target of the class is one of its row's
 pub target_row : (plan : Network) (c : Titles) (place : ℕ) (t : Target) → slice_get (class_targets plan c) place ≡ Some t → (r : Rule) × (class_row plan c ≡ Some r) × (slice_get (targets r) place ≡ Some t)

@@ -1,13 +1,15 @@
 //! From a rewritten title back to the one that it was made of.
-ghost use Rattle.std.specs.Prelude.{◌≡◌, ◌<◌, ◌≤◌, ◌++◌, length, take, drop, Some};
+ghost use Rattle.std.specs.Prelude.{◌≡◌, ◌<◌, ◌≤◌, ◌++◌, length, take, drop, slice_get, Some};
+ghost use Rattle.std.specs.Option.{option_copied};
+ghost use Rattle.plan_model.specs.Network.{IsPlan};
 ghost use Rattle.plan_model.specs.declared.hop.Step.TheVariants.{Sent};
 ghost use Rattle.plan_classes.specs.declared.leads.Image.TheVariants.{Next};
-ghost use Rattle.plan_classes.specs.Titles.{Titles, IsMember, spot_of};
-ghost use Rattle.plan_classes.specs.Classes.{Decided, HasImage};
+ghost use Rattle.plan_classes.specs.Titles.{Titles, IsClass, IsMember, spot_of};
+ghost use Rattle.plan_classes.specs.Classes.{Decided, HasImage, class_targets};
 ghost use Rattle.plan_classes.specs.Leading.{IsInImage, brought};
 
 use crate::class::Class;
-use crate::class_rows::class_target;
+use crate::class_rows::class_row;
 use plan_model::Plan;
 use plan_rules::Target;
 use sccp_base::Digits;
@@ -24,6 +26,19 @@ fn carried_back(known: &Digits, strip: u8, put: &Digits, digits: &Digits) -> Dig
     match Digits::joined(stripped, kept) {
         Some(back) => back,
         None => unreachable!(),
+    }
+}
+
+/// The target at a place of the class's row.
+fn class_target<'a>(plan: &'a Plan, class: &Class, place: u8) -> Option<&'a Target>
+    requires { class.now.node < length plan.now.nodes }
+    ensures value { option_copied result ≡ slice_get (class_targets plan.now class.now) place }
+    ensures class { IsClass class.now }
+    ensures sound { IsPlan plan.now }
+{
+    match class_row(plan, class) {
+        Some(row) => row.target(usize::from(place)),
+        None => None,
     }
 }
 

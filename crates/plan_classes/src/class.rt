@@ -3,8 +3,9 @@ ghost use Rattle.std.specs.Prelude.{◌≡◌, ◌+◌, ◌<◌, ◌≤◌, ◌�
 use sccp_base::{Digits, Selector};
 use std::marker::Model;
 
-/// The titles of a cover at a relay, under a selector and a subsystem number, whose digits are the known ones and then `least`
-/// to `most` further decimal ones. Classes are ordered by these fields as they are written, digits as lists.
+/// The titles at a relay, under a selector and a subsystem number, whose digits are the known ones and then `least` to `most`
+/// further decimal ones, with the place of the cover that they come from: classes of different covers differ. Classes are
+/// ordered by these fields as they are written, digits as lists.
 #[derive(Clone, Copy, Debug, PartialEq, Eq, PartialOrd, Ord)]
 pub struct Class {
     cover: u16,

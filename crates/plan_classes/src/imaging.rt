@@ -1,15 +1,16 @@
 //! Where a target leads the titles of a class (Q.714 section 2).
-ghost use Rattle.std.specs.Prelude.{◌≡◌, ◌<◌, length};
+ghost use Rattle.std.specs.Prelude.{◌≡◌, ◌<◌, length, Some};
+ghost use Rattle.plan_rules.specs.Rule.{targets};
 ghost use Rattle.plan_model.specs.Network.{Network, LeadsOn};
 ghost use Rattle.plan_classes.specs.Titles.{Titles};
-ghost use Rattle.plan_classes.specs.Classes.{Decided, class_targets, image_arrived, image_at, HasImage, StaysWithin};
+ghost use Rattle.plan_classes.specs.Classes.{Decided, class_row, class_targets, image_arrived, image_at, HasImage, StaysWithin};
 ghost use Rattle.plan_classes.specs.Leading.{ImageIsExact};
 
 use crate::class::Class;
-use crate::class_rows::{class_node, class_target};
+use crate::class_rows::{class_node, class_row};
 use crate::leads::Image;
 use plan_model::{Node, Plan};
-use plan_rules::Target;
+use plan_rules::{Row, Target};
 use sccp_base::PointCode;
 
 /// The end at a destination: the node itself may not have the subsystem.
@@ -69,8 +70,24 @@ pub fn image(plan: &Plan, class: &Class, target: u8) -> Image
     ensures stays { StaysWithin plan.now class.now result }
     ensures exact { ImageIsExact plan.now class.now target result }
 {
+    match class_row(plan, class) {
+        Some(row) => image_by(plan, class, row, target),
+        None => unreachable!(),
+    }
+}
+
+/// The same, where the class's row was looked up before.
+pub fn image_by(plan: &Plan, class: &Class, row: &Row, target: u8) -> Image
+    requires node { class.now.node < length plan.now.nodes }
+    requires decided { Decided plan.now class.now }
+    requires row { class_row plan.now class.now ≡ Some row.now }
+    requires place { target < length (targets row.now) }
+    ensures image { HasImage plan.now class.now target result }
+    ensures stays { StaysWithin plan.now class.now result }
+    ensures exact { ImageIsExact plan.now class.now target result }
+{
     let node = class_node(plan, class);
-    match class_target(plan, class, target) {
+    match row.target(usize::from(target)) {
         Some(leading) => image_at(plan, node, class, leading),
         None => unreachable!(),
     }

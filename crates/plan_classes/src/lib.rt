@@ -21,11 +21,11 @@ mod tests;
 
 pub use carrying::carry_back;
 pub use class::Class;
-pub use class_rows::{decided, target_count};
-pub use imaging::image;
+pub use class_rows::{class_row, decided};
+pub use imaging::{image, image_by};
 pub use laws::{classes_are_ordered, reaches_fewer};
 pub use leads::Image;
 pub use opens::opening;
-pub use reaching::reaches;
+pub use reaching::{reaches, reaches_by};
 pub use splitting::parts;
 pub use starts::{sample, start};

@@ -1,10 +1,10 @@
 //! Which targets can be the first open one (Q.714 section 2).
-ghost use Rattle.std.specs.Prelude.{◌≡◌, ◌∷◌, [], ◌<◌, length, IsTrue, ◌↔◌, not};
+ghost use Rattle.std.specs.Prelude.{◌≡◌, ◌∷◌, [], ◌<◌, length, IsTrue, ◌↔◌, not, Some};
 ghost use Rattle.std.specs.List.{find};
 ghost use Rattle.sccp_base.specs.Marks.{holds};
 ghost use Rattle.plan_rules.specs.Rule.{targets};
 ghost use Rattle.plan_model.specs.Targets.{marks};
-ghost use Rattle.plan_classes.specs.Classes.{IsReached, Reaches};
+ghost use Rattle.plan_classes.specs.Classes.{IsReached, Reaches, class_row};
 
 use crate::class::Class;
 use crate::class_rows::{class_node, class_row};
@@ -90,9 +90,17 @@ pub fn reaches(plan: &Plan, class: &Class, target: u8) -> bool
     requires { class.now.node < length plan.now.nodes }
     ensures { IsTrue result ↔ Reaches plan.now class.now target }
 {
-    let node = class_node(plan, class);
     match class_row(plan, class) {
-        Some(row) => is_reached(node, class.ssn(), row, target),
+        Some(row) => reaches_by(plan, class, row, target),
         None => false,
     }
+}
+
+/// The same, where the class's row was looked up before.
+pub fn reaches_by(plan: &Plan, class: &Class, row: &Row, target: u8) -> bool
+    requires node { class.now.node < length plan.now.nodes }
+    requires row { class_row plan.now class.now ≡ Some row.now }
+    ensures { IsTrue result ↔ Reaches plan.now class.now target }
+{
+    is_reached(class_node(plan, class), class.ssn(), row, target)
 }

@@ -1,7 +1,7 @@
 // What no clause says: that the clauses mean classes of titles as the standard translates them, and that calls with memory
 // succeed.
 use crate::{
-    Class, Image, carry_back, decided, image, opening, parts, reaches, sample, start, target_count,
+    Class, Image, carry_back, class_row, decided, image, opening, parts, reaches, sample, start,
 };
 use plan_model::{Cover, Node, Plan, PlanFault};
 use plan_rules::{Row, Table, Target};
@@ -158,8 +158,10 @@ fn is_reached(plan: &Plan, class: &Class, target: u8) -> Option<bool> {
 
 fn image_of(plan: &Plan, class: &Class, target: u8) -> Option<Image> {
     if usize::from(class.node()) < plan.nodes().as_slice().len() {
-        if decided(plan, class) && target < target_count(plan, class) {
-            return Some(image(plan, class, target));
+        if let Some(row) = class_row(plan, class) {
+            if decided(plan, class) && target < row.target_count() {
+                return Some(image(plan, class, target));
+            }
         }
     }
     None
@@ -168,10 +170,12 @@ fn image_of(plan: &Plan, class: &Class, target: u8) -> Option<Image> {
 /// The title that is made these digits by the class's first target.
 fn back_from(plan: &Plan, class: &Class, digits: &Digits) -> Option<Digits> {
     if usize::from(class.node()) < plan.nodes().as_slice().len() {
-        if decided(plan, class) && 0 < target_count(plan, class) {
-            if let Image::Next(next) = image(plan, class, 0) {
-                if next.has(digits) {
-                    return Some(carry_back(plan, class, 0, digits));
+        if let Some(row) = class_row(plan, class) {
+            if decided(plan, class) && 0 < row.target_count() {
+                if let Image::Next(next) = image(plan, class, 0) {
+                    if next.has(digits) {
+                        return Some(carry_back(plan, class, 0, digits));
+                    }
                 }
             }
         }

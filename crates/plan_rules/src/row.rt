@@ -1,4 +1,4 @@
-ghost use Rattle.std.specs.Prelude.{◌≡◌, IsTrue, ◌↔◌, slice_get, SomeIff};
+ghost use Rattle.std.specs.Prelude.{◌≡◌, length, IsTrue, ◌↔◌, slice_get, SomeIff};
 ghost use Rattle.std.specs.Option.{option_copied};
 
 use crate::target::Target;
@@ -30,7 +30,7 @@ impl Model for Row {
 impl Row {
     ghost use Rattle.plan_rules.specs.Rule.{rule, targets, IsShort};
     ghost use Rattle.plan_rules.specs.Rows.{matches, Extends};
-    ghost use Rattle.plan_rules.specs.Tables.{same_titles, SameTitles, strips_too_long, makes_odd, IsRule};
+    ghost use Rattle.plan_rules.specs.Tables.{same_titles, strips_too_long, makes_odd, IsRule};
 
     /// `None` where the prefix or a target's put has more than 15 digits.
     pub fn new(
@@ -83,6 +83,16 @@ impl Row {
         ensures { option_copied result ≡ self.now.backup }
     {
         self.backup.as_ref()
+    }
+
+    /// How many targets there are, 1 or 2.
+    pub fn target_count(&self) -> u8
+        ensures { result ≡ length (targets self.now) }
+    {
+        match self.backup {
+            Some(_) => 2,
+            None => 1,
+        }
     }
 
     /// The target at a place, in the order in which they are tried.

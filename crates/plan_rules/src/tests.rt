@@ -50,6 +50,7 @@ fn the_longest_prefix_counts(rt: HostRuntime) -> Result<(), Fail> {
     assert_eq!(rt; table.row(3).prefix().as_slice(), [4, 9, 1].as_slice());
     assert_eq!(rt; table.row(3).target(0), Some(&target));
     assert_eq!(rt; table.row(3).target(1), None);
+    assert_eq!(rt; table.row(3).target_count(), 1);
     Ok(())
 }
 

@@ -19,7 +19,7 @@ use Rattle.plan_verify.specs.declared.trace.Trace.{Trace}
 use Rattle.plan_verify.specs.Searching.{Keeps, IsSound, HasStart}
 use Rattle.plan_verify.specs.Traces.{IsWay}
 use Rattle.plan_verify.proofs.Keeping.{some_kept}
-use Rattle.plan_verify.proofs.Ranking.{wider}
+use Rattle.plan_check.proofs.Greatest.{wider}
 use Rattle.plan_verify.proofs.Tracing.{start_covered}
 
 -- the class is the start of this cover

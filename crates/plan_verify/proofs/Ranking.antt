@@ -1,5 +1,5 @@
 -- the rank of a class by what its parts or its targets lead to
-use Rattle.std.specs.Prelude.{ℕ, ◌≡◌, ◌+◌, ◌-◌, ◌≤◌, ◌<◌, List, [], ◌∷◌, ◌++◌, length, take, Option, Some, None, IsSomeAnd, slice_get, refl, max, get_or}
+use Rattle.std.specs.Prelude.{ℕ, ◌≡◌, ◌+◌, ◌-◌, ◌≤◌, ◌<◌, List, [], ◌∷◌, ◌++◌, length, take, Option, Some, None, IsSome, IsSomeAnd, slice_get, refl, max, get_or}
 use Rattle.std.specs.List.{All, Any, Contains}
 use Rattle.std.proofs.Common.{sym, ◌∙◌, ap, subst, inl, inr, ⊎_elim, arith, take_all}
 use Rattle.std.proofs.lemmas.Bool.{cases_lt}
@@ -10,20 +10,16 @@ use Rattle.plan_model.specs.RowFor.{row_of}
 use Rattle.plan_classes.specs.declared.leads.Image.{Image}
 use Rattle.plan_classes.specs.declared.leads.Image.TheVariants.{Next, Ends, NotEquipped, TooLong}
 use Rattle.plan_classes.specs.Titles.{Titles, IsClass, IsMember, IsPart, Splits, spot_of, parts_of}
-use Rattle.plan_classes.specs.Classes.{Decided, Reachable, Reaches, HasImage, IsReached, class_targets, image_at}
+use Rattle.plan_classes.specs.Classes.{Decided, Reachable, Reaches, HasImage, IsReached, class_row, class_targets, image_at}
 use Rattle.plan_classes.specs.Classes.Reachable.{Part, Onward}
 use Rattle.plan_classes.proofs.Openings.{reached_place}
 use Rattle.plan_check.specs.Ranking.{rank_in}
 use Rattle.plan_check.specs.Ranked.{RanksUpTo, LeadsWell, IsRankedClass}
-use Rattle.plan_check.proofs.Causes.{has_row}
+use Rattle.plan_check.proofs.Greatest.{wider}
 use Rattle.plan_check.proofs.Soundness.{some_of}
 use Rattle.plan_verify.specs.Attained.{RanksFrom, LeadsToClass, LeadsHigh, IsAttainedOpen, IsAttainedDecided}
 use Rattle.plan_verify.specs.Searching.{Keeps, IsSound, IsBorneOut, IsLedTo}
 use Rattle.plan_verify.proofs.Keeping.{some_kept, leads_kept, high_kept}
-
-pub wider : (o : Option ℕ) (m n : ℕ) → m ≤ n → IsSomeAnd o (λ s. s ≤ m) → IsSomeAnd o (λ s. s ≤ n)
-wider None m n le h = h
-wider (Some s) m n le h = omega arith
 
 below_wider : (o : Option ℕ) (m n : ℕ) → m ≤ n → IsSomeAnd o (λ s. s < m) → IsSomeAnd o (λ s. s < n)
 below_wider None m n le h = h
@@ -153,10 +149,10 @@ reaches_inside plan c place h =
     ] h
 
 -- a decided class whose reached targets all lead well
-pub decided_borne : (plan : Network) (ranks : List (Titles × ℕ)) (c : Titles) (rank n : ℕ) → IsClass c → c.node < length plan.nodes → c.cover < length plan.covers → Decided plan c → 0 < length (class_targets plan c) → length (class_targets plan c) ≤ n → 1 ≤ rank → rank ≤ 14 → ((place : ℕ) (image : Image) → place < n → Reaches plan c place → HasImage plan c place image → LeadsWell plan (rank_in ranks) c.cover rank image) → (2 ≤ rank → LeadsHigh plan (rank_in ranks) c (rank - 1)) → IsBorneOut plan (rank_in ranks) c rank
+pub decided_borne : (plan : Network) (ranks : List (Titles × ℕ)) (c : Titles) (rank n : ℕ) → IsClass c → c.node < length plan.nodes → c.cover < length plan.covers → Decided plan c → IsSome (class_row plan c) → length (class_targets plan c) ≤ n → 1 ≤ rank → rank ≤ 14 → ((place : ℕ) (image : Image) → place < n → Reaches plan c place → HasImage plan c place image → LeadsWell plan (rank_in ranks) c.cover rank image) → (2 ≤ rank → LeadsHigh plan (rank_in ranks) c (rank - 1)) → IsBorneOut plan (rank_in ranks) c rank
 decided_borne plan ranks c rank n is node cover decided some all low high leads attained =
     record {
-      ranked = record { low = low; high = high; class = is; node = node; cover = cover; follows = inr (record { decided = decided; row = has_row plan c some; leads = λ place image reached has. leads place image (omega (arith, reaches_inside plan c place reached)) reached has }) };
+      ranked = record { low = low; high = high; class = is; node = node; cover = cover; follows = inr (record { decided = decided; row = some; leads = λ place image reached has. leads place image (omega (arith, reaches_inside plan c place reached)) reached has }) };
       attained = λ two. inr (record { decided = decided; next = attained two });
     }
 

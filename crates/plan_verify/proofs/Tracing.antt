@@ -1,11 +1,10 @@
 -- titles with bad or long routes, and how they are carried back
 use Rattle.std.specs.Prelude.{ℕ, ◌≡◌, ◌+◌, ◌≤◌, ◌<◌, ◌⊎◌, List, [], ◌∷◌, length, Option, Some, None, Result, Ok, Err, IfOk, IsSomeAnd, slice_get, refl, if◌then◌else◌, get_or}
 use Rattle.std.specs.List.{list_any}
-use Rattle.std.specs.Option.{option_and_then, option_map_or}
+use Rattle.std.specs.Option.{option_and_then}
 use Rattle.std.proofs.Common.{sym, ◌∙◌, ap, subst, inl, inr, ⊎_elim, arith}
 use Rattle.std.proofs.lemmas.Option.{slice_get_within, get_or_from_slice_get}
 use Rattle.sccp_base.specs.declared.mark.Mark.{Mark}
-use Rattle.plan_rules.specs.Rule.{targets}
 use Rattle.plan_rules.specs.Rows.{has_selector}
 use Rattle.plan_model.specs.declared.cover.Cover.{Cover}
 use Rattle.plan_model.specs.declared.spot.Spot.{Spot}
@@ -22,7 +21,7 @@ use Rattle.plan_model.specs.Verdicts.{last, HasSpot}
 use Rattle.plan_model.proofs.Ways.{hop_at}
 use Rattle.plan_classes.specs.declared.leads.Image.TheVariants.{Next}
 use Rattle.plan_classes.specs.Titles.{Titles, IsMember, IsPart, spot_of}
-use Rattle.plan_classes.specs.Classes.{start_of, sample_of, class_row, class_targets, HasImage}
+use Rattle.plan_classes.specs.Classes.{start_of, sample_of, class_row, HasImage}
 use Rattle.plan_classes.specs.Leading.{brought, Takes}
 use Rattle.plan_classes.proofs.Starting.{member_covered}
 use Rattle.plan_verify.specs.declared.trace.Trace.{Trace}
@@ -74,13 +73,9 @@ no_row_step plan s m e =
       | Some node ↦ λ f. ((if list_any (has_selector s.selector) node.table then 1 else 0), ap (step_by plan node s m) f)
     ] e
 
-no_targets : (plan : Network) (c : Titles) → length (class_targets plan c) ≡ 0 → class_row plan c ≡ None
-no_targets plan c h =
-    elim (class_row plan c) as (λ o. length (option_map_or targets o []) ≡ 0 → o ≡ None) [ None ↦ λ k. refl | Some r ↦ λ k. absurd (omega arith) ] h
-
-pub without_row : (plan : Network) (c : Titles) (depth : ℕ) (t : Trace) → IsMember c t.digits → t.digits ≡ sample_of c → t.markings ≡ [] ∷ [] → depth < 14 → length (class_targets plan c) ≡ 0 → IsTrace plan c depth t
+pub without_row : (plan : Network) (c : Titles) (depth : ℕ) (t : Trace) → IsMember c t.digits → t.digits ≡ sample_of c → t.markings ≡ [] ∷ [] → depth < 14 → class_row plan c ≡ None → IsTrace plan c depth t
 without_row plan c depth t member least under lt none =
-    let e = no_row_step plan (spot_of c (sample_of c)) [] (no_targets plan c none) in
+    let e = no_row_step plan (spot_of c (sample_of c)) [] none in
     trace_one plan c depth t (sample_of c) [] least under (subst (IsMember c) least member) (omega arith) (inl (subst (IsBadEnd plan c.cover) (sym e.1) tt))
 
 -- the title in front is sent on as the one behind

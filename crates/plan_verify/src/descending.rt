@@ -1,6 +1,5 @@
 //! A title whose route is as long as the rank of its class says.
-ghost use Rattle.std.specs.Prelude.{◌≤◌, ◌<◌, IfOk, length};
-ghost use Rattle.plan_classes.specs.Titles.{IsClass};
+ghost use Rattle.std.specs.Prelude.{◌≤◌, ◌<◌, IfOk};
 ghost use Rattle.plan_check.specs.Ranking.{rank_in};
 ghost use Rattle.plan_verify.specs.Attained.{RanksFrom};
 ghost use Rattle.plan_verify.specs.Searching.{IsSound};

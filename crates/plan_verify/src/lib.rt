@@ -3,8 +3,8 @@
 //!
 //! The search goes over classes of titles and gives each a rank, the most hops that a route of one of its titles has. Where
 //! it meets a bad route it carries it back, relay by relay, to a title that a cover has. The crates above may rely on each
-//! verdict being true of the plan that it hands back, and on every plan being either accepted or refused whose titles fall
-//! into fewer than 262,144 classes.
+//! verdict being true of the plan that it hands back, and on every plan being either accepted or refused that reaches fewer
+//! than 262,144 classes.
 #![tactic(auto)]
 
 mod descending;

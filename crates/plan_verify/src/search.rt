@@ -1,8 +1,9 @@
 //! The search for a bad route, which gives a rank to each class that it leaves.
-ghost use Rattle.std.specs.Prelude.{◌≡◌, ◌+◌, ◌≤◌, ◌<◌, ◌↔◌, ℕ, List, length, IfOk, IsTrue, Some};
+ghost use Rattle.std.specs.Prelude.{◌≡◌, ◌+◌, ◌≤◌, ◌<◌, ℕ, List, length, IfOk, Some};
+ghost use Rattle.plan_rules.specs.Rule.{targets};
 ghost use Rattle.plan_classes.specs.Titles.{Titles, IsClass, IsLongest};
 ghost use Rattle.plan_classes.specs.declared.leads.Image.TheVariants.{Ends, NotEquipped, TooLong};
-ghost use Rattle.plan_classes.specs.Classes.{Decided, Reachable, Reaches, HasImage, class_targets};
+ghost use Rattle.plan_classes.specs.Classes.{Decided, Reachable, Reaches, HasImage, class_row};
 ghost use Rattle.plan_classes.specs.Leading.{ImageIsExact};
 ghost use Rattle.plan_check.specs.Ranking.{rank_in};
 ghost use Rattle.plan_verify.specs.Searching.{Keeps, IsSound, IsFound, IsFollowed, IsLed};
@@ -12,8 +13,9 @@ use crate::descending::descend;
 use crate::found::Found;
 use crate::trace::{Trace, carry, least_title, through};
 use plan_check::{Ranks, RanksFault, allows};
-use plan_classes::{Class, Image, decided, image, parts, reaches, sample, target_count};
+use plan_classes::{Class, Image, class_row, decided, image_by, parts, reaches_by, sample};
 use plan_model::Plan;
+use plan_rules::Row;
 use sccp_base::{Digits, OutOfMemory, PointCode};
 use std::alloc::Global;
 
@@ -45,21 +47,12 @@ pub(crate) fn explore(
     if let Some(rank) = ranks.get(class) {
         return known(alloc, plan, class, depth, rank, ranks);
     }
-    let found = if is_decided(plan, class) {
+    let found = if decided(plan, class) {
         explore_targets(alloc, plan, class, depth, ranks)?
     } else {
         explore_parts(alloc, plan, class, depth, ranks)?
     };
     settle(alloc, plan, class, depth, found, ranks)
-}
-
-/// Whether all titles of a class have the same row, or none. A class without open digits has one title, and no row is read.
-fn is_decided(plan: &Plan, class: &Class) -> bool
-    requires { class.now.node < length plan.now.nodes }
-    ensures decided { IsTrue result ↔ Decided plan.now class.now }
-    ensures class { IsClass class.now }
-{
-    class.most() == 0 || decided(plan, class)
 }
 
 /// What follows a rank that the table has.
@@ -151,7 +144,7 @@ fn explore_parts(
     Ok(Found::Rank(rank))
 }
 
-/// Ranks where the targets of a class's row lead.
+/// Ranks where the targets of a decided class lead, or finds that it has no row.
 #[cycle(search)]
 fn explore_targets(
     alloc: Global,
@@ -171,13 +164,37 @@ fn explore_targets(
     ensures keeps { Keeps ranks.old ranks.new }
     ensures found { IfOk result (IsFollowed plan.now class.now depth ranks.new) }
 {
-    let count = target_count(plan, class);
-    if count == 0 {
-        return Ok(Found::Bad(least_title(alloc, class)?));
+    match class_row(plan, class) {
+        Some(row) => explore_row(alloc, plan, class, row, depth, ranks),
+        None => Ok(Found::Bad(least_title(alloc, class)?)),
     }
+}
+
+/// Ranks where the targets of a class's row lead, which is handed in.
+#[cycle(search)]
+fn explore_row(
+    alloc: Global,
+    plan: &Plan,
+    class: &Class,
+    row: &Row,
+    depth: u8,
+    ranks: &mut Ranks,
+) -> Result<Found, OutOfMemory>
+    requires depth { depth < 14 }
+    requires node { class.now.node < length plan.now.nodes }
+    requires cover { class.now.cover < length plan.now.covers }
+    requires reached { Reachable plan.now depth class.now }
+    requires class { IsClass class.now }
+    requires decided { Decided plan.now class.now }
+    requires row { class_row plan.now class.now ≡ Some row.now }
+    requires sound { IsSound plan.now ranks.old }
+    ensures sound { IsSound plan.now ranks.new }
+    ensures keeps { Keeps ranks.old ranks.new }
+    ensures found { IfOk result (IsFollowed plan.now class.now depth ranks.new) }
+{
     let mut rank: u8 = 1;
-    for place in 0..count {
-        match explore_target(alloc, plan, class, depth, place, ranks)? {
+    for place in 0..row.target_count() {
+        match explore_target(alloc, plan, class, row, depth, place, ranks)? {
             Found::Rank(other) => rank = rank.max(other),
             Found::Bad(trace) => return Ok(Found::Bad(trace)),
             Found::Wide => return Ok(Found::Wide),
@@ -192,6 +209,7 @@ fn explore_target(
     alloc: Global,
     plan: &Plan,
     class: &Class,
+    row: &Row,
     depth: u8,
     place: u8,
     ranks: &mut Ranks,
@@ -201,16 +219,17 @@ fn explore_target(
     requires cover { class.now.cover < length plan.now.covers }
     requires reached { Reachable plan.now depth class.now }
     requires decided { Decided plan.now class.now }
-    requires place { place < length (class_targets plan.now class.now) }
+    requires row { class_row plan.now class.now ≡ Some row.now }
+    requires place { place < length (targets row.now) }
     requires sound { IsSound plan.now ranks.old }
     ensures sound { IsSound plan.now ranks.new }
     ensures keeps { Keeps ranks.old ranks.new }
     ensures found { IfOk result (IsLed plan.now class.now depth place ranks.new) }
 {
-    if !reaches(plan, class, place) {
+    if !reaches_by(plan, class, row, place) {
         return Ok(Found::Rank(1));
     }
-    match image(plan, class, place) {
+    match image_by(plan, class, row, place) {
         Image::Next(next) => match explore(alloc, plan, &next, depth + 1, ranks)? {
             Found::Rank(other) => Ok(Found::Rank(other + 1)),
             Found::Bad(trace) => Ok(Found::Bad(carry(alloc, plan, class, place, trace)?)),

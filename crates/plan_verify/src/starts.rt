@@ -1,5 +1,5 @@
 //! The search from the start of each cover.
-ghost use Rattle.std.specs.Prelude.{◌≡◌, ◌<◌, ◌≤◌, ◌⊎◌, [], IfOk, length};
+ghost use Rattle.std.specs.Prelude.{◌≡◌, ◌<◌, ◌≤◌, ◌⊎◌, [], IfOk};
 ghost use Rattle.plan_model.specs.Network.{IsPlan};
 ghost use Rattle.plan_verify.specs.Searching.{IsSound, IsOutcome};
 

@@ -9,6 +9,6 @@ pub enum Verdict {
     Accepted(Accepted),
     /// Some route is bad, so the plan isn't safe for any bound up to 14.
     Refused(Plan, Witness),
-    /// The plan's titles fall into at least 262,144 classes: it isn't decided.
+    /// The plan reaches at least 262,144 classes: it isn't decided.
     TooWide(Plan),
 }

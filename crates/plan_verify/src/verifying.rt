@@ -1,5 +1,5 @@
 //! The verdict on a plan.
-ghost use Rattle.std.specs.Prelude.{◌≡◌, ◌<◌, ◌≤◌, IfOk, IsSomeAnd, slice_get, length};
+ghost use Rattle.std.specs.Prelude.{◌≡◌, ◌<◌, IfOk, IsSomeAnd, slice_get};
 ghost use Rattle.plan_model.specs.Network.{IsPlan};
 ghost use Rattle.plan_model.specs.Verdicts.{Tight};
 ghost use Rattle.plan_classes.specs.Classes.{start_of};

@@ -62,7 +62,7 @@ pub fn put_accepted(text: &mut Text, bound: u8) -> Result<(), OutOfMemory>
     text.put(b"\n")
 }
 
-/// Appends the line of a plan whose titles fall into more classes than a search may have.
+/// Appends the line of a plan that reaches more classes than a search may have.
 #[tactic(auto, unfolding(crate::specs::Verdicts::too_wide_line))]
 pub fn put_too_wide(text: &mut Text) -> Result<(), OutOfMemory>
     ensures { OnOk result (text.new ≡ text.old ++ too_wide_line) }

@@ -16,7 +16,7 @@ returns-then-hops-eq1 t c =
 
 pub high_target-place-requires-clause-some : goal.high_target-place-requires-clause-some
 high_target-place-requires-clause-some t c =
-    high_next c.args.plan.now c.args.ranks.now c.args.class.now c.args.hops c.requires.sound c.requires.ranked (omega (arith, c.requires.some, c.if-hops-eq1.false)) (c.decided.ensures.0 c.if-decided.true)
+    high_next c.args.plan.now c.args.ranks.now c.args.class.now c.args.hops c.requires.sound c.requires.ranked (omega (arith, c.requires.some, c.if-hops-eq1.false)) (c.decided.ensures.decided.0 c.if-decided.true)
 
 pub descend-requires : goal.descend-requires
 descend-requires t c =
@@ -27,4 +27,4 @@ descend-requires t c =
 pub high_part-part-requires : goal.high_part-part-requires
 high_part-part-requires t c =
     high_part c.args.plan.now c.args.ranks.now c.args.class.now c.args.hops c.as_slice.result.now c.requires.sound c.requires.ranked (omega (arith, c.requires.some, c.if-hops-eq1.false))
-    (λ decided. false≢true (sym c.if-decided.false ∙ c.decided.ensures.1 decided)) (c.as_slice.ensures ∙ c.in_ok-parts.ensures.value)
+    (λ decided. false≢true (sym c.if-decided.false ∙ c.decided.ensures.decided.1 decided)) (c.as_slice.ensures ∙ c.in_ok-parts.ensures.value)

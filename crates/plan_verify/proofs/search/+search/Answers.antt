@@ -1,4 +1,7 @@
-use Rattle.std.proofs.Common.{◌≡◌, ◌<◌, ◌∙◌, subst, arith, rules, length}
+use Rattle.std.proofs.Common.{◌≡◌, ◌<◌, ◌∙◌, Bor, Option, IsSome, refl, sym, ap, subst, arith, rules, length}
+use Rattle.std.specs.Option.{option_copied}
+use Rattle.plan_rules.specs.Rule.{Rule}
+use Rattle.plan_classes.proofs.Taking.{row_targets}
 use Rattle.plan_classes.specs.Titles.{IsPart}
 use Rattle.plan_verify.specs.declared.found.Found.{Found}
 use Rattle.plan_verify.specs.Searching.{IsFound, IsLed}
@@ -60,7 +63,7 @@ explore_target-explore-requires t c =
           (
             omega (arith, stays.1, c.requires.cover),
             (
-              image_reached _ c.args.depth c.args.place c.args.class.now _ c.in-Next.ensures.image (c.reaches.ensures.0 c.if-not-reaches.false) c.requires.decided c.requires.depth c.requires.reached,
+              image_reached _ c.args.depth c.args.place c.args.class.now _ c.in-Next.ensures.image (c.reaches_by.ensures.0 c.if-not-reaches_by.false) c.requires.decided c.requires.depth c.requires.reached,
               c.requires.sound,
             ),
           ),
@@ -68,12 +71,12 @@ explore_target-explore-requires t c =
       ),
     )
 
-pub explore_targets-returns-then-count-eq0-clause-found : goal.explore_targets-returns-then-count-eq0-clause-found
-explore_targets-returns-then-count-eq0-clause-found t c =
-    without_row c.args.plan.now c.args.class.now c.args.depth c.in_ok-least_title.field-0 c.in_ok-least_title.ensures.member c.in_ok-least_title.ensures.digits c.in_ok-least_title.ensures.markings c.requires.depth (omega (arith, c.target_count-count.ensures, c.if-count-eq0.true))
+pub explore_targets-returns-in_ok-least_title-in-None-clause-found : goal.explore_targets-returns-in_ok-least_title-in-None-clause-found
+explore_targets-returns-in_ok-least_title-in-None-clause-found t c =
+    without_row c.args.plan.now c.args.class.now c.args.depth c.in_ok-least_title-in-None.field-0 c.in_ok-least_title-in-None.ensures.member c.in_ok-least_title-in-None.ensures.digits c.in_ok-least_title-in-None.ensures.markings c.requires.depth (sym c.class_row.ensures.value ∙ ap (λ (o : Option (Bor Rule)). option_copied o) c.in-None.is)
 
-pub explore_targets-loop-place-preserved : goal.explore_targets-loop-place-preserved
-explore_targets-loop-place-preserved t c =
+pub explore_row-loop-place-preserved : goal.explore_row-loop-place-preserved
+explore_row-loop-place-preserved t c =
     let found = subst (λ (f : Found). IsLed c.args.plan.now c.args.class.now c.args.depth c.loop-place.place c.explore_target.new.ranks f) c.in-Rank.is c.in_ok-other.ensures.found in
     record {
       keeps = keeps_more _ _ _ c.loop-place.invariant.keeps c.explore_target.ensures.keeps;
@@ -84,10 +87,11 @@ explore_targets-loop-place-preserved t c =
       some = rw c.max-rank.ensures (targets_high c.args.plan.now _ _ c.args.class.now c.loop-place.rank c.in-Rank.other c.explore_target.ensures.keeps found.0.high c.loop-place.invariant.some);
     }
 
-pub explore_targets-returns-clause-found : goal.explore_targets-returns-clause-found
-explore_targets-returns-clause-found t c = (
+pub explore_row-returns-clause-found : goal.explore_row-returns-clause-found
+explore_row-returns-clause-found t c = (
   decided_borne _ _ c.args.class.now c.loop-place.rank c.loop-place.place c.requires.class c.requires.node c.requires.cover c.requires.decided
-      (omega (arith, c.target_count-count.ensures, c.if-count-eq0.false)) (omega (arith, c.target_count-count.ensures, c.loop-place-test.false))
+      (subst (λ (o : Option Rule). IsSome o) (sym c.requires.row) refl)
+      (omega (arith, ap length (row_targets c.args.plan.now c.args.class.now c.args.row.now c.requires.row), c.target_count-place-end.ensures, c.loop-place-test.false))
       c.loop-place.invariant.low (omega (arith, c.loop-place.invariant.few)) c.loop-place.invariant.leads c.loop-place.invariant.some,
   c.loop-place.invariant.few,
 )

@@ -1,5 +1,5 @@
 use Rattle.plan_classes.proofs.Deciding.{decides}
-use Rattle.plan_classes.proofs.class_rows.decided.Goals as goal
+use Rattle.plan_classes.proofs.class_rows.is_extended_by_none.Goals as goal
 
 pub returns : goal.returns
 returns c =
