@@ -1,5 +1,5 @@
 // What no clause says: that a check with ample memory answers, and the causes on plans that are worked out by hand.
-use crate::{Accepted, CheckFault, Longest, Ranks, Unchecked, check};
+use crate::{Accepted, CheckFault, Longest, Ranks, RanksFault, Unchecked, check};
 use plan_classes::Class;
 use plan_model::{Cover, Node, Plan, PlanFault, Spot};
 use plan_rules::{Row, Table, Target};
@@ -187,5 +187,32 @@ fn the_latest_rank_counts(rt: HostRuntime) -> Result<(), Fail> {
     ranks.put(first()?, 2)?;
     assert_eq!(rt; ranks.get(&first()?), Some(2));
     assert_eq!(rt; ranks.len(), 1);
+    Ok(())
+}
+
+/// The class of one title with the digits 49, by the places of its node and cover.
+fn class_at(node: u8, cover: u16) -> Result<Class, Fail> {
+    Ok(Class::new(cover, node, selector()?, 6, Digits::parse(b"49")?, 0, 0).ok_or("a class")?)
+}
+
+/// Ranks of 262,144 classes: those of 65,536 places of covers at four nodes.
+fn full(alloc: Global) -> Result<Ranks, Fail> {
+    let mut ranks = Ranks::new(alloc);
+    for place in 0..262_144_u32 {
+        ranks.put(
+            class_at((place / 65_536) as u8, (place % 65_536) as u16)?,
+            1,
+        )?;
+    }
+    Ok(ranks)
+}
+
+#[test]
+fn a_table_has_a_limit(rt: HostRuntime) -> Result<(), Fail> {
+    let mut ranks = full(rt.alloc())?;
+    assert!(rt; ranks.put(class_at(4, 0)?, 1) == Err(RanksFault::Full));
+    assert!(rt; ranks.put(class_at(3, 9)?, 2).is_ok());
+    assert_eq!(rt; ranks.get(&class_at(3, 9)?), Some(2));
+    assert_eq!(rt; ranks.len(), 262_144);
     Ok(())
 }

@@ -1,6 +1,6 @@
 // What no clause says: that the definitions mean the plan file's rules, and that a text with memory is read.
 use crate::read;
-use plan_model::{Plan, PlanFault};
+use plan_model::{Cover, Node, Plan, PlanFault};
 use plan_rules::{Row, Target};
 use sccp_base::{Digits, PointCode, Selector};
 use std::alloc::Global;
@@ -89,35 +89,57 @@ fn to(point: u16) -> Result<Target, Fail> {
     Ok(Target::Final { pc, ssn: Some(6) })
 }
 
-/// Whether the plan's only node has only this row.
-fn has_row(plan: &Plan, want: &Row) -> bool {
-    match plan.nodes().as_slice() {
-        [node] => node.table.rows() == [*want].as_slice(),
+/// Whether a node has this name, point, subsystems and rows, and no concerned points.
+fn is_node(node: &Node, name: &[u8], point: u16, own: &[u8], rows: &[Row]) -> bool {
+    if node.name.as_slice() != name || node.pc.value() != point {
+        return false;
+    }
+    if node.subsystems.as_slice() != own || !node.concerned.as_slice().is_empty() {
+        return false;
+    }
+    node.table.rows() == rows
+}
+
+/// Whether these are subsystem 6 at 2-0-1 and at 2-0-2.
+fn are_allowed(places: &[(PointCode, u8)]) -> bool {
+    match places {
+        [(p, m), (q, n)] => p.value() == 4097 && *m == 6 && q.value() == 4098 && *n == 6,
         _ => false,
     }
 }
 
-/// Whether the plan's first node has only this row.
-fn first_has_row(plan: &Plan, want: &Row) -> bool {
-    match plan.nodes().as_slice().first() {
-        Some(node) => node.table.rows() == [*want].as_slice(),
-        None => false,
+/// Whether a cover has titles of this selector and subsystem 6 at the first node, with this prefix and so many digits.
+fn is_cover(cover: &Cover, selector: Selector, prefix: &[u8], least: u8, most: u8) -> bool {
+    if cover.node != 0 || cover.selector != selector || cover.ssn != 6 {
+        return false;
+    }
+    if cover.prefix.as_slice() != prefix || cover.least != least || cover.most != most {
+        return false;
+    }
+    are_allowed(cover.allowed.as_slice())
+}
+
+/// Whether the plan has relay a alone, with this row, and one cover of the row's selector.
+fn has_one_row(plan: &Plan, row: &Row, prefix: &[u8], least: u8, most: u8) -> bool {
+    match (plan.nodes().as_slice(), plan.covers().as_slice()) {
+        ([node], [cover]) => {
+            is_node(node, b"a", 2050, &[8], &[*row])
+                && is_cover(cover, row.selector(), prefix, least, most)
+        }
+        _ => false,
     }
 }
 
-/// The least and the most digits of the plan's only cover, and how many its prefix has.
-fn range(plan: &Plan) -> Option<(u8, u8, usize)> {
-    match plan.covers().as_slice() {
-        [cover] => Some((cover.least, cover.most, cover.prefix.len())),
-        _ => None,
+/// Whether the plan has relays a and b with a row each, and one cover of the first row's selector.
+fn has_two_rows(plan: &Plan, at_a: &Row, at_b: &Row, prefix: &[u8]) -> bool {
+    match (plan.nodes().as_slice(), plan.covers().as_slice()) {
+        ([a, b], [cover]) => {
+            is_node(a, b"a", 2050, &[], &[*at_a])
+                && is_node(b, b"b", 2051, &[], &[*at_b])
+                && is_cover(cover, at_a.selector(), prefix, 12, 12)
+        }
+        _ => false,
     }
-}
-
-/// The name, the point and the subsystems of the plan's first node.
-fn first_node(plan: &Plan) -> Option<(&[u8], u16, &[u8])> {
-    let node = plan.nodes().as_slice().first()?;
-    let own = node.subsystems.as_slice();
-    Some((node.name.as_slice(), node.pc.value(), own))
 }
 
 #[test]
@@ -126,9 +148,7 @@ fn a_plan_of_one_row_reads(rt: HostRuntime) -> Result<(), Fail> {
     let x = kind_four(4)?;
     let want = row_made(x, b"49", to(4097)?, None)?;
     let plan = plan(alloc, &[version(), node_a(), own(), row(), cover()])?;
-    assert!(rt; has_row(&plan, &want));
-    assert_eq!(rt; range(&plan), Some((12, 12, 2)));
-    assert!(rt; matches!(first_node(&plan), Some((b"a", 2050, [8]))));
+    assert!(rt; has_one_row(&plan, &want, &[4, 9], 12, 12));
     Ok(())
 }
 
@@ -142,7 +162,7 @@ fn a_backup_reads(rt: HostRuntime) -> Result<(), Fail> {
         alloc,
         &[version(), node_a(), own(), row(), backup(), cover()],
     )?;
-    assert!(rt; has_row(&plan, &want));
+    assert!(rt; has_one_row(&plan, &want, &[4, 9], 12, 12));
     Ok(())
 }
 
@@ -155,27 +175,27 @@ fn empty_prefixes_read(rt: HostRuntime) -> Result<(), Fail> {
         alloc,
         &[version(), node_a(), own(), row_of_all(), cover_of_all()],
     )?;
-    assert!(rt; has_row(&plan, &want));
-    assert_eq!(rt; range(&plan), Some((1, 15, 0)));
+    assert!(rt; has_one_row(&plan, &want, &[], 1, 15));
     Ok(())
 }
 
-/// Where the places of the plan's only cover are.
-fn allowed(plan: &Plan) -> Option<((u16, u8), (u16, u8))> {
-    match plan.covers().as_slice() {
-        [cover] => match cover.allowed.as_slice() {
-            [(p, m), (q, n)] => Some(((p.value(), *m), (q.value(), *n))),
-            _ => None,
-        },
+/// The concerned points of the plan's first node.
+fn concerned(plan: &Plan) -> Option<(u16, u16)> {
+    match plan.nodes().as_slice().first()?.concerned.as_slice() {
+        [p, q] => Some((p.value(), q.value())),
         _ => None,
     }
 }
 
+fn concerned_points() -> &'static [u8] {
+    b"concerned = [\"1-0-7\", \"2-0-1\"]\n"
+}
+
 #[test]
-fn allowed_places_read(rt: HostRuntime) -> Result<(), Fail> {
+fn concerned_points_read(rt: HostRuntime) -> Result<(), Fail> {
     let alloc = rt.alloc();
-    let plan = plan(alloc, &[version(), node_a(), cover()])?;
-    assert_eq!(rt; allowed(&plan), Some(((4097, 6), (4098, 6))));
+    let plan = plan(alloc, &[version(), node_a(), concerned_points(), cover()])?;
+    assert_eq!(rt; concerned(&plan), Some((2055, 4097)));
     Ok(())
 }
 
@@ -198,6 +218,12 @@ fn relay_made() -> Result<Target, Fail> {
     })
 }
 
+/// The point 2-0-1, whatever the subsystem.
+fn end_of_any() -> Result<Target, Fail> {
+    let pc = PointCode::new(4097).ok_or("a point code")?;
+    Ok(Target::Final { pc, ssn: None })
+}
+
 #[test]
 fn a_relay_reads_as_the_point_of_its_node(rt: HostRuntime) -> Result<(), Fail> {
     let alloc = rt.alloc();
@@ -211,10 +237,10 @@ fn a_relay_reads_as_the_point_of_its_node(rt: HostRuntime) -> Result<(), Fail> {
         cover(),
     ];
     let x = kind_four(4)?;
-    let want = row_made(x, b"49", relay_made()?, None)?;
+    let at_a = row_made(x, b"49", relay_made()?, None)?;
+    let at_b = row_made(kind_four(3)?, b"0", end_of_any()?, None)?;
     let plan = plan(alloc, &pieces)?;
-    assert_eq!(rt; plan.nodes().as_slice().len(), 2);
-    assert!(rt; first_has_row(&plan, &want));
+    assert!(rt; has_two_rows(&plan, &at_a, &at_b, &[4, 9]));
     Ok(())
 }
 

@@ -5,6 +5,7 @@ ghost use Rattle.sccp_tool.specs.Commands.{task_of, texts};
 ghost use Rattle.sccp_tool.specs.Run.{work_of};
 ghost use Rattle.sccp_tool.specs.Work.{HasFiles};
 
+mod plan_files;
 mod routes;
 mod verdicts;
 

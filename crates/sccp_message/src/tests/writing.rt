@@ -111,7 +111,7 @@ fn long_data(rt: HostRuntime) -> Result<(), Fail> {
 #[test]
 fn encode_faults(rt: HostRuntime) -> Result<(), Fail> {
     let alloc = rt.alloc();
-    let cases: [(Message, Option<EncodeFault>); 8] = [
+    let cases: [(Message, Option<EncodeFault>); 9] = [
         (udt(alloc, 255)?, None),
         (udt(alloc, 256)?, Some(EncodeFault::TooLong(2))),
         (ludt(alloc, 65535)?, None),
@@ -119,6 +119,10 @@ fn encode_faults(rt: HostRuntime) -> Result<(), Fail> {
         (xudt(alloc, by_digits(&[0x44; 12]), 1)?, None),
         (
             xudt(alloc, by_digits(&[0x44; 13]), 1)?,
+            Some(EncodeFault::PointerTooFar(3)),
+        ),
+        (
+            xudt(alloc, by_digits(&[0x44; 14]), 1)?,
             Some(EncodeFault::PointerTooFar(3)),
         ),
         (xudt(alloc, by_number(6), 255)?, None),

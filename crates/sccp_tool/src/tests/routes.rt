@@ -2,8 +2,7 @@
 use crate::run::run;
 use crate::status::Status;
 use crate::tests::{ONE_RELAY, USAGE, answer, one_file, words_of};
-use sccp_io::{MemoryFiles, MemorySink, SoundFiles, SoundSink};
-use std::alloc::Global;
+use sccp_io::{MemorySink, SoundFiles};
 use std::test::Fail;
 
 /// Two relays: the first strips 49, puts 0 and sets the nature of address to 3.
@@ -82,6 +81,16 @@ fn a_route_has_a_line_for_each_hop(rt: HostRuntime) -> Result<(), Fail> {
             "route f a 4:0:1:4 6 491710000012",
             "at a 4:0:1:4 6 491710000012 held none sent b target 0\nat b 4:0:1:3 6 01710000012 held none ended 2-0-1/6 target 0\n",
         ),
+        (
+            TWO_RELAYS,
+            "route f a 4:0:1:4 6 47",
+            "at a 4:0:1:4 6 47 held none no row 1\n",
+        ),
+        (
+            TWO_RELAYS,
+            "route f a 4:0:1:3 6 47",
+            "at a 4:0:1:3 6 47 held none no row 0\n",
+        ),
         (TWO_RELAYS, "route f c 4:0:1:4 6 49", "unknown node\n"),
     ] {
         let (status, text) = answer(alloc, line, plan.as_bytes())?;
@@ -134,70 +143,6 @@ fn words_of_a_route_have_forms(rt: HostRuntime) -> Result<(), Fail> {
         let (status, text) = answer(alloc, line, ONE_RELAY.as_bytes())?;
         assert_eq!(rt; status, Status::Usage, "at {line}");
         assert_eq!(rt; text.as_slice(), USAGE.as_bytes(), "at {line}");
-    }
-    Ok(())
-}
-
-#[test]
-fn texts_that_are_no_plan_are_told(rt: HostRuntime) -> Result<(), Fail> {
-    let alloc = rt.alloc();
-    for (octets, want) in [
-        ("version = ", "bad plan not toml\n"),
-        ("version = 2", "bad plan wrong shape node\n"),
-        ("version = 2\nnode = []", "bad plan bad value version\n"),
-        ("version = 1\nnode = []", "bad plan no cover\n"),
-    ] {
-        let (status, text) = answer(alloc, "route f a 4:0:1:4 6 49", octets.as_bytes())?;
-        assert_eq!(rt; status, Status::BadPlan, "at {octets:?}");
-        assert_eq!(rt; text.as_slice(), want.as_bytes(), "at {octets:?}");
-    }
-    Ok(())
-}
-
-/// A plan file of so many octets: a plan, and a comment behind it.
-fn plan_of_size(alloc: Global, size: usize) -> Result<Vec<u8>, Fail> {
-    let mut octets = Vec::from_slice(alloc, ONE_RELAY.as_bytes())?;
-    octets.push(b'#')?;
-    for _ in octets.len()..size {
-        octets.push(b'x')?;
-    }
-    Ok(octets)
-}
-
-#[test]
-fn a_plan_file_has_a_limit(rt: HostRuntime) -> Result<(), Fail> {
-    let alloc = rt.alloc();
-    let line = "route f b 4:0:1:4 6 49";
-    let (status, text) = answer(alloc, line, &plan_of_size(alloc, 1_048_576)?)?;
-    assert_eq!(rt; status, Status::Done);
-    assert_eq!(rt; text.as_slice(), b"unknown node\n".as_slice());
-    let (status, text) = answer(alloc, line, &plan_of_size(alloc, 1_048_577)?)?;
-    assert_eq!(rt; status, Status::TooLong);
-    assert_eq!(rt; text.as_slice(), b"too long\n".as_slice());
-    Ok(())
-}
-
-/// The first call begins the file, the second takes its octets, and the third finds its end.
-#[test]
-fn a_plan_file_is_read(rt: HostRuntime) -> Result<(), Fail> {
-    let alloc = rt.alloc();
-    for (line, failing) in [
-        ("route f a 4:0:1:4 6 49", 0),
-        ("route f a 4:0:1:4 6 49", 1),
-        ("route f a 4:0:1:4 6 49", 2),
-        ("route g a 4:0:1:4 6 49", 9),
-    ] {
-        let words = words_of(alloc, line)?;
-        let files = one_file(alloc, ONE_RELAY.as_bytes())?;
-        let mut files = MemoryFiles::new(files, vec![in alloc; failing]?);
-        let mut out = SoundSink::new(alloc);
-        let status = run(alloc, &words, &mut files, &mut out);
-        assert_eq!(rt; status, Status::ReadFault, "at {line}, call {failing}");
-        assert_eq!(rt;
-            out.taken(),
-            b"read fault\n".as_slice(),
-            "at {line}, call {failing}"
-        );
     }
     Ok(())
 }

@@ -1,8 +1,8 @@
 //! The command `verify`, over plan files in memory.
-use crate::run::run;
+ghost use Rattle.std.specs.Prelude.{◌<◌};
+
 use crate::status::Status;
-use crate::tests::{ONE_RELAY, answer, one_file, words_of};
-use sccp_io::{MemoryFiles, SoundSink};
+use crate::tests::{ONE_RELAY, answer};
 use std::alloc::Global;
 use std::test::Fail;
 
@@ -81,59 +81,75 @@ fn a_forbidden_end_is_refused(rt: HostRuntime) -> Result<(), Fail> {
     Ok(())
 }
 
-#[test]
-fn a_text_that_is_no_plan_has_no_verdict(rt: HostRuntime) -> Result<(), Fail> {
-    let alloc = rt.alloc();
-    for (octets, want) in [
-        ("version = ", "bad plan not toml\n"),
-        ("version = 2", "bad plan wrong shape node\n"),
-        ("version = 1\nnode = []", "bad plan no cover\n"),
-    ] {
-        let (status, text) = answer(alloc, "verify f", octets.as_bytes())?;
-        assert_eq!(rt; status, Status::BadPlan, "at {octets:?}");
-        assert_eq!(rt; text.as_slice(), want.as_bytes(), "at {octets:?}");
+/// Appends a number of two digits.
+fn push_two(text: &mut Vec<u8>, number: u8) -> Result<(), Fail>
+    requires { number < 100 }
+{
+    text.push(b'0' + number / 10)?;
+    text.push(b'0' + number % 10)?;
+    Ok(())
+}
+
+/// Appends a row of this relay's table: to the next relay, and from the last one to 2-0-1.
+fn push_row(text: &mut Vec<u8>, relay: u8, prefix: u8) -> Result<(), Fail>
+    requires relay { relay < 14 }
+    requires prefix { prefix < 100 }
+{
+    text.extend_from_slice(b"[[node.row]]\nselector = \"4:0:1:4\"\nprefix = \"")?;
+    push_two(text, prefix)?;
+    if relay < 13 {
+        text.extend_from_slice(b"\"\nfirst = { relay = \"")?;
+        text.push(b'b' + relay)?;
+        text.extend_from_slice(b"\" }\n")?;
+    } else {
+        text.extend_from_slice(b"\"\nfirst = { final = \"2-0-1\", ssn = 6 }\n")?;
     }
     Ok(())
 }
 
-/// A text of so many octets that is no plan.
-fn text_of_size(alloc: Global, size: usize) -> Result<Vec<u8>, Fail> {
-    Ok(vec![in alloc; b'x'; size]?)
-}
-
-#[test]
-fn a_plan_to_be_verified_has_a_limit(rt: HostRuntime) -> Result<(), Fail> {
-    let alloc = rt.alloc();
-    let (status, text) = answer(alloc, "verify f", &text_of_size(alloc, 1_048_576)?)?;
-    assert_eq!(rt; status, Status::BadPlan);
-    assert_eq!(rt; text.as_slice(), b"bad plan not toml\n".as_slice());
-    let (status, text) = answer(alloc, "verify f", &text_of_size(alloc, 1_048_577)?)?;
-    assert_eq!(rt; status, Status::TooLong);
-    assert_eq!(rt; text.as_slice(), b"too long\n".as_slice());
+/// Appends a relay with a row for each two decimal digits.
+fn push_relay(text: &mut Vec<u8>, relay: u8) -> Result<(), Fail>
+    requires { relay < 14 }
+{
+    text.extend_from_slice(b"[[node]]\nname = \"")?;
+    text.push(b'a' + relay)?;
+    text.extend_from_slice(b"\"\npoint = \"0-")?;
+    push_two(text, relay)?;
+    text.extend_from_slice(b"-1\"\n")?;
+    for prefix in 0..100 {
+        push_row(text, relay, prefix)?;
+    }
     Ok(())
 }
 
-/// The first call begins the file, the second takes its octets, and the third finds its end.
-#[test]
-fn a_plan_to_be_verified_is_read(rt: HostRuntime) -> Result<(), Fail> {
-    let alloc = rt.alloc();
-    for (line, failing) in [
-        ("verify f", 0),
-        ("verify f", 1),
-        ("verify f", 2),
-        ("verify g", 9),
-    ] {
-        let words = words_of(alloc, line)?;
-        let files = one_file(alloc, ONE_TARGET.as_bytes())?;
-        let mut files = MemoryFiles::new(files, vec![in alloc; failing]?);
-        let mut out = SoundSink::new(alloc);
-        let status = run(alloc, &words, &mut files, &mut out);
-        assert_eq!(rt; status, Status::ReadFault, "at {line}, call {failing}");
-        assert_eq!(rt;
-            out.taken(),
-            b"read fault\n".as_slice(),
-            "at {line}, call {failing}"
-        );
+/// A chain of fourteen relays, and 256 times the cover of two digits at the first. Each cover has 111 classes there and a
+/// hundred at each relay behind it.
+fn wide_plan(alloc: Global) -> Result<Vec<u8>, Fail> {
+    let mut text = Vec::from_slice(alloc, b"version = 1\n")?;
+    for relay in 0..14 {
+        push_relay(&mut text, relay)?;
     }
+    for _ in 0..256 {
+        text.extend_from_slice(WIDE_COVER.as_bytes())?;
+    }
+    Ok(text)
+}
+
+const WIDE_COVER: &str = r#"[[cover]]
+node = "a"
+selector = "4:0:1:4"
+ssn = 6
+prefix = ""
+least = 2
+most = 2
+allowed = ["2-0-1/6"]
+"#;
+
+#[test]
+fn a_plan_of_361216_classes_is_too_wide(rt: HostRuntime) -> Result<(), Fail> {
+    let alloc = rt.alloc();
+    let (status, text) = answer(alloc, "verify f", &wide_plan(alloc)?)?;
+    assert_eq!(rt; status, Status::TooWide);
+    assert_eq!(rt; text.as_slice(), b"too wide\n".as_slice());
     Ok(())
 }
