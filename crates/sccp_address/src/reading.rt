@@ -1,4 +1,4 @@
-ghost use Rattle.std.specs.Prelude.{◌≡◌, ◌≤◌, ◌+◌, ◌<◌, ◌&&◌, ◌==◌, ◌∷◌, length, List, IsTrue, IfOk, Ok};
+ghost use Rattle.std.specs.Prelude.{◌≡◌, ◌≤◌, ◌+◌, ◌<◌, ◌&&◌, ◌==◌, IfOk, Ok};
 ghost use Rattle.sccp_base.specs.Bits.{bit};
 ghost use Rattle.sccp_address.specs.declared.address.Address.{Address};
 ghost use Rattle.sccp_address.specs.Addresses.{AddressIs};

@@ -1,5 +1,5 @@
 -- Places of marks among ascending marks, and what an edit there leaves.
-use Rattle.std.specs.Prelude.{◌≡◌, ℕ, ◌+◌, ◌<◌, ◌≤◌, ◌⊎◌, Bool, true, false, not, ◌&&◌, ◌||◌, List, ◌∷◌, length, refl, Result, Ok, Err, take, drop}
+use Rattle.std.specs.Prelude.{◌≡◌, ℕ, ◌+◌, ◌<◌, ◌≤◌, Bool, true, false, not, ◌&&◌, ◌||◌, List, ◌∷◌, length, refl, Result, Ok, Err, take, drop}
 use Rattle.std.specs.List.{All, insert, remove}
 use Rattle.std.specs.List.Sorted.{IsBinarySearchResult, IsNonDecreasingBy, IsSearchInRange}
 use Rattle.std.specs.Ordering.{ordering_index, ordering_reverse, is_eq}
@@ -7,11 +7,12 @@ use Rattle.std.specs.Result.{is_ok}
 use Rattle.std.specs.Cmp.{tied_itself}
 use Rattle.std.specs.declared.cmp.Ordering.{Ordering}
 use Rattle.std.specs.declared.cmp.Ordering.TheVariants.{Less, Equal, Greater}
-use Rattle.std.proofs.Common.{suc, sym, ◌∙◌, ap, subst, arith, get_or, ⊎_elim, inl, inr, length-append, drop-cons, ◌-◌}
+use Rattle.std.proofs.Common.{suc, sym, ◌∙◌, ap, subst, arith, get_or, ⊎_elim, length-append, drop-cons}
 use Rattle.std.proofs.lemmas.Bool.{cases_lt, false≢true, eqb-true, and_parts}
 use Rattle.std.proofs.lemmas.List.{take-append-drop, length-take, length-drop}
-use Rattle.std.proofs.lemmas.List.Edits.{get_or-insert_at, get_or-insert_below, get_or-insert_above, get_or-remove_below, get_or-remove_above}
+use Rattle.std.proofs.lemmas.List.Edits.{get_or-remove_below, get_or-remove_above}
 use Rattle.std.proofs.lemmas.List.Folds.{list_any-append, list_any_none, list_any-from_Any}
+use Rattle.sccp_base.proofs.Inserted.{pairs_insert, related}
 use Rattle.sccp_base.specs.declared.mark.Mark.{Mark}
 use Rattle.sccp_base.specs.declared.mark.Mark.TheVariants.{PointCode, Sccp, Subsystem}
 use Rattle.sccp_base.specs.Marks.{mark_cmp, same_mark, holds, IsAscending, IsAt, BelongsAt, IsPlaceOf}
@@ -78,61 +79,10 @@ is_place marks mark (Err place) ascending inside found =
 
 -- ---- a mark more
 
-abbrev IsBelow : List Mark → Mark → ℕ → ℕ → Mark → Type 0
-IsBelow marks mark place k d = (k < place) × (get_or (insert marks place mark) k d ≡ get_or marks k d)
-
-abbrev IsHere : List Mark → Mark → ℕ → ℕ → Mark → Type 0
-IsHere marks mark place k d = (k ≡ place) × (get_or (insert marks place mark) k d ≡ mark)
-
-abbrev IsAbove : List Mark → Mark → ℕ → ℕ → Mark → Type 0
-IsAbove marks mark place k d = (l : ℕ) × (k ≡ l + 1) × (place ≤ l) × (get_or (insert marks place mark) k d ≡ get_or marks l d)
-
-at_insert : (marks : List Mark) (mark : Mark) (place k : ℕ) (d : Mark) → place ≤ length marks → IsBelow marks mark place k d ⊎ (IsHere marks mark place k d ⊎ IsAbove marks mark place k d)
-at_insert marks mark place k d inside =
-    ⊎_elim
-    (λ (lt : k < place). inl (lt, get_or-insert_below marks place mark d k lt inside))
-    (λ (ge : place ≤ k). ⊎_elim
-    (λ (gt : place < k).
-    let e : k ≡ (k - 1) + 1 = omega arith in
-    let le : place ≤ k - 1 = omega arith in
-    inr (inr (k - 1, e, le, ap (λ (n : ℕ). get_or (insert marks place mark) n d) e ∙ get_or-insert_above marks place mark d (k - 1) le inside)))
-    (λ (le : k ≤ place).
-    let e : k ≡ place = omega arith in
-    inr (inl (e, ap (λ (n : ℕ). get_or (insert marks place mark) n d) e ∙ get_or-insert_at marks place mark d inside)))
-    (cases_lt place k))
-    (cases_lt k place)
-
-related : (a b x y : Mark) → a ≡ x → b ≡ y → mark_cmp x y ≡ Less → mark_cmp a b ≡ Less
-related a b x y p q h = ap (λ (m : Mark). mark_cmp m b) p ∙ ap (λ (m : Mark). mark_cmp x m) q ∙ h
-
 pub ascending_insert : (marks : List Mark) (mark : Mark) (place : ℕ) → IsAscending marks → BelongsAt marks mark place → IsAscending (insert marks place mark)
-ascending_insert marks mark place ascending at i j d lt bound =
-    let size : length (insert marks place mark) ≡ length marks + 1 = omega (arith, length-append (take place marks) (mark ∷ drop place marks), length-take place marks, length-drop place marks, at.inside) in
-    ⊎_elim
-    (λ (p : IsBelow marks mark place i d). ⊎_elim
-    (λ (q : IsBelow marks mark place j d). related _ _ _ _ p.1 q.1 (ascending i j d lt (omega (arith, at.inside, q.0))))
-    (λ o. ⊎_elim
-    (λ (q : IsHere marks mark place j d). related _ _ _ _ p.1 q.1 (at.below i d (omega arith) p.0))
-    (λ (q : IsAbove marks mark place j d). related _ _ _ _ p.1 q.3 (ascending i q.0 d (omega (arith, p.0, q.2)) (omega (arith, bound, size, q.1))))
-    o)
-    (at_insert marks mark place j d at.inside))
-    (λ n. ⊎_elim
-    (λ (p : IsHere marks mark place i d). ⊎_elim
-    (λ (q : IsBelow marks mark place j d). absurd (omega (arith, lt, p.0, q.0)))
-    (λ o. ⊎_elim
-    (λ (q : IsHere marks mark place j d). absurd (omega (arith, lt, p.0, q.0)))
-    (λ (q : IsAbove marks mark place j d). related _ _ _ _ p.1 q.3 (turned (get_or marks q.0 d) mark (at.above q.0 d q.2 (omega (arith, bound, size, q.1)))))
-    o)
-    (at_insert marks mark place j d at.inside))
-    (λ (p : IsAbove marks mark place i d). ⊎_elim
-    (λ (q : IsBelow marks mark place j d). absurd (omega (arith, lt, p.1, p.2, q.0)))
-    (λ o. ⊎_elim
-    (λ (q : IsHere marks mark place j d). absurd (omega (arith, lt, p.1, p.2, q.0)))
-    (λ (q : IsAbove marks mark place j d). related _ _ _ _ p.3 q.3 (ascending p.0 q.0 d (omega (arith, lt, p.1, q.1)) (omega (arith, bound, size, q.1))))
-    o)
-    (at_insert marks mark place j d at.inside))
-    n)
-    (at_insert marks mark place i d at.inside)
+ascending_insert marks mark place ascending at =
+    pairs_insert (λ a b. mark_cmp a b ≡ Less) marks mark place ascending at.inside at.below
+    (λ k d le lt. turned (get_or marks k d) mark (at.above k d le lt))
 
 turn_or : (a b c : Bool) → (a || (b || c)) ≡ (b || (a || c))
 turn_or true true c = refl
@@ -152,10 +102,10 @@ ascending_remove marks place inside ascending i j d lt bound =
     let size : length (remove marks place) + 1 ≡ length marks = omega (arith, length-append (take place marks) (drop (suc place) marks), length-take place marks, length-drop (suc place) marks, inside) in
     ⊎_elim
     (λ (i_below : i < place). ⊎_elim
-    (λ (j_below : j < place). related _ _ _ _ (get_or-remove_below marks place d i i_below inside) (get_or-remove_below marks place d j j_below inside) (ascending i j d lt (omega arith)))
-    (λ (j_above : place ≤ j). related _ _ _ _ (get_or-remove_below marks place d i i_below inside) (get_or-remove_above marks place d j j_above inside) (ascending i (j + 1) d (omega arith) (omega arith)))
+    (λ (j_below : j < place). related (λ a b. mark_cmp a b ≡ Less) _ _ _ _ (get_or-remove_below marks place d i i_below inside) (get_or-remove_below marks place d j j_below inside) (ascending i j d lt (omega arith)))
+    (λ (j_above : place ≤ j). related (λ a b. mark_cmp a b ≡ Less) _ _ _ _ (get_or-remove_below marks place d i i_below inside) (get_or-remove_above marks place d j j_above inside) (ascending i (j + 1) d (omega arith) (omega arith)))
     (cases_lt j place))
-    (λ (i_above : place ≤ i). related _ _ _ _ (get_or-remove_above marks place d i i_above inside) (get_or-remove_above marks place d j (omega arith) inside) (ascending (i + 1) (j + 1) d (omega arith) (omega arith)))
+    (λ (i_above : place ≤ i). related (λ a b. mark_cmp a b ≡ Less) _ _ _ _ (get_or-remove_above marks place d i i_above inside) (get_or-remove_above marks place d j (omega arith) inside) (ascending (i + 1) (j + 1) d (omega arith) (omega arith)))
     (cases_lt i place)
 
 -- none of the other marks is this one
