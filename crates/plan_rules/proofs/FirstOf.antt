@@ -2,6 +2,7 @@
 use Rattle.std.specs.Prelude.{ℕ, ◌≡◌, ◌+◌, ◌<◌, ◌≤◌, List, [], ◌∷◌, length, drop, Option, Some, None, refl}
 use Rattle.std.specs.Option.{option_or}
 use Rattle.std.proofs.Common.{zero, suc, sym, ◌∙◌, ap, subst, arith, get_or, add-one, add-zero, drop-cons}
+use Rattle.std.proofs.lemmas.List.{drop_all}
 use Rattle.plan_rules.specs.FirstOf.{first_of}
 
 -- what is found from a place on is found there, or behind it
@@ -17,17 +18,8 @@ pub first_of_next : {A B : Type 0} (test : ℕ → A → Option B) (xs : List A)
 first_of_next {A} {B} test xs j x whole lt at not_here rest =
     sym (first_of-drop test xs j x lt at ∙ ap (λ (o : Option B). option_or o (first_of test (j + 1) (drop (j + 1) xs))) not_here) ∙ rest
 
-drop_all : {A : Type 0} (xs : List A) (j : ℕ) → length xs ≤ j → drop j xs ≡ []
-drop_all xs zero h = none xs h
-  where
-    none : {A : Type 0} (ys : List A) → length ys ≤ 0 → ys ≡ []
-    none [] h = refl
-    none (y ∷ ys) h = absurd (omega arith)
-drop_all [] (suc j) h = refl
-drop_all (x ∷ xs) (suc j) h = drop_all xs j (omega arith)
-
 pub first_of_end : {A B : Type 0} (test : ℕ → A → Option B) (xs : List A) (j : ℕ) (whole : Option B) → length xs ≤ j → first_of test j (drop j xs) ≡ whole → None ≡ whole
-first_of_end test xs j whole le rest = sym (ap (first_of test j) (drop_all xs j le)) ∙ rest
+first_of_end test xs j whole le rest = sym (ap (first_of test j) (drop_all j xs le)) ∙ rest
 
 pub option_or-None : {B : Type 0} (a b : Option B) → option_or a b ≡ None → (a ≡ None) × (b ≡ None)
 option_or-None None b h = (refl, h)

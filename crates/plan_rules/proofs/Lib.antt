@@ -4,3 +4,5 @@ pub mod FirstOf
 pub mod NewKinds
 pub mod Longest
 pub mod Places
+pub mod TitleOrder
+pub mod Sought

@@ -1,5 +1,5 @@
 -- no target of a table gives a title a selector of kind 2
-use Rattle.std.specs.Prelude.{ℕ, ◌≡◌, ◌≢◌, ◌+◌, true, false, List, length, Option, Some, None, IfSome}
+use Rattle.std.specs.Prelude.{ℕ, ◌≡◌, ◌≢◌, ◌+◌, false, List, length, Option, Some, None, IfSome}
 use Rattle.std.specs.List.{All, position, list_any}
 use Rattle.std.proofs.Common.{sym, ◌∙◌, get_or}
 use Rattle.std.proofs.lemmas.Bool.{false≢true, eq-eqb}

@@ -5,8 +5,11 @@
 //! prefix, and none that gives a title of kind 2 an odd number of digits.
 #![tactic(auto)]
 
+mod in_common;
+mod order;
 mod row;
 mod rule_fault;
+mod seeking;
 mod table;
 mod target;
 #[cfg(test)]

@@ -1,6 +1,7 @@
 ghost use Rattle.std.specs.Prelude.{◌≡◌, length, IsTrue, ◌↔◌, slice_get, SomeIff};
 ghost use Rattle.std.specs.Option.{option_copied};
 
+use crate::in_common::is_up_to;
 use crate::target::Target;
 use sccp_base::{Digits, Selector};
 use std::marker::Model;
@@ -29,6 +30,7 @@ impl Model for Row {
 
 impl Row {
     ghost use Rattle.plan_rules.specs.Rule.{rule, targets, IsShort};
+    ghost use Rattle.plan_rules.specs.Order.{titles, titles_of, up_to};
     ghost use Rattle.plan_rules.specs.Rows.{matches, Extends};
     ghost use Rattle.plan_rules.specs.Tables.{same_titles, strips_too_long, makes_odd, IsRule};
 
@@ -122,6 +124,27 @@ impl Row {
             && known.len() < self.prefix.len()
             && self.prefix.len() <= known.len() + usize::from(most)
             && self.prefix.is_decimal_from(known.len())
+    }
+
+    /// Whether the row doesn't come after titles of the selector that begin with the digits, where rows are ordered by the
+    /// numbers of their selectors and then by their prefixes.
+    pub fn is_up_to(&self, selector: Selector, digits: &[u8]) -> bool
+        ensures { result ≡ up_to (titles_of self.now) (titles selector digits.now) }
+    {
+        let own = self.selector;
+        if own.kind() != selector.kind() {
+            return own.kind() < selector.kind();
+        }
+        if own.translation() != selector.translation() {
+            return own.translation() < selector.translation();
+        }
+        if own.plan() != selector.plan() {
+            return own.plan() < selector.plan();
+        }
+        if own.nature() != selector.nature() {
+            return own.nature() < selector.nature();
+        }
+        is_up_to(self.prefix.as_slice(), digits)
     }
 
     /// Whether both rows have the same selector and prefix.

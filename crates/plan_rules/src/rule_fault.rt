@@ -1,3 +1,5 @@
+use sccp_base::OutOfMemory;
+
 /// Why rows make no table. The numbers are places of rows, from 0.
 #[derive(Clone, Copy, Debug, PartialEq, Eq)]
 pub enum RuleFault {
@@ -8,4 +10,15 @@ pub enum RuleFault {
     /// A title of kind 2 could come to have an odd number of digits.
     KindTwo(usize),
     OutOfMemory,
+}
+
+impl From<OutOfMemory> for RuleFault {
+    ghost use Rattle.std.specs.Prelude.{◌≡◌};
+    ghost use Rattle.plan_rules.specs.declared.rule_fault.RuleFault.TheVariants as faults;
+
+    ghost from_gives = { λ _ fault. fault ≡ faults.OutOfMemory };
+
+    fn from(_error: OutOfMemory) -> RuleFault {
+        RuleFault::OutOfMemory
+    }
 }

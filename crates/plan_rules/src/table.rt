@@ -5,8 +5,10 @@ ghost use Rattle.sccp_base.specs.Answers.{Answers};
 ghost use Rattle.plan_rules.specs.Rows.{has_selector, Extends};
 ghost use Rattle.plan_rules.specs.Tables.{IsTable, IsRule, same_titles, first_repeat, strips_too_long, makes_odd, rule_fault, tabled, is_memory};
 
+use crate::order::order_of;
 use crate::row::Row;
 use crate::rule_fault::RuleFault;
+use crate::seeking::{any_extends, place_of};
 use sccp_base::{Digits, List, Selector};
 use std::alloc::Global;
 use std::marker::Model;
@@ -15,18 +17,21 @@ use std::marker::Model;
 #[derive(Drop)]
 pub struct Table {
     rows: List<Row>,
+    /// The places of the rows, in the order of the rows there.
+    order: Vec<usize>,
 }
 
 impl Model for Table {
     ghost use Rattle.std.specs.Prelude.{List as Listed};
     ghost use Rattle.plan_rules.specs.Rule.{Rule};
+    ghost use Rattle.plan_rules.specs.Order.{IsOrder};
     ghost use Rattle.plan_rules.specs.Tables.{IsTable};
 
     ghost Value = { Listed Rule };
 
     ghost view = { λ t. t.rows };
 
-    ghost invariant = { λ t. IsTable t.rows };
+    ghost invariant = { λ t. IsTable t.rows × IsOrder t.rows t.order.items };
 }
 
 impl Table {
@@ -34,13 +39,16 @@ impl Table {
 
     /// A table of these rows, or the first test that they fail: `Twice`, then `StripTooLong`, then `KindTwo`, each for the
     /// first row that fails it.
-    pub fn build(_alloc: Global, rows: List<Row>) -> Result<Table, RuleFault>
+    pub fn build(alloc: Global, rows: List<Row>) -> Result<Table, RuleFault>
         ensures answer { Answers is_memory (λ table. table) result (tabled rows) }
         ensures sound { OnOk result (IsTable rows) }
     {
         match first_fault(rows.as_slice()) {
             Some(fault) => Err(fault),
-            None => Ok(Table { rows }),
+            None => {
+                let order = order_of(alloc, rows.as_slice())?;
+                Ok(Table { rows, order })
+            }
         }
     }
 
@@ -79,7 +87,13 @@ impl Table {
     pub fn extends(&self, selector: Selector, known: &Digits, most: u8) -> bool
         ensures { IsTrue result ↔ Any (Extends selector known.now most) self.now }
     {
-        any_extends(self.rows.as_slice(), selector, known, most)
+        any_extends(
+            self.rows.as_slice(),
+            self.order.as_slice(),
+            selector,
+            known,
+            most,
+        )
     }
 
     /// The place of the row that counts for a title: of the selector's rows whose prefix begins the digits, the one with
@@ -88,17 +102,12 @@ impl Table {
         ensures row { option_and_then (slice_get self.now) result ≡ row self.now selector digits.now }
         ensures within { IfSome result (λ i. i < length self.now) }
     {
-        let mut best = None;
-        // How many digits a better row's prefix has at least.
-        let mut least = 0;
-        for (i, row) in self.rows.as_slice().iter().enumerate() {
-            let count = row.prefix().len();
-            if row.matches(selector, digits) && least <= count {
-                best = Some(i);
-                least = count + 1;
-            }
-        }
-        best
+        place_of(
+            self.rows.as_slice(),
+            self.order.as_slice(),
+            selector,
+            digits,
+        )
     }
 }
 
@@ -163,11 +172,4 @@ fn any_has_selector(rows: &[Row], selector: Selector) -> bool
     ensures { result ≡ list_any (has_selector selector) rows.now }
 {
     rows.iter().any(|row| row.selector() == selector)
-}
-
-/// Whether some row extends these digits.
-fn any_extends(rows: &[Row], selector: Selector, known: &Digits, most: u8) -> bool
-    ensures { IsTrue result ↔ Any (Extends selector known.now most) rows.now }
-{
-    rows.iter().any(|row| row.extends(selector, known, most))
 }

@@ -105,3 +105,37 @@ fn rows_that_make_no_table(rt: HostRuntime) -> Result<(), Fail> {
     assert!(rt; Row::new(kind_four, sixteen, target, None).is_none());
     Ok(())
 }
+
+#[test]
+fn rows_are_sought_in_their_order(rt: HostRuntime) -> Result<(), Fail> {
+    let selector = Selector::new(4, 0, 1, 4).ok_or("a selector")?;
+    let prefixes: [&[u8]; 6] = [b"12340", b"9", b"1", b"1233", b"12A", b"2"];
+    let table = table_of(rt.alloc(), selector, &prefixes, relay(0, b"", None)?)??;
+    let finds: [(&[u8], Option<usize>); 7] = [
+        (b"12345", Some(2)),
+        (b"123405", Some(0)),
+        (b"1233", Some(3)),
+        (b"12AF", Some(4)),
+        (b"13", Some(2)),
+        (b"8", None),
+        (b"", None),
+    ];
+    for (digits, want) in finds {
+        let digits = Digits::parse(digits)?;
+        assert_eq!(rt; table.find(selector, &digits), want, "{digits:?}");
+    }
+    let extends: [(&[u8], u8, bool); 7] = [
+        (b"12", 1, false),
+        (b"12", 2, true),
+        (b"1", 2, false),
+        (b"1", 3, true),
+        (b"12A", 9, false),
+        (b"9", 9, false),
+        (b"", 1, true),
+    ];
+    for (known, most, want) in extends {
+        let known = Digits::parse(known)?;
+        assert_eq!(rt; table.extends(selector, &known, most), want, "{known:?}");
+    }
+    Ok(())
+}
