@@ -5,7 +5,6 @@ mod PlanEnds
 mod ReadingLemmas
 mod RoseLemmas
 mod ShowLemmas
-mod StartLemmas
 mod VerdictEnds
 mod VerifyLemmas
 mod WorkLemmas

@@ -1,6 +1,7 @@
 //! Where a route begins.
 ghost use Rattle.std.specs.Prelude.{◌≡◌};
-ghost use Rattle.sccp_tool.specs.Starts.{node_name, ssn_of, digits_word, title_digits, start_of};
+ghost use Rattle.plan_text.specs.Words.{name_of};
+ghost use Rattle.sccp_tool.specs.Starts.{ssn_of, digits_word, title_digits, start_of};
 
 use sccp_base::{Digits, Name, Selector, decimal};
 
@@ -30,9 +31,9 @@ pub fn start_of(node: &str, selector: &str, ssn: &str, digits: &str) -> Option<S
     })
 }
 
-/// The name of a node.
+/// The name of a node, as plan texts have it.
 fn node_name(word: &[u8]) -> Option<Name>
-    ensures { result ≡ node_name word.now }
+    ensures { result ≡ name_of word.now }
 {
     Name::parse(word)
 }

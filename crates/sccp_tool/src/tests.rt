@@ -6,6 +6,7 @@ ghost use Rattle.sccp_tool.specs.Run.{work_of};
 ghost use Rattle.sccp_tool.specs.Work.{HasFiles};
 
 mod plan_files;
+mod plan_texts;
 mod routes;
 mod verdicts;
 
@@ -35,27 +36,6 @@ called route title point - ssn 6 title 4:0:1:4 digits 491710000012\n\
 calling route ssn point 1-0-1 ssn 8 title - digits -\n\
 data AABB\n\
 canonical no\n";
-
-/// One relay with a destination and a backup.
-const ONE_RELAY: &str = r#"version = 1
-[[node]]
-name = "a"
-point = "1-0-2"
-subsystems = [8]
-[[node.row]]
-selector = "4:0:1:4"
-prefix = "49"
-first = { final = "2-0-1", ssn = 6 }
-backup = { final = "2-0-2", ssn = 6 }
-[[cover]]
-node = "a"
-selector = "4:0:1:4"
-ssn = 6
-prefix = "49"
-least = 12
-most = 12
-allowed = ["2-0-1/6", "2-0-2/6"]
-"#;
 
 /// The words between the blanks of a line.
 fn words_of(alloc: Global, line: &str) -> Result<Vec<String>, AllocError> {

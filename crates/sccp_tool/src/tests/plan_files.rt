@@ -1,7 +1,8 @@
 //! The plan files of `route` and `verify`, in memory.
 use crate::run::run;
 use crate::status::Status;
-use crate::tests::{ONE_RELAY, answer, one_file, words_of};
+use crate::tests::plan_texts::ONE_RELAY;
+use crate::tests::{answer, one_file, words_of};
 use sccp_io::{MemoryFiles, SoundSink};
 use std::alloc::Global;
 use std::test::Fail;

@@ -1,7 +1,8 @@
 //! The command `route`, over plan files in memory.
 use crate::run::run;
 use crate::status::Status;
-use crate::tests::{ONE_RELAY, USAGE, answer, one_file, words_of};
+use crate::tests::plan_texts::ONE_RELAY;
+use crate::tests::{USAGE, answer, one_file, words_of};
 use sccp_io::{MemorySink, SoundFiles};
 use std::test::Fail;
 

@@ -2,50 +2,10 @@
 ghost use Rattle.std.specs.Prelude.{◌<◌};
 
 use crate::status::Status;
-use crate::tests::{ONE_RELAY, answer};
+use crate::tests::answer;
+use crate::tests::plan_texts::{BACKUP_FORBIDDEN, ONE_RELAY, ONE_TARGET};
 use std::alloc::Global;
 use std::test::Fail;
-
-/// One relay with a destination alone.
-const ONE_TARGET: &str = r#"version = 1
-[[node]]
-name = "a"
-point = "1-0-2"
-subsystems = [8]
-[[node.row]]
-selector = "4:0:1:4"
-prefix = "49"
-first = { final = "2-0-1", ssn = 6 }
-[[cover]]
-node = "a"
-selector = "4:0:1:4"
-ssn = 6
-prefix = "49"
-least = 12
-most = 12
-allowed = ["2-0-1/6", "2-0-2/6"]
-"#;
-
-/// The relay with a destination and a backup, to which no title may come.
-const BACKUP_FORBIDDEN: &str = r#"version = 1
-[[node]]
-name = "a"
-point = "1-0-2"
-subsystems = [8]
-[[node.row]]
-selector = "4:0:1:4"
-prefix = "49"
-first = { final = "2-0-1", ssn = 6 }
-backup = { final = "2-0-2", ssn = 6 }
-[[cover]]
-node = "a"
-selector = "4:0:1:4"
-ssn = 6
-prefix = "49"
-least = 12
-most = 12
-allowed = ["2-0-1/6"]
-"#;
 
 /// How many lines a text has.
 fn lines_in(text: &[u8]) -> usize {
