@@ -5,4 +5,7 @@ pub mod NewKinds
 pub mod Longest
 pub mod Places
 pub mod TitleOrder
+pub mod TitleParts
+pub mod RowOrder
 pub mod Sought
+pub mod Extending

@@ -1,6 +1,7 @@
 -- The order in which a row is sought: by the numbers of its selector, and then by its prefix, digit by digit.
 use Rattle.std.specs.Prelude.{ℕ, ◌≡◌, ◌<◌, Bool, true, false, ◌&&◌, ◌||◌, ◌==◌, nat_lt, List, [], ◌∷◌, length, Option, Some, None, slice_get}
 use Rattle.std.specs.List.{All, AllPairs, Contains}
+use Rattle.std.specs.List.Sorted.{IsPartitionPoint}
 use Rattle.sccp_base.specs.Selector.{Numbers}
 use Rattle.plan_rules.specs.Rule.{Rule}
 
@@ -39,3 +40,7 @@ pub record IsOrderOf (table : List Rule) (count : ℕ) (order : List ℕ) : Type
 -- the places of all rows, in the order of the rows
 abbrev pub IsOrder : List Rule → List ℕ → Type 0
 IsOrder table order = IsOrderOf table (length table) order
+
+-- so many places in order, and no more, have rows that don't come after the titles
+abbrev pub IsParted : List Rule → List ℕ → List ℕ → ℕ → Type 0
+IsParted table order key count = IsPartitionPoint (λ place. up_to (titles_at table place) key ≡ true) (λ place. up_to (titles_at table place) key ≡ false) order count

@@ -1,7 +1,6 @@
-ghost use Rattle.std.specs.Prelude.{◌≡◌, ◌≤◌, length, true, false, IfOk};
+ghost use Rattle.std.specs.Prelude.{◌≡◌, ◌≤◌, length, IfOk};
 ghost use Rattle.std.specs.List.{AllPairs};
-ghost use Rattle.std.specs.List.Sorted.{IsPartitionPoint};
-ghost use Rattle.plan_rules.specs.Order.{titles, titles_at, up_to, InOrder, IsOrder};
+ghost use Rattle.plan_rules.specs.Order.{titles, titles_at, up_to, InOrder, IsOrder, IsParted};
 
 use crate::row::Row;
 use sccp_base::{OutOfMemory, Selector};
@@ -29,7 +28,7 @@ pub fn order_of(alloc: Global, rows: &[Row]) -> Result<Vec<usize>, OutOfMemory>
 pub fn count_up_to(rows: &[Row], order: &[usize], selector: Selector, digits: &[u8]) -> usize
     requires { AllPairs (InOrder rows.now) order.now }
     ensures limit { result ≤ length order.now }
-    ensures parted { IsPartitionPoint (λ place. up_to (titles_at rows.now place) (titles selector digits.now) ≡ true) (λ place. up_to (titles_at rows.now place) (titles selector digits.now) ≡ false) order.now result }
+    ensures parted { IsParted rows.now order.now (titles selector digits.now) result }
 {
     order.partition_point(
         |place: &usize| -> bool

@@ -31,7 +31,7 @@ impl Model for Row {
 impl Row {
     ghost use Rattle.plan_rules.specs.Rule.{rule, targets, IsShort};
     ghost use Rattle.plan_rules.specs.Order.{titles, titles_of, up_to};
-    ghost use Rattle.plan_rules.specs.Rows.{matches, Extends};
+    ghost use Rattle.plan_rules.specs.Rows.{Extends};
     ghost use Rattle.plan_rules.specs.Tables.{same_titles, strips_too_long, makes_odd, IsRule};
 
     /// `None` where the prefix or a target's put has more than 15 digits.
@@ -108,13 +108,6 @@ impl Row {
         }
     }
 
-    /// Whether the row has this selector, and its prefix begins the digits.
-    pub fn matches(&self, selector: Selector, digits: &Digits) -> bool
-        ensures { result ≡ matches selector digits.now self.now }
-    {
-        self.selector == selector && digits.starts_with(&self.prefix)
-    }
-
     /// Whether the row has this selector, and its prefix is these digits and one to so many decimal ones.
     pub fn extends(&self, selector: Selector, known: &Digits, most: u8) -> bool
         ensures { IsTrue result ↔ Extends selector known.now most self.now }
@@ -128,7 +121,7 @@ impl Row {
 
     /// Whether the row doesn't come after titles of the selector that begin with the digits, where rows are ordered by the
     /// numbers of their selectors and then by their prefixes.
-    pub fn is_up_to(&self, selector: Selector, digits: &[u8]) -> bool
+    pub(crate) fn is_up_to(&self, selector: Selector, digits: &[u8]) -> bool
         ensures { result ≡ up_to (titles_of self.now) (titles selector digits.now) }
     {
         let own = self.selector;

@@ -1,7 +1,7 @@
 use Rattle.std.proofs.Common.{rules}
 use Rattle.std.proofs.lemmas.List.Sorted.{IsPartitionPoint-from_clause}
 use Rattle.plan_rules.specs.Order.{titles, titles_at, up_to}
-use Rattle.plan_rules.proofs.Sought.{parted_by}
+use Rattle.plan_rules.proofs.RowOrder.{parted_by}
 use Rattle.plan_rules.proofs.order.count_up_to.Goals as goal
 
 pub returns-clause-parted : goal.returns-clause-parted

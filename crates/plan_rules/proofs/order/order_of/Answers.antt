@@ -1,9 +1,8 @@
-use Rattle.std.proofs.Common.{◌≡◌, ◌≤◌, ◌+◌, ℕ, List, length, true, false, arith, sym, subst, refl}
+use Rattle.std.proofs.Common.{◌≡◌, ◌≤◌, ◌+◌, ℕ, List, length, arith, sym, subst, refl}
 use Rattle.std.specs.List.{AllPairs}
-use Rattle.std.specs.List.Sorted.{IsPartitionPoint}
 use Rattle.std.proofs.lemmas.Option.{slice_get_read}
-use Rattle.plan_rules.specs.Order.{titles, titles_of, titles_at, up_to, InOrder, IsOrderOf}
-use Rattle.plan_rules.proofs.Sought.{order_none, order_more}
+use Rattle.plan_rules.specs.Order.{titles, titles_of, InOrder, IsOrderOf, IsParted}
+use Rattle.plan_rules.proofs.RowOrder.{order_none, order_more}
 use Rattle.plan_rules.proofs.order.order_of.Goals as goal
 
 pub loop-place-init : goal.loop-place-init
@@ -21,8 +20,8 @@ loop-place-preserved c =
     subst (IsOrderOf table (c.loop-place.place + 1)) (sym c.in_ok-insert.ensures.items)
     (order_more table c.loop-place.order.items c.loop-place.place c.count_up_to-at.result c.index-rows-place.result here c.loop-place.invariant
     (subst (λ (order : List ℕ). c.count_up_to-at.result ≤ length order) all c.count_up_to-at.ensures.limit)
-    (subst (λ (key : List ℕ). IsPartitionPoint (λ i. up_to (titles_at table i) key ≡ true) (λ i. up_to (titles_at table i) key ≡ false) c.loop-place.order.items c.count_up_to-at.result) same
-    (subst (λ (order : List ℕ). IsPartitionPoint (λ i. up_to (titles_at table i) (titles c.selector.result c.as_slice-in-loop-place.result.now) ≡ true) (λ i. up_to (titles_at table i) (titles c.selector.result c.as_slice-in-loop-place.result.now) ≡ false) order c.count_up_to-at.result) all c.count_up_to-at.ensures.parted)))
+    (subst (λ (key : List ℕ). IsParted table c.loop-place.order.items key c.count_up_to-at.result) same
+    (subst (λ (order : List ℕ). IsParted table order (titles c.selector.result c.as_slice-in-loop-place.result.now) c.count_up_to-at.result) all c.count_up_to-at.ensures.parted)))
 
 pub returns : goal.returns
 returns c =

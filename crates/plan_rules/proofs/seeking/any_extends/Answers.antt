@@ -1,20 +1,21 @@
-use Rattle.std.specs.List.Sorted.{IsPartitionPoint}
-use Rattle.std.proofs.Common.{ℕ, List, ◌≡◌, true, false, arith, sym, ◌∙◌, subst}
+use Rattle.std.proofs.Common.{ℕ, List, ◌≡◌, arith, sym, ◌∙◌, subst}
 use Rattle.std.proofs.lemmas.Bool.{false≢true}
 use Rattle.plan_rules.proofs.TitleOrder.{Begins}
-use Rattle.plan_rules.specs.Order.{titles, titles_at, up_to}
-use Rattle.plan_rules.proofs.Sought.{none_extends_first, none_extends_next, none_extends_past, none_extends, read_row, selectors_differ}
+use Rattle.plan_rules.specs.Order.{titles, IsParted}
+use Rattle.plan_rules.proofs.Extending.{none_extends_first, none_extends_next, none_extends_past, none_extends}
+use Rattle.plan_rules.proofs.RowOrder.{read_row}
+use Rattle.plan_rules.proofs.TitleParts.{selectors_differ}
 use Rattle.plan_rules.proofs.seeking.any_extends.Goals as goal
 use Rattle.plan_rules.proofs.seeking.any_extends.Goals.{then-ne-via-then-ne, then-ne-via-else-ne+then-not-starts_with}
 
 pub loop-k-init : goal.loop-k-init
 loop-k-init c =
-    let parted = subst (λ (known : List ℕ). IsPartitionPoint (λ place. up_to (titles_at c.args.rows.now place) (titles c.args.selector known) ≡ true) (λ place. up_to (titles_at c.args.rows.now place) (titles c.args.selector known) ≡ false) c.args.order.now c.count_up_to-k.result) c.as_slice.ensures.value c.count_up_to-k.ensures.parted in
+    let parted = subst (λ (known : List ℕ). IsParted c.args.rows.now c.args.order.now (titles c.args.selector known) c.count_up_to-k.result) c.as_slice.ensures.value c.count_up_to-k.ensures.parted in
     none_extends_first c.args.rows.now c.args.order.now c.args.selector c.args.known.now c.args.most c.count_up_to-k.result parted
 
 pub returns-then-ne : goal.returns-then-ne
 returns-then-ne c =
-    let parted = subst (λ (known : List ℕ). IsPartitionPoint (λ place. up_to (titles_at c.args.rows.now place) (titles c.args.selector known) ≡ true) (λ place. up_to (titles_at c.args.rows.now place) (titles c.args.selector known) ≡ false) c.args.order.now c.count_up_to-k.result) c.as_slice.ensures.value c.count_up_to-k.ensures.parted in
+    let parted = subst (λ (known : List ℕ). IsParted c.args.rows.now c.args.order.now (titles c.args.selector known) c.count_up_to-k.result) c.as_slice.ensures.value c.count_up_to-k.ensures.parted in
     let row = c.index-rows-order.result in
     let read = read_row c.args.rows.now c.args.order.now c.loop-k.k row c.requires c.loop-k-test.true c.index-rows-order.is in
     let other : (row.selector ≡ c.args.selector) × Begins c.args.known.now row.prefix → ⊥ = λ h. elim c.then-ne.branch [

@@ -1,4 +1,4 @@
-use Rattle.plan_rules.proofs.Sought.{NoneExtends}
+use Rattle.plan_rules.proofs.Extending.{NoneExtends}
 use Rattle.plan_rules.proofs.seeking.any_extends.Given as goal
 
 -- no row so far goes on from the digits

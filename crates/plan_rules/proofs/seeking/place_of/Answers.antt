@@ -1,10 +1,11 @@
 use Rattle.std.specs.Prelude.{nat_eq}
-use Rattle.std.specs.List.Sorted.{IsPartitionPoint}
-use Rattle.std.proofs.Common.{ℕ, List, ◌≡◌, ◌-◌, true, false, length, take, arith, sym, ◌∙◌, ap, subst, length-take-le}
+use Rattle.std.proofs.Common.{ℕ, List, ◌≡◌, ◌-◌, length, take, arith, sym, ◌∙◌, ap, subst, length-take-le}
 use Rattle.std.proofs.lemmas.List.Sums.{common_prefix_len-le}
-use Rattle.plan_rules.specs.Order.{titles, titles_at, up_to}
+use Rattle.plan_rules.specs.Order.{titles, IsParted}
 use Rattle.plan_rules.proofs.TitleOrder.{common}
-use Rattle.plan_rules.proofs.Sought.{Seeks, seeks_first, seeks_next, seeks_smaller, seeks_found, seeks_none, seeks_other, read_place, read_row, selectors_differ, selectors_same}
+use Rattle.plan_rules.proofs.Sought.{Seeks, seeks_first, seeks_next, seeks_smaller, seeks_found, seeks_none, seeks_other}
+use Rattle.plan_rules.proofs.RowOrder.{read_place, read_row}
+use Rattle.plan_rules.proofs.TitleParts.{selectors_differ, selectors_same}
 use Rattle.plan_rules.proofs.seeking.place_of.Goals as goal
 
 pub loop-count-init : goal.loop-count-init
@@ -65,7 +66,7 @@ loop-count-preserved c =
     let key : titles c.args.selector (take c.common-both.result c.loop-count.front.now) ≡ titles c.args.selector (take (common row.prefix c.loop-count.front.now) c.loop-count.front.now) = ap (λ (n : ℕ). titles c.args.selector (take n c.loop-count.front.now)) both in
     subst (λ (n : ℕ). Seeks c.args.rows.now c.args.order.now c.args.selector c.args.digits.now (take n c.loop-count.front.now) c.count_up_to-count-in-loop-count.result) (sym both)
     (seeks_next c.args.rows.now c.args.order.now c.args.selector c.args.digits.now c.loop-count.front.now c.loop-count.count c.count_up_to-count-in-loop-count.result row c.requires.order s read.1 c.count_up_to-count-in-loop-count.ensures.limit
-    (subst (λ (k : List ℕ). IsPartitionPoint (λ place. up_to (titles_at c.args.rows.now place) k ≡ true) (λ place. up_to (titles_at c.args.rows.now place) k ≡ false) c.args.order.now c.count_up_to-count-in-loop-count.result) key c.count_up_to-count-in-loop-count.ensures.parted))
+    (subst (λ (k : List ℕ). IsParted c.args.rows.now c.args.order.now k c.count_up_to-count-in-loop-count.result) key c.count_up_to-count-in-loop-count.ensures.parted))
 
 pub returns-clause-row : goal.returns-clause-row
 returns-clause-row c = seeks_none c.args.rows.now c.args.order.now c.args.selector c.args.digits.now c.loop-count.front.now c.loop-count.count c.requires.order c.loop-count.invariant (omega (arith, c.loop-count-test.false))
