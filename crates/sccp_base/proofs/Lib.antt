@@ -5,4 +5,5 @@ pub mod Inserted
 pub mod LaidOut
 pub mod MarkPlaces
 pub mod NameLaidOut
+pub mod NameTexts
 pub mod Prefix

@@ -10,12 +10,13 @@ use Rattle.std.specs.declared.cmp.Ordering.TheVariants.{Less, Equal, Greater}
 use Rattle.std.proofs.Common.{suc, sym, ◌∙◌, ap, subst, arith, get_or, ⊎_elim, length-append, drop-cons}
 use Rattle.std.proofs.lemmas.Bool.{cases_lt, false≢true, eqb-true, and_parts}
 use Rattle.std.proofs.lemmas.List.{take-append-drop, length-take, length-drop}
+use Rattle.std.proofs.lemmas.List.Elements.{All-append, All-cons, All-drop, All-take}
 use Rattle.std.proofs.lemmas.List.Edits.{get_or-remove_below, get_or-remove_above}
 use Rattle.std.proofs.lemmas.List.Folds.{list_any-append, list_any_none, list_any-from_Any}
 use Rattle.sccp_base.proofs.Inserted.{pairs_insert, related}
 use Rattle.sccp_base.specs.declared.mark.Mark.{Mark}
 use Rattle.sccp_base.specs.declared.mark.Mark.TheVariants.{PointCode, Sccp, Subsystem}
-use Rattle.sccp_base.specs.Marks.{mark_cmp, same_mark, holds, IsAscending, IsAt, BelongsAt, IsPlaceOf}
+use Rattle.sccp_base.specs.Marks.{mark_cmp, same_mark, holds, IsAscending, IsMark, IsMarking, IsAt, BelongsAt, IsPlaceOf}
 use Rattle.sccp_base.specs.MarkOrder.{mark_cmp_total, same_mark_agrees}
 
 -- ---- marks that are the same, and marks that are apart
@@ -43,10 +44,10 @@ apart_below a b e = same_mark_agrees a b ∙ ap is_eq e
 apart_above : (a b : Mark) → mark_cmp a b ≡ Greater → same_mark a b ≡ false
 apart_above a b e = same_mark_agrees a b ∙ ap is_eq e
 
-turned : (a b : Mark) → mark_cmp a b ≡ Greater → mark_cmp b a ≡ Less
+pub turned : (a b : Mark) → mark_cmp a b ≡ Greater → mark_cmp b a ≡ Less
 turned a b e = mark_cmp_total.antisymm b a ∙ ap ordering_reverse e
 
-turned_back : (a b : Mark) → mark_cmp a b ≡ Less → mark_cmp b a ≡ Greater
+pub turned_back : (a b : Mark) → mark_cmp a b ≡ Less → mark_cmp b a ≡ Greater
 turned_back a b e = mark_cmp_total.antisymm b a ∙ ap ordering_reverse e
 
 -- ---- the search
@@ -84,6 +85,15 @@ ascending_insert marks mark place ascending at =
     pairs_insert (λ a b. mark_cmp a b ≡ Less) marks mark place ascending at.inside at.below
     (λ k d le lt. turned (get_or marks k d) mark (at.above k d le lt))
 
+pub marking_insert : (marks : List Mark) (mark : Mark) (place : ℕ) → IsMark mark → IsMarking marks → BelongsAt marks mark place → IsMarking (insert marks place mark)
+marking_insert marks mark place real before at =
+    record {
+      ascending = ascending_insert marks mark place before.ascending at;
+      real = All-append IsMark (take place marks) (mark ∷ drop place marks)
+          (All-take IsMark place marks before.real)
+          (All-cons IsMark mark (drop place marks) real (All-drop IsMark place marks before.real));
+    }
+
 turn_or : (a b c : Bool) → (a || (b || c)) ≡ (b || (a || c))
 turn_or true true c = refl
 turn_or true false c = refl
@@ -107,6 +117,14 @@ ascending_remove marks place inside ascending i j d lt bound =
     (cases_lt j place))
     (λ (i_above : place ≤ i). related (λ a b. mark_cmp a b ≡ Less) _ _ _ _ (get_or-remove_above marks place d i i_above inside) (get_or-remove_above marks place d j (omega arith) inside) (ascending (i + 1) (j + 1) d (omega arith) (omega arith)))
     (cases_lt i place)
+
+pub marking_remove : (marks : List Mark) (place : ℕ) → place < length marks → IsMarking marks → IsMarking (remove marks place)
+marking_remove marks place inside before =
+    record {
+      ascending = ascending_remove marks place inside before.ascending;
+      real = All-append IsMark (take place marks) (drop (suc place) marks)
+          (All-take IsMark place marks before.real) (All-drop IsMark (suc place) marks before.real);
+    }
 
 -- none of the other marks is this one
 others_apart : (marks : List Mark) (mark : Mark) (place : ℕ) → IsAscending marks → IsAt marks mark place → All (λ held. same_mark held mark ≡ false) (remove marks place)

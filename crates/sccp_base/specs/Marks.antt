@@ -1,6 +1,6 @@
 -- What is prohibited: marks, their order, and which of them a marking holds.
 use Rattle.std.specs.Prelude.{◌≡◌, ℕ, ◌+◌, ◌<◌, ◌≤◌, Bool, false, ◌&&◌, ◌==◌, List, length, slice_index_or, Result, Ok, Err}
-use Rattle.std.specs.List.{list_any, AllPairs, AllWithin}
+use Rattle.std.specs.List.{All, list_any, AllPairs, AllWithin}
 use Rattle.std.specs.Ordering.{nat_cmp, on, then_cmp}
 use Rattle.std.specs.declared.cmp.Ordering.{Ordering}
 use Rattle.std.specs.declared.cmp.Ordering.TheVariants.{Less, Greater}
@@ -40,6 +40,17 @@ holds marking mark = list_any (λ held. same_mark held mark) marking
 -- each mark is below those behind it
 abbrev pub IsAscending : List Mark → Type 0
 IsAscending marks = AllPairs (λ a b. mark_cmp a b ≡ Less) marks
+
+-- the numbers of a mark are a point code and a subsystem number
+abbrev pub IsMark : Mark → Type 0
+IsMark (PointCode point) = point < 16384
+IsMark (Sccp point) = point < 16384
+IsMark (Subsystem point ssn) = (point < 16384) × (ssn < 256)
+
+-- such a list is what a marking can be: marks of real points, each below those behind it
+pub record IsMarking (marks : List Mark) : Type 0 where
+  pub ascending : IsAscending marks
+  pub real : All IsMark marks
 
 -- the mark is at that place
 pub record IsAt (marks : List Mark) (mark : Mark) (place : ℕ) : Type 0 where

@@ -1,6 +1,6 @@
 -- Names of nodes, and how one lies in an array of 16.
-use Rattle.std.specs.Prelude.{◌≡◌, ℕ, ◌-◌, ◌≤◌, ◌++◌, Bool, true, ◌||◌, ◌==◌, List, length, take, drop, replicate}
-use Rattle.std.specs.List.{All}
+use Rattle.std.specs.Prelude.{◌≡◌, ℕ, ◌-◌, ◌≤◌, ◌++◌, Bool, true, ◌&&◌, ◌||◌, ◌==◌, nat_le, if◌then◌else◌, List, length, take, drop, replicate, Option, Some, None}
+use Rattle.std.specs.List.{All, list_all}
 use Rattle.std.specs.Char.{is_ascii_alphanumeric}
 use Rattle.std.proofs.Common.{arith, length-take-le, take-append-drop}
 use Rattle.sccp_base.specs.declared.name.Name.TheInside.{Inside}
@@ -13,6 +13,10 @@ pub record IsName (text : List ℕ) : Type 0 where
   pub some : 1 ≤ length text
   pub most : length text ≤ 16
   pub each : All (λ c. is_name_octet c ≡ true) text
+
+-- the name that a text is, where it is one
+unfoldable pub name_of : List ℕ → Option (List ℕ)
+name_of text = if nat_le 1 (length text) && nat_le (length text) 16 && list_all is_name_octet text then Some text else None
 
 -- the name is the front, and what is behind it is 0
 pub record IsNameLaidOut (n : Inside) : Type 0 where

@@ -34,6 +34,3 @@ pub use reference::Reference;
 pub use selector::Selector;
 pub use seven::Seven;
 pub use text::{cut, decimal};
-
-#[cfg(test)]
-mod tests;

@@ -18,7 +18,7 @@ pub enum Mark {
 
 impl Mark {
     ghost use Rattle.std.specs.Prelude.{◌≡◌};
-    ghost use Rattle.sccp_base.specs.Marks.{point_of, place_at_point};
+    ghost use Rattle.sccp_base.specs.Marks.{IsMark, point_of, place_at_point};
 
     /// The point at which the mark is.
     pub fn point(&self) -> PointCode
@@ -26,6 +26,21 @@ impl Mark {
     {
         match self {
             Mark::PointCode(point) | Mark::Sccp(point) | Mark::Subsystem(point, _) => *point,
+        }
+    }
+
+    /// Tells what the types of a mark's parts keep, for a contract that speaks of marks alone. It does nothing when it runs.
+    pub(crate) fn vouch(&self)
+        ensures { IsMark self.now }
+    {
+        match self {
+            Mark::PointCode(point) | Mark::Sccp(point) => {
+                let _value = point.value();
+            }
+            Mark::Subsystem(point, ssn) => {
+                let _value = point.value();
+                let _number = *ssn;
+            }
         }
     }
 

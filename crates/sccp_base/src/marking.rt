@@ -1,6 +1,7 @@
 ghost use Rattle.std.specs.Prelude.{◌≡◌, [], ◌||◌, ◌&&◌, not, OnOk, OnErr, IfOk};
+ghost use Rattle.std.specs.List.{All};
 ghost use Rattle.sccp_base.specs.declared.mark.Mark.{Mark};
-ghost use Rattle.sccp_base.specs.Marks.{IsAscending, IsPlaceOf, holds, same_mark};
+ghost use Rattle.sccp_base.specs.Marks.{IsAscending, IsMarking, IsPlaceOf, holds, same_mark};
 
 use crate::mark::Mark;
 use crate::out_of_memory::OutOfMemory;
@@ -16,13 +17,13 @@ pub struct Marking {
 impl Model for Marking {
     ghost use Rattle.std.specs.Prelude.{List};
     ghost use Rattle.sccp_base.specs.declared.mark.Mark.{Mark};
-    ghost use Rattle.sccp_base.specs.Marks.{IsAscending};
+    ghost use Rattle.sccp_base.specs.Marks.{IsMarking};
 
     ghost Value = { List Mark };
 
     ghost view = { λ m. m.marks.items };
 
-    ghost invariant = { λ m. IsAscending m.marks.items };
+    ghost invariant = { λ m. IsMarking m.marks.items };
 }
 
 impl Marking {
@@ -39,6 +40,7 @@ impl Marking {
     pub fn marks(&self) -> &[Mark]
         ensures marks { result.now ≡ self.now }
         ensures ascending { IsAscending self.now }
+        ensures marking { IsMarking self.now }
     {
         self.marks.as_slice()
     }
@@ -55,6 +57,7 @@ impl Marking {
         ensures ok { OnOk result ((other : Mark) → holds self.new other ≡ (same_mark mark other || holds self.old other)) }
         ensures err { OnErr result (self.new ≡ self.old) }
     {
+        mark.vouch();
         if let Err(place) = place_of(&self.marks, &mark) {
             self.marks.insert(place, mark)?;
         }
@@ -67,6 +70,15 @@ impl Marking {
     {
         if let Ok(place) = place_of(&self.marks, &mark) {
             self.marks.remove(place);
+        }
+    }
+
+    /// Tells of each marking what its type keeps, for a contract that speaks of a list of them. It changes nothing.
+    pub fn vouch(markings: &[Marking])
+        ensures { All IsMarking markings.now }
+    {
+        for marking in markings {
+            let _marks = marking.marks();
         }
     }
 

@@ -1,6 +1,6 @@
 ghost use Rattle.std.specs.Prelude.{◌≡◌, ◌<◌};
 ghost use Rattle.std.specs.Option.{SomeIff};
-ghost use Rattle.sccp_base.specs.Names.{IsName, is_name_octet};
+ghost use Rattle.sccp_base.specs.Names.{IsName, is_name_octet, name_of};
 
 use std::marker::Model;
 
@@ -31,19 +31,10 @@ impl Model for Name {
 impl Name {
     /// `None` where the text isn't 1 to 16 such octets.
     pub fn parse(text: &[u8]) -> Option<Name>
-        ensures { SomeIff result (IsName text.now) text.now }
+        ensures name { SomeIff result (IsName text.now) text.now }
+        ensures read { result ≡ name_of text.now }
     {
-        if text.is_empty() || text.len() > 16 || !text.iter().all(|octet| is_name_octet(*octet)) {
-            return None;
-        }
-        let mut octets = [0; 16];
-        for (place, octet) in text.iter().enumerate() {
-            octets[place] = *octet;
-        }
-        Some(Name {
-            octets,
-            len: text.len() as u8,
-        })
+        laid_out(text)
     }
 
     /// The octets of the name.
@@ -53,6 +44,23 @@ impl Name {
     {
         &self.octets[..usize::from(self.len)]
     }
+}
+
+/// The name in its array.
+fn laid_out(text: &[u8]) -> Option<Name>
+    ensures { SomeIff result (IsName text.now) text.now }
+{
+    if text.is_empty() || text.len() > 16 || !text.iter().all(|octet| is_name_octet(*octet)) {
+        return None;
+    }
+    let mut octets = [0; 16];
+    for (place, octet) in text.iter().enumerate() {
+        octets[place] = *octet;
+    }
+    Some(Name {
+        octets,
+        len: text.len() as u8,
+    })
 }
 
 /// Whether a name may have the octet.

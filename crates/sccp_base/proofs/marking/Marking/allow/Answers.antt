@@ -1,19 +1,19 @@
 use Rattle.std.proofs.Common.{◌∙◌, ap, subst, List, sym, ◌≡◌}
 use Rattle.std.specs.List.{remove}
 use Rattle.sccp_base.specs.declared.mark.Mark.{Mark}
-use Rattle.sccp_base.specs.Marks.{holds, IsAscending, IsAt, BelongsAt}
-use Rattle.sccp_base.proofs.MarkPlaces.{holds-remove, holds-none, held_less, ascending_remove}
+use Rattle.sccp_base.specs.Marks.{holds, IsAscending, IsMarking, IsAt, BelongsAt}
+use Rattle.sccp_base.proofs.MarkPlaces.{holds-remove, holds-none, held_less, marking_remove}
 use Rattle.sccp_base.proofs.marking.Marking.allow.Goals as goal
 
 pub invariant_of-self : goal.invariant_of-self
 invariant_of-self c =
     let at : IsAt c.self.inside.marks.items c.args.mark c.in-Ok.place = subst (λ (marks : List Mark). IsAt marks c.args.mark c.in-Ok.place) c.deref.ensures.value (c.in-Ok.ensures) in
-    subst IsAscending (sym c.remove.ensures.items) (ascending_remove c.self.inside.marks.items c.in-Ok.place at.inside c.self.invariant)
+    subst IsMarking (sym c.remove.ensures.items) (marking_remove c.self.inside.marks.items c.in-Ok.place at.inside c.self.invariant)
 
 pub returns-in-Ok : goal.returns-in-Ok
 returns-in-Ok c = λ other.
     let is : c.deref.result.now ≡ c.args.self.now = c.deref.ensures.value ∙ c.self.view_is in
-    let ascending : IsAscending c.args.self.now = subst IsAscending c.self.view_is c.self.invariant in
+    let ascending : IsAscending c.args.self.now = subst IsAscending c.self.view_is c.self.invariant.ascending in
     ap (λ (marks : List Mark). holds marks other) (c.remove.ensures.items ∙ ap (λ (marks : List Mark). remove marks c.in-Ok.place) c.self.view_is)
     ∙ holds-remove c.args.self.now c.args.mark other c.in-Ok.place ascending (subst (λ (marks : List Mark). IsAt marks c.args.mark c.in-Ok.place) is (c.in-Ok.ensures))
 

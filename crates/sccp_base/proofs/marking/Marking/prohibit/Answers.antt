@@ -1,14 +1,14 @@
 use Rattle.std.proofs.Common.{◌∙◌, ap, subst, List, sym, ◌≡◌}
 use Rattle.std.specs.List.{insert}
 use Rattle.sccp_base.specs.declared.mark.Mark.{Mark}
-use Rattle.sccp_base.specs.Marks.{holds, IsAscending, IsAt, BelongsAt}
-use Rattle.sccp_base.proofs.MarkPlaces.{holds-insert, holds-at, held_more, ascending_insert}
+use Rattle.sccp_base.specs.Marks.{holds, IsMarking, IsAt, BelongsAt}
+use Rattle.sccp_base.proofs.MarkPlaces.{holds-insert, holds-at, held_more, marking_insert}
 use Rattle.sccp_base.proofs.marking.Marking.prohibit.Goals as goal
 
 pub invariant_of-self : goal.invariant_of-self
 invariant_of-self c =
     let at : BelongsAt c.self.inside.marks.items c.args.mark c.in-Err.place = subst (λ (marks : List Mark). BelongsAt marks c.args.mark c.in-Err.place) c.deref.ensures.value (c.in-Err.ensures) in
-    subst IsAscending (sym c.in_ok-insert.ensures.items) (ascending_insert c.self.inside.marks.items c.args.mark c.in-Err.place c.self.invariant at)
+    subst IsMarking (sym c.in_ok-insert.ensures.items) (marking_insert c.self.inside.marks.items c.args.mark c.in-Err.place c.vouch.ensures c.self.invariant at)
 
 pub returns-in_ok-insert-clause-ok : goal.returns-in_ok-insert-clause-ok
 returns-in_ok-insert-clause-ok c = λ other.

@@ -1,5 +1,5 @@
 use Rattle.std.proofs.Common.{◌≡◌, ◌-◌, ◌++◌, take, replicate}
-use Rattle.sccp_base.proofs.name.Name.parse.Given as goal
+use Rattle.sccp_base.proofs.name.laid_out.Given as goal
 
 -- the octets so far, and 0 behind them
 abbrev pub invariant-loop-place : goal.invariant-loop-place
