@@ -5,7 +5,7 @@ use Rattle.sccp_tool.specs.Run.{work_of}
 use Rattle.sccp_tool.specs.Texts.{usage}
 use Rattle.sccp_tool.specs.declared.status.Status.TheVariants.{Usage}
 use Rattle.sccp_tool.proofs.WorkLemmas.{Works-answered, Works-memory}
-use Rattle.sccp_tool.proofs.run.carry_out.Goals as goal
+use Rattle.sccp_tool.proofs.program.carry_out.Goals as goal
 
 pub returns-in-Ok-None : goal.returns-in-Ok-None
 unfolding usage

@@ -1,32 +1,11 @@
-//! Shows SCCP messages (Q.713) that are given in hexadecimal digits, as a word or in a file with one a line, verifies a plan
-//! of relays, and follows a title through them (Q.714 section 2).
+//! The program: it passes its words to `run`, over the real files and the standard output, and ends with the number of the
+//! status that comes back.
 //!
-//! The contract of `run` is what the program promises: the text that it writes and the status that it ends with, for any
-//! words, files and sink, with the cause of each status. `main` only makes the real files and the real sink and passes on
-//! the words.
+//! What it writes and how it ends is the contract of `run`.
 #![tactic(auto)]
 
-mod command;
-mod hex_word;
-mod limit;
-mod line_fault;
-mod lines;
-mod plans;
-mod reading;
-mod route;
-mod run;
-mod show;
-mod start;
-mod status;
-mod stop;
-#[cfg(test)]
-mod tests;
-mod verify;
-mod writing;
-
-use run::run;
 use sccp_io::{RealFiles, RealSink};
-use status::Status;
+use sccp_tool::{Status, run};
 use std::alloc::AllocError;
 use std::env;
 use std::io::ErrorKind;
