@@ -1,0 +1,4 @@
+pub mod LineLemmas
+pub mod PieceLemmas
+pub mod ReaderLemmas
+pub mod FirstPlace
