@@ -19,7 +19,7 @@ pub struct Cover {
 
 impl Cover {
     ghost use Rattle.plan_model.specs.Covered.{Covers};
-    ghost use Rattle.plan_model.specs.Faults.{HasFewDigits};
+    ghost use Rattle.plan_model.specs.Faults.{HasFewDigits, HasNumbers};
 
     /// Whether the cover allows a place.
     pub fn allows(&self, pc: PointCode, ssn: u8) -> bool
@@ -47,5 +47,14 @@ impl Cover {
         ensures { IsTrue result ↔ HasFewDigits self.now }
     {
         self.least <= 32 && self.most <= 32
+    }
+
+    /// Tells what the types of the cover's numbers keep, for a contract that speaks of covers alone. It does nothing when it
+    /// runs.
+    pub(crate) fn vouch(&self)
+        ensures { HasNumbers self.now }
+    {
+        let _kind = self.selector.kind();
+        let _number = self.ssn;
     }
 }

@@ -31,8 +31,8 @@ impl Plan {
     ghost use Rattle.plan_model.specs.Network.{IsPlan, IsNode, network, has_name, has_point, node_of};
     ghost use Rattle.plan_model.specs.Faults.{plan_fault, HasFewDigits};
 
-    /// Whether `build` takes the nodes and covers: each node's subsystems, and those that its targets name, lie from 2 to 255,
-    /// neither they nor its concerned points repeat, and each cover's least and most are at most 32.
+    /// Whether `build` takes the nodes and covers: each node's subsystems, and those that its rows and their targets name, lie
+    /// from 2 to 255, neither its subsystems nor its concerned points repeat, and each cover's least and most are at most 32.
     pub fn can_build(nodes: &List<Node>, covers: &List<Cover>) -> bool
         ensures { IsTrue result ↔ ((All IsNode nodes.now) × (All HasFewDigits covers.now)) }
     {
