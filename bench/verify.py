@@ -6,6 +6,9 @@ next, the last with a hundred destinations; covers at n0, equal to each other, o
 classes at n0, with no, one or two known digits, and 100 at each relay behind it. The time has to grow as their number does;
 the last plan has more than 262,144 and is too wide.
 
+A second series is the same in version 2, where each relay has a row for subsystem 6 beside each of the hundred, and nested
+rows of no digit and of one: each look-up has to choose among them, and the classes are as many.
+
 Run it from anywhere: bench/verify.py [PROGRAM]. It builds nothing: run ./sccp once before.
 """
 import os
@@ -23,13 +26,23 @@ CHILD = ("import resource, subprocess, sys, time; start = time.monotonic(); "
          "done.stdout.decode().split(chr(10))[0])")
 
 
-def plan(nodes, covers):
-    lines = ["version = 1"]
+def rows_of(version, target):
+    """The rows of a relay: of version 1 a hundred prefixes; of version 2 these twice, and eleven prefixes that begin them."""
+    if version == 1:
+        return [f'prefix = "{j:02}"\nfirst = {target}' for j in range(100)]
+    numbered = [f'prefix = "{j:02}"\nssn = 6\ntargets = [{target}]' for j in range(100)]
+    plain = [f'prefix = "{j:02}"\ntargets = [{target}]' for j in range(100)]
+    shorter = [f'prefix = "{digits}"\ntargets = [{target}]' for digits in ["", *range(10)]]
+    return shorter + plain + numbered
+
+
+def plan(nodes, covers, version):
+    lines = [f"version = {version}"]
     for i in range(nodes):
         lines += ["[[node]]", f'name = "n{i}"', f'point = "{i + 1}"']
-        for j in range(100):
-            first = f'{{ relay = "n{i + 1}" }}' if i + 1 < nodes else '{ final = "2-0-1", ssn = 6 }'
-            lines += ["[[node.row]]", 'selector = "4:0:1:4"', f'prefix = "{j:02}"', f"first = {first}"]
+        target = f'{{ relay = "n{i + 1}" }}' if i + 1 < nodes else '{ final = "2-0-1", ssn = 6 }'
+        for row in rows_of(version, target):
+            lines += ["[[node.row]]", 'selector = "4:0:1:4"', row]
     for _ in range(covers):
         lines += ["[[cover]]", 'node = "n0"', 'selector = "4:0:1:4"', "ssn = 6", 'prefix = ""', "least = 2", "most = 2",
                   'allowed = ["2-0-1/6"]']
@@ -44,12 +57,13 @@ def measure(folder):
 
 def main():
     with tempfile.TemporaryDirectory() as folder:
-        for nodes, covers in ((2, 1), (2, 16), (2, 64), (2, 256), (4, 256), (7, 256), (14, 23), (14, 46), (14, 92), (14, 185), (14, 256)):
+        sizes = ((2, 1), (2, 16), (2, 64), (2, 256), (4, 256), (7, 256), (14, 23), (14, 46), (14, 92), (14, 185), (14, 256))
+        for version, nodes, covers in [(1, *size) for size in sizes] + [(2, 14, 23), (2, 14, 92), (2, 14, 185)]:
             with open(os.path.join(folder, "plan.toml"), "w") as made:
-                made.write(plan(nodes, covers))
+                made.write(plan(nodes, covers, version))
             seconds, status, peak, first = min(measure(folder) for _ in range(3))
             classes = covers * (111 + 100 * (nodes - 1))
-            print(f"{nodes} relays, {covers} covers, {classes} classes: status {status}, {first}, "
+            print(f"version {version}, {nodes} relays, {covers} covers, {classes} classes: status {status}, {first}, "
                   f"{seconds * 1000:.1f} ms, peak {peak:.1f} MB")
 
 
