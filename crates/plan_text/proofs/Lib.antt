@@ -4,5 +4,4 @@ pub mod EachOk
 pub mod Elements
 pub mod Keys
 pub mod Marked
-pub mod NameTexts
 pub mod Seen

@@ -4,6 +4,7 @@ use Rattle.std.specs.Option.{ok_or, unwrap_or}
 use Rattle.std.specs.List.{position}
 use Rattle.toml.specs.Data.{Data}
 use Rattle.sccp_base.specs.Answers.{◌>>=◌}
+use Rattle.sccp_base.specs.Names.{name_of}
 use Rattle.sccp_base.specs.Text.{selector_of}
 use Rattle.plan_model.specs.declared.cover.Cover.{Cover}
 use Rattle.plan_model.specs.declared.key.Key.TheVariants.{Node, Selector, Ssn, Prefix, Least, Most, Allowed}
@@ -12,7 +13,7 @@ use Rattle.plan_model.specs.declared.plan_fault.PlanFault.{PlanFault}
 use Rattle.plan_model.specs.declared.plan_fault.PlanFault.TheVariants.{BadValue}
 use Rattle.plan_text.specs.Document.{text_of, text_at, elements_at, integer_if_there}
 use Rattle.plan_text.specs.EachOk.{each_ok}
-use Rattle.plan_text.specs.Words.{within, name_of, digits_up_to, place_of}
+use Rattle.plan_text.specs.Words.{within, digits_up_to, place_of}
 use Rattle.plan_text.specs.Targets.{is_named}
 
 -- the place of the first node of this name, or the number of nodes where none has it

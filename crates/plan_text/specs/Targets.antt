@@ -5,11 +5,12 @@ use Rattle.std.specs.List.{find}
 use Rattle.std.specs.Cmp.Lexicographic.{pointwise}
 use Rattle.toml.specs.Data.{Data}
 use Rattle.sccp_base.specs.Selector.{Numbers}
+use Rattle.sccp_base.specs.Names.{name_of}
 use Rattle.sccp_base.specs.Text.{point_code_of, selector_of}
 use Rattle.plan_rules.specs.declared.target.Target.{Target}
 use Rattle.plan_rules.specs.declared.target.Target.TheVariants.{Relay, Final}
 use Rattle.plan_text.specs.Document.{has_key, text_at, text_if_there, integer_if_there}
-use Rattle.plan_text.specs.Words.{within, name_of, digits_up_to}
+use Rattle.plan_text.specs.Words.{within, digits_up_to}
 
 infixl 10 ◌>>=◌
 abbrev ◌>>=◌ : {A B : Type 0} → Option A → (A → Option B) → Option B

@@ -1,8 +1,6 @@
 -- The values that the texts and integers of a plan text spell.
 use Rattle.std.specs.Prelude.{ℕ, ℤ, pos, negsuc, ◌&&◌, nat_le, if◌then◌else◌, List, length, Option, Some, None, option_map, option_and_then}
-use Rattle.std.specs.List.{list_all}
 use Rattle.std.specs.Result.{result_ok}
-use Rattle.sccp_base.specs.Names.{is_name_octet}
 use Rattle.sccp_base.specs.DigitText.{digits_of}
 use Rattle.sccp_base.specs.Text.{cut_at, byte_of, point_code_of}
 
@@ -10,10 +8,6 @@ use Rattle.sccp_base.specs.Text.{cut_at, byte_of, point_code_of}
 unfoldable pub within : ℕ → ℕ → ℤ → Option ℕ
 within least most (pos n) = if nat_le least n && nat_le n most then Some n else None
 within least most (negsuc n) = None
-
--- a name of a node
-unfoldable pub name_of : List ℕ → Option (List ℕ)
-name_of text = if nat_le 1 (length text) && nat_le (length text) 16 && list_all is_name_octet text then Some text else None
 
 -- up to so many digits
 unfoldable pub digits_up_to : ℕ → List ℕ → Option (List ℕ)

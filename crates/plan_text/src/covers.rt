@@ -12,9 +12,9 @@ ghost use Rattle.plan_text.specs.Covers.{node_place, number_at, allowed_at, cove
 use crate::document::{elements_at, integer_if_there, text_at, text_of};
 use crate::put::put;
 use crate::targets::is_named;
-use crate::words::{digits_up_to, name_of, place_of, within};
+use crate::words::{digits_up_to, place_of, within};
 use plan_model::{Cover, Key, Place, PlanFault};
-use sccp_base::{List, PointCode, Selector};
+use sccp_base::{List, Name, PointCode, Selector};
 use std::alloc::Global;
 use toml::Value;
 
@@ -70,7 +70,7 @@ fn cover_of(alloc: Global, nodes: &[Value], i: usize, cover: &Value) -> Result<C
     ensures few { IfOk result HasFewDigits }
 {
     let bad = |key| PlanFault::BadValue(Place::Cover(i, key));
-    let node = name_of(text_at(cover, "node").as_bytes()).ok_or(bad(Key::Node))?;
+    let node = Name::parse(text_at(cover, "node").as_bytes()).ok_or(bad(Key::Node))?;
     let selector = Selector::parse(text_at(cover, "selector").as_bytes()).ok_or(bad(
         Key::Selector,
     ))?;

@@ -1,9 +1,9 @@
 //! The values that the texts and integers of a plan text spell.
 ghost use Rattle.std.specs.Prelude.{◌≡◌, ◌≤◌, IfSome, length};
-ghost use Rattle.plan_text.specs.Words.{within, name_of, digits_up_to, place_of};
+ghost use Rattle.plan_text.specs.Words.{within, digits_up_to, place_of};
 ghost use Rattle.sccp_base.specs.Text.{byte_of};
 
-use sccp_base::{Digits, Name, PointCode, cut, decimal};
+use sccp_base::{Digits, PointCode, cut, decimal};
 
 /// The integer, where it is from `least` to `most`.
 #[tactic(auto, unfolding(crate::specs::Words::within))]
@@ -16,14 +16,6 @@ pub(crate) fn within(least: u8, most: u8, value: i64) -> Option<u8>
         Ok(number) if least <= number && number <= most => Some(number),
         _ => None,
     }
-}
-
-/// The name that a text is.
-#[tactic(auto, unfolding(crate::specs::Words::name_of))]
-pub(crate) fn name_of(text: &[u8]) -> Option<Name>
-    ensures { result ≡ name_of text.now }
-{
-    Name::parse(text)
 }
 
 /// The digits that a text spells, where they are at most so many.
