@@ -1,0 +1,21 @@
+//! SCCP management at one node (Q.714 section 5): which points, SCCPs and subsystems are prohibited, and the status
+//! messages that are sent about them (Q.713 section 5).
+//!
+//! A `Manager` keeps the marking of its node, and `on` carries out one event by a table with a row for each. The layer
+//! above may rely on this: a mark is held afterwards exactly where the event's row prohibits it, or it was held and the
+//! row doesn't allow it; the messages are those of the row, in its order, octet by octet; and no node ever takes its own
+//! point or its own SCCP for prohibited.
+#![tactic(auto)]
+
+mod event;
+mod laws;
+mod manager;
+mod marking;
+mod sent;
+mod status;
+
+pub use event::Event;
+pub use laws::status_messages_are_read;
+pub use manager::Manager;
+pub use sent::Sent;
+pub use status::{StatusKind, StatusMessage};
