@@ -1,0 +1,17 @@
+//! The coupling of class 2 connections at one relay (Q.714 section 3): the sections of its connections, what each
+//! connection-oriented message does to them, and what is sent.
+//!
+//! The layer above may rely on the laws of `laws`, which hold of every list of messages, whatever plans and markings say
+//! of the requests among them: what one side of a pair passes on is sent to its other side, in order and unchanged; each
+//! data message that is sent is one of exactly one pair; and none is made up.
+#![tactic(auto)]
+
+mod laws;
+mod section;
+mod way;
+
+pub use laws::{
+    all_is_sent, each_goes_to_one_section, each_is_of_one_pair, none_is_made_up, steps_keep,
+};
+pub use section::Section;
+pub use way::Way;
