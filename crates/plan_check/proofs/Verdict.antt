@@ -1,8 +1,11 @@
 -- the first fault of a check, and what no fault shows
 use Rattle.std.specs.Prelude.{ℕ, ◌≡◌, List, Option, Some, None, IsSome, refl}
+use Rattle.std.specs.List.{All}
 use Rattle.std.proofs.Common.{subst}
+use Rattle.sccp_base.specs.Marks.{IsMarking}
 use Rattle.plan_model.specs.Network.{Network, IsPlan}
 use Rattle.plan_model.specs.Verdicts.{Tight}
+use Rattle.plan_model.proofs.Spots.{in_range}
 use Rattle.plan_classes.specs.Titles.{Titles}
 use Rattle.plan_classes.specs.Classes.{start_of}
 use Rattle.plan_check.specs.declared.longest.Longest.{Longest}
@@ -44,13 +47,15 @@ faultless plan ranks longest (BadEnd c) h bound passes = table_faultless plan ra
 faultless plan ranks longest NotTight h bound passes = absurd (h.loose (subst (λ (n : ℕ). Tight plan n longest.spot longest.markings) (same_greatest plan (rank_in ranks) bound h.bound passes.start h.start) passes.tight))
 faultless plan ranks longest OutOfMemory h bound passes = refl
 
--- a plan that passes is safe, and its bound is from 1 to 14
-pub passed_verified : (plan : Network) (ranks : List (Titles × ℕ)) (longest : Longest) (bound : ℕ) → IsPlan plan → Passes plan ranks longest bound → IsVerified (verified plan bound longest)
-passed_verified plan ranks longest bound is passes =
+-- a plan that passes is safe, its bound is from 1 to 14, and its longest route is in range
+pub passed_verified : (plan : Network) (ranks : List (Titles × ℕ)) (longest : Longest) (bound : ℕ) → IsPlan plan → All IsMarking longest.markings → Passes plan ranks longest bound → IsVerified (verified plan bound longest)
+passed_verified plan ranks longest bound is marked passes =
     let first = passes.ranked (start_of passes.start.number passes.start.cover) bound passes.start.reached in
     record {
+      plan = is;
       some = first.low;
       few = first.high;
       safe = ranked_safe plan (rank_in ranks) bound is passes.ranked passes.start.each;
       tight = passes.tight;
+      range = in_range plan longest.spot longest.markings is passes.tight.covered marked;
     }

@@ -29,7 +29,8 @@ impl Accepted {
     /// What a check found.
     pub(crate) fn new(plan: Plan, bound: u8, longest: Longest) -> Accepted
         requires { IsVerified (verified plan bound longest) }
-        ensures { result ≡ verified plan bound longest }
+        ensures value { result ≡ verified plan bound longest }
+        ensures verified { IsVerified result }
     {
         Accepted {
             plan,

@@ -6,6 +6,7 @@ ghost use Rattle.plan_model.specs.Verdicts.{Safe, Tight};
 ghost use Rattle.plan_check.specs.Ranking.{rank_in};
 ghost use Rattle.plan_check.specs.Ranked.{IsGreatestStart};
 ghost use Rattle.plan_check.specs.Checks.{Passes, IsCheckFault};
+ghost use Rattle.plan_check.specs.Verified.{IsVerified};
 
 use crate::accepted::Accepted;
 use crate::check_fault::CheckFault;
@@ -15,7 +16,7 @@ use crate::ranks::Ranks;
 use crate::starts::greatest_start;
 use crate::unchecked::Unchecked;
 use plan_model::{Plan, Spot, route};
-use sccp_base::OutOfMemory;
+use sccp_base::{Marking, OutOfMemory};
 use std::alloc::Global;
 
 /// Whether some cover has the spot, which then is at a node of the plan.
@@ -70,10 +71,12 @@ pub fn check(
     ensures safe { IfOk result (λ a. Safe plan a.bound) }
     ensures tight { IfOk result (λ a. Tight plan a.bound longest.spot longest.markings) }
     ensures passed { IfOk result (λ a. Passes plan ranks.now longest a.bound) }
+    ensures verified { IfOk result IsVerified }
     ensures handed_back { IfErr result (λ u. u.plan ≡ plan) }
     ensures fault { IfErr result (λ u. IsCheckFault plan ranks.now longest u.fault) }
     ensures complete { (bound : ℕ) → Passes plan ranks.now longest bound → IfErr result (λ u. u.fault ≡ CheckFault.OutOfMemory) }
 {
+    Marking::vouch(longest.markings.as_slice());
     match bound_of(alloc, &plan, ranks, &longest) {
         Ok(bound) => Ok(Accepted::new(plan, bound, longest)),
         Err(fault) => Err(Unchecked { plan, fault }),

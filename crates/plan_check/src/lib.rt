@@ -15,8 +15,6 @@ mod longest;
 mod ranks;
 mod ranks_fault;
 mod starts;
-#[cfg(test)]
-mod tests;
 mod unchecked;
 
 pub use accepted::Accepted;

@@ -16,8 +16,6 @@ mod opens;
 mod reaching;
 mod splitting;
 mod starts;
-#[cfg(test)]
-mod tests;
 
 pub use carrying::carry_back;
 pub use class::Class;

@@ -6,6 +6,7 @@ use Rattle.std.proofs.Common.{zero, suc, sym, ◌∙◌, ap, subst, arith, lengt
 use Rattle.std.proofs.lemmas.Bool.{ltb-false}
 use Rattle.std.proofs.lemmas.List.Elements.{All-append, All-drop, All-cons, All-nil}
 use Rattle.sccp_base.specs.Selector.{Numbers, IsSelector}
+use Rattle.sccp_base.specs.Marks.{IsMarking}
 use Rattle.sccp_base.specs.declared.mark.Mark.{Mark}
 use Rattle.sccp_base.proofs.Among.{Among-slice_get}
 use Rattle.sccp_base.proofs.Prefix.{fits-starts_with}
@@ -22,7 +23,7 @@ use Rattle.plan_model.specs.Covered.{Covers, Covered}
 use Rattle.plan_model.specs.Next.{next_of}
 use Rattle.plan_model.specs.Steps.{step}
 use Rattle.plan_model.specs.Routes.{route, onward}
-use Rattle.plan_model.specs.Spots.{IsSpotOf}
+use Rattle.plan_model.specs.Spots.{IsSpotOf, IsInRange}
 use Rattle.plan_model.proofs.Leading.{IsSentBy, Facts, step_facts}
 use Rattle.plan_model.proofs.SoundTargets.{IsTargetOf, sound_target}
 
@@ -111,3 +112,7 @@ route_spots plan s (m ∷ ms) is h =
       | None ↦ λ e. All-nil (λ (hop : Hop). IsSpotOf plan hop.spot)
       | Some next ↦ λ e. route_spots plan next ms is (sent_spot plan s next m is h e)
     ] refl)
+
+-- the route of a covered title is in range
+pub in_range : (plan : Network) (s : Spot) (ms : List (List Mark)) → IsPlan plan → Covered plan s → All IsMarking ms → IsInRange plan s ms
+in_range plan s ms is covered marked = record { markings = marked; spots = route_spots plan s ms is (covered_spot plan s is covered) }

@@ -2,6 +2,7 @@
 use Rattle.std.specs.Prelude.{ℕ, ◌≤◌}
 use Rattle.plan_model.specs.Network.{Network}
 use Rattle.plan_model.specs.Verdicts.{Safe, Tight}
+use Rattle.plan_model.specs.Spots.{IsInRange}
 use Rattle.plan_classes.specs.Classes.{ReachesAtLeast}
 use Rattle.plan_verify.specs.declared.verdict.Verdict.{Verdict}
 use Rattle.plan_verify.specs.declared.verdict.Verdict.TheVariants.{Accepted, Refused, TooWide}
@@ -19,10 +20,11 @@ pub record IsSafeFor (plan : Network) (bound : ℕ) : Type 0 where
   pub few : bound ≤ 14
   pub safe : Safe plan bound
 
--- an accepted plan is safe for its bound, which its longest route reaches; a refused one has the bad route that is shown; and one
--- that is too wide reaches at least 262,144 classes of titles
+-- an accepted plan is safe for its bound, which its longest route reaches, and the numbers of that route are in range; a refused one
+-- has the bad route that is shown; and one that is too wide reaches at least 262,144 classes of titles
 abbrev pub IsLawful : Network → Verdict → Type 0
-IsLawful plan (Accepted accepted) = IsSafeFor plan accepted.bound × Tight plan accepted.bound accepted.longest.spot accepted.longest.markings
+IsLawful plan (Accepted accepted) =
+    IsSafeFor plan accepted.bound × Tight plan accepted.bound accepted.longest.spot accepted.longest.markings × IsInRange plan accepted.longest.spot accepted.longest.markings
 IsLawful plan (Refused same witness) = IsWitness plan witness
 IsLawful plan (TooWide same) = ReachesAtLeast plan 262144
 

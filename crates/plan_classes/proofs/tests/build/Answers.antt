@@ -1,4 +1,0 @@
-use Rattle.plan_classes.proofs.tests.build.Goals as goal
-
-pub build-requires-clause-nodes : goal.build-requires-clause-nodes
-build-requires-clause-nodes c = (c.can_build.ensures.0 c.if-can_build.true).0
