@@ -15,6 +15,3 @@ pub use address::{Address, Title, digits_of, selector_of};
 pub use encoding::write;
 pub use fault::AddressFault;
 pub use reading::read;
-
-#[cfg(test)]
-mod tests;

@@ -30,6 +30,3 @@ pub use real_sink::RealSink;
 pub use sink::Sink;
 pub use sound_files::SoundFiles;
 pub use sound_sink::SoundSink;
-
-#[cfg(test)]
-mod tests;

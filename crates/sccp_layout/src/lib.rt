@@ -21,6 +21,3 @@ pub use parts::{JoinFault, Parts, SplitFault};
 pub use shape::Layout;
 pub use splitting::split;
 pub use table::layout;
-
-#[cfg(test)]
-mod tests;

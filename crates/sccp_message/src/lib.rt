@@ -29,6 +29,3 @@ pub use fault::DecodeFault;
 pub use message::Message;
 pub use params::param;
 pub use round_trip::{equal_by_octets, written_reads};
-
-#[cfg(test)]
-mod tests;
