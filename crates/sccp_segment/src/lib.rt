@@ -1,0 +1,29 @@
+//! Segmentation and reassembly of connectionless messages (Q.714 section 4.1, Q.713 section 3.17).
+//!
+//! `split_data` cuts data into segments, and a `Pool` puts the segments of up to 64 messages together, whatever other
+//! segments come between them. The layer above may rely on this: the data of the segments is the data that was cut; a
+//! pool answers a whole message exactly where the segments of its key, from the last first one on, came in step, and by
+//! their data; and a segment changes nothing for the messages of other keys.
+#![tactic(auto)]
+
+mod arrival;
+mod cutting;
+mod key;
+mod laws;
+mod pool;
+mod pool_fault;
+mod run;
+mod segment;
+mod split_data_fault;
+mod taken;
+mod taking;
+
+pub use arrival::Arrival;
+pub use cutting::split_data;
+pub use key::Key;
+pub use laws::{keys_are_values, pieces_are_whole, pieces_come_whole, whole_messages};
+pub use pool::Pool;
+pub use pool_fault::PoolFault;
+pub use segment::Segment;
+pub use split_data_fault::SplitDataFault;
+pub use taken::{Taken, Why};
