@@ -1,4 +1,4 @@
-pub mod Hexadecimal
+pub mod DigitTexts
 pub mod HopLines
 pub mod InPlan
 pub mod InVerdict

@@ -39,7 +39,7 @@ unfoldable pub spot_text : Network → Spot → List ℕ
 spot_text plan spot =
     codes "at " ++ node_text plan spot.node ++ codes " " ++ selector_text spot.selector ++ numbered (codes " ") spot.ssn ++ codes " " ++ digits_text spot.digits
 
--- the place of the target that was taken: 0 for the first one, 1 for the backup
+-- the place of the target that was taken, from 0
 unfoldable pub target_text : ℕ → List ℕ
 target_text place = numbered (codes " target ") place
 

@@ -1,7 +1,6 @@
 -- The printed text of values. Numbers are decimal, without leading zeros; octets and digits are hexadecimal, in upper case.
-use Rattle.std.specs.Prelude.{ℕ, ◌==◌, if◌then◌else◌, List, [], ◌∷◌, ◌++◌, map, slice_index, codes, decimal, Option, Some, None}
+use Rattle.std.specs.Prelude.{ℕ, ◌/◌, ◌%◌, ◌==◌, if◌then◌else◌, List, [], ◌∷◌, ◌++◌, map, slice_index, codes, decimal, Option, Some, None}
 use Rattle.hex.specs.Hex.{encode_upper, upper_digits}
-use Rattle.sccp_base.specs.Bits.{bits}
 use Rattle.sccp_base.specs.Selector.{Numbers}
 
 -- what is absent is a dash
@@ -23,9 +22,10 @@ unfoldable pub digits_text : List ℕ → List ℕ
 digits_text [] = codes "-"
 digits_text (digit ∷ digits) = map (slice_index upper_digits) (digit ∷ digits)
 
--- zone, area and signalling point: the top three bits, the eight in the middle and the low three
+-- Zone, area and signalling point: a zone has 256 areas, and an area eight points. Of a point code they are its top three
+-- bits, the eight in the middle and the low three. Numbers that are no point codes, as 16384, have texts of their own too.
 unfoldable pub point_code_text : ℕ → List ℕ
-point_code_text pc = decimal (bits pc 12 14) ++ codes "-" ++ decimal (bits pc 4 11) ++ codes "-" ++ decimal (bits pc 1 3)
+point_code_text pc = decimal (pc / 2048) ++ codes "-" ++ decimal (pc / 8 % 256) ++ codes "-" ++ decimal (pc % 8)
 
 -- the kind, and then the numbers that this kind has: translation type, numbering plan and nature of address
 unfoldable pub selector_text : Numbers → List ℕ

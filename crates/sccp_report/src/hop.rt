@@ -34,7 +34,7 @@ fn put_spot(text: &mut Text, plan: &Plan, spot: &Spot) -> Result<(), OutOfMemory
     put_digits(text, &spot.digits)
 }
 
-// The place of the target that was taken.
+// The place of the target that was taken, from 0.
 #[tactic(auto, unfolding(crate::specs::Hops::target_text))]
 fn put_target(text: &mut Text, place: u8) -> Result<(), OutOfMemory>
     ensures { OnOk result (text.new ≡ text.old ++ target_text place) }

@@ -25,6 +25,3 @@ pub use hop::hops_text;
 pub use plan_fault::plan_fault_text;
 pub use report::message_text;
 pub use verdict::{accepted_text, verdict_text};
-
-#[cfg(test)]
-mod tests;

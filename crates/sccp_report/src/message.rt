@@ -44,198 +44,44 @@ fn put_counted_unit(
     put_parameters(text, params)
 }
 
+// What is appended for a message: a line for each type, with its name and what is put for its fields in their order. The last
+// of these, behind the arrow, gives the answer.
+macro_rules! by_type {
+    ($text:ident, $message:ident; $($variant:ident { $($field:ident),* } $name:literal: $($put:ident($($value:expr),*)),* => $last:ident($($end:expr),*);)*) => {
+        match $message {
+            $(Message::$variant { $($field),* } => {
+                $text.put($name)?;
+                $($put($text, $($value),*)?;)*
+                $last($text, $($end),*)
+            })*
+        }
+    };
+}
+
 /// The type of a message, and a line for each field and each parameter in their order (Q.713 section 4).
 pub fn put_message(text: &mut Text, message: &Message) -> Result<(), OutOfMemory>
     ensures { OnOk result (text.new ≡ text.old ++ message_lines message.now) }
 {
-    match message {
-        Message::Cr {
-            slr,
-            class,
-            called,
-            params,
-        } => {
-            text.put(b"CR\n")?;
-            put_source(text, *slr)?;
-            put_class(text, *class)?;
-            put_called(text, called)?;
-            put_parameters(text, params)
-        }
-        Message::Cc {
-            dlr,
-            slr,
-            class,
-            params,
-        } => {
-            text.put(b"CC\n")?;
-            put_destination(text, *dlr)?;
-            put_source(text, *slr)?;
-            put_class(text, *class)?;
-            put_parameters(text, params)
-        }
-        Message::Cref { dlr, cause, params } => {
-            text.put(b"CREF\n")?;
-            put_destination(text, *dlr)?;
-            put_refusal_cause(text, *cause)?;
-            put_parameters(text, params)
-        }
-        Message::Rlsd {
-            dlr,
-            slr,
-            cause,
-            params,
-        } => {
-            text.put(b"RLSD\n")?;
-            put_destination(text, *dlr)?;
-            put_source(text, *slr)?;
-            put_release_cause(text, *cause)?;
-            put_parameters(text, params)
-        }
-        Message::Rlc { dlr, slr } => {
-            text.put(b"RLC\n")?;
-            put_destination(text, *dlr)?;
-            put_source(text, *slr)
-        }
-        Message::Dt1 { dlr, more, payload } => {
-            text.put(b"DT1\n")?;
-            put_destination(text, *dlr)?;
-            put_more(text, *more)?;
-            put_data(text, payload)
-        }
-        Message::Dt2 {
-            dlr,
-            send,
-            receive,
-            more,
-            payload,
-        } => {
-            text.put(b"DT2\n")?;
-            put_destination(text, *dlr)?;
-            put_send(text, *send)?;
-            put_receive(text, *receive)?;
-            put_more(text, *more)?;
-            put_data(text, payload)
-        }
-        Message::Ak {
-            dlr,
-            receive,
-            credit,
-        } => {
-            text.put(b"AK\n")?;
-            put_destination(text, *dlr)?;
-            put_receive(text, *receive)?;
-            put_credit(text, *credit)
-        }
-        Message::Udt {
-            class,
-            called,
-            calling,
-            payload,
-        } => {
-            text.put(b"UDT\n")?;
-            put_class(text, *class)?;
-            put_unit(text, called, calling, payload)
-        }
-        Message::Udts {
-            cause,
-            called,
-            calling,
-            payload,
-        } => {
-            text.put(b"UDTS\n")?;
-            put_return_cause(text, *cause)?;
-            put_unit(text, called, calling, payload)
-        }
-        Message::Ed { dlr, payload } => {
-            text.put(b"ED\n")?;
-            put_destination(text, *dlr)?;
-            put_data(text, payload)
-        }
-        Message::Ea { dlr } => {
-            text.put(b"EA\n")?;
-            put_destination(text, *dlr)
-        }
-        Message::Rsr { dlr, slr, cause } => {
-            text.put(b"RSR\n")?;
-            put_destination(text, *dlr)?;
-            put_source(text, *slr)?;
-            put_reset_cause(text, *cause)
-        }
-        Message::Rsc { dlr, slr } => {
-            text.put(b"RSC\n")?;
-            put_destination(text, *dlr)?;
-            put_source(text, *slr)
-        }
-        Message::Err { dlr, cause } => {
-            text.put(b"ERR\n")?;
-            put_destination(text, *dlr)?;
-            put_error_cause(text, *cause)
-        }
-        Message::It {
-            dlr,
-            slr,
-            class,
-            send,
-            receive,
-            more,
-            credit,
-        } => {
-            text.put(b"IT\n")?;
-            put_destination(text, *dlr)?;
-            put_source(text, *slr)?;
-            put_class(text, *class)?;
-            put_send(text, *send)?;
-            put_receive(text, *receive)?;
-            put_more(text, *more)?;
-            put_credit(text, *credit)
-        }
-        Message::Xudt {
-            class,
-            hops,
-            called,
-            calling,
-            payload,
-            params,
-        } => {
-            text.put(b"XUDT\n")?;
-            put_class(text, *class)?;
-            put_counted_unit(text, *hops, called, calling, payload, params)
-        }
-        Message::Xudts {
-            cause,
-            hops,
-            called,
-            calling,
-            payload,
-            params,
-        } => {
-            text.put(b"XUDTS\n")?;
-            put_return_cause(text, *cause)?;
-            put_counted_unit(text, *hops, called, calling, payload, params)
-        }
-        Message::Ludt {
-            class,
-            hops,
-            called,
-            calling,
-            payload,
-            params,
-        } => {
-            text.put(b"LUDT\n")?;
-            put_class(text, *class)?;
-            put_counted_unit(text, *hops, called, calling, payload, params)
-        }
-        Message::Ludts {
-            cause,
-            hops,
-            called,
-            calling,
-            payload,
-            params,
-        } => {
-            text.put(b"LUDTS\n")?;
-            put_return_cause(text, *cause)?;
-            put_counted_unit(text, *hops, called, calling, payload, params)
-        }
+    by_type! { text, message;
+        Cr { slr, class, called, params } b"CR\n": put_source(*slr), put_class(*class), put_called(called) => put_parameters(params);
+        Cc { dlr, slr, class, params } b"CC\n": put_destination(*dlr), put_source(*slr), put_class(*class) => put_parameters(params);
+        Cref { dlr, cause, params } b"CREF\n": put_destination(*dlr), put_refusal_cause(*cause) => put_parameters(params);
+        Rlsd { dlr, slr, cause, params } b"RLSD\n": put_destination(*dlr), put_source(*slr), put_release_cause(*cause) => put_parameters(params);
+        Rlc { dlr, slr } b"RLC\n": put_destination(*dlr) => put_source(*slr);
+        Dt1 { dlr, more, payload } b"DT1\n": put_destination(*dlr), put_more(*more) => put_data(payload);
+        Dt2 { dlr, send, receive, more, payload } b"DT2\n": put_destination(*dlr), put_send(*send), put_receive(*receive), put_more(*more) => put_data(payload);
+        Ak { dlr, receive, credit } b"AK\n": put_destination(*dlr), put_receive(*receive) => put_credit(*credit);
+        Udt { class, called, calling, payload } b"UDT\n": put_class(*class) => put_unit(called, calling, payload);
+        Udts { cause, called, calling, payload } b"UDTS\n": put_return_cause(*cause) => put_unit(called, calling, payload);
+        Ed { dlr, payload } b"ED\n": put_destination(*dlr) => put_data(payload);
+        Ea { dlr } b"EA\n": => put_destination(*dlr);
+        Rsr { dlr, slr, cause } b"RSR\n": put_destination(*dlr), put_source(*slr) => put_reset_cause(*cause);
+        Rsc { dlr, slr } b"RSC\n": put_destination(*dlr) => put_source(*slr);
+        Err { dlr, cause } b"ERR\n": put_destination(*dlr) => put_error_cause(*cause);
+        It { dlr, slr, class, send, receive, more, credit } b"IT\n": put_destination(*dlr), put_source(*slr), put_class(*class), put_send(*send), put_receive(*receive), put_more(*more) => put_credit(*credit);
+        Xudt { class, hops, called, calling, payload, params } b"XUDT\n": put_class(*class) => put_counted_unit(*hops, called, calling, payload, params);
+        Xudts { cause, hops, called, calling, payload, params } b"XUDTS\n": put_return_cause(*cause) => put_counted_unit(*hops, called, calling, payload, params);
+        Ludt { class, hops, called, calling, payload, params } b"LUDT\n": put_class(*class) => put_counted_unit(*hops, called, calling, payload, params);
+        Ludts { cause, hops, called, calling, payload, params } b"LUDTS\n": put_return_cause(*cause) => put_counted_unit(*hops, called, calling, payload, params);
     }
 }

@@ -6,12 +6,10 @@ use sccp_base::{Octets, OutOfMemory};
 use std::alloc::Global;
 use std::marker::Model;
 
-/// The sixteen digits.
-pub const HEXADECIMAL: &[u8; 16] = b"0123456789ABCDEF";
-
 /// A text that is being written, as octets. After an error its end isn't specified: it is to be dropped.
 #[derive(Drop)]
 pub struct Text {
+    alloc: Global,
     octets: Vec<u8>,
 }
 
@@ -28,6 +26,7 @@ impl Text {
         ensures { result ≡ [] }
     {
         Text {
+            alloc,
             octets: Vec::new(alloc),
         }
     }
@@ -71,25 +70,19 @@ impl Text {
         self.put(itoa::Buffer::new().format(count).as_bytes())
     }
 
+    // The hexadecimal digits of octets, two for each.
+    fn put_hexadecimal(&mut self, octets: &[u8]) -> Result<(), OutOfMemory>
+        ensures { OnOk result (self.new ≡ self.old ++ encode_upper octets.now) }
+    {
+        let digits = hex::encode_upper(self.alloc, octets)?;
+        self.put(digits.as_bytes())
+    }
+
     /// Appends the two hexadecimal digits of an octet.
-    #[tactic(auto, unfolding(hex::specs::Hex::encode_with))]
     pub fn put_octet(&mut self, octet: u8) -> Result<(), OutOfMemory>
         ensures { OnOk result (self.new ≡ self.old ++ encode_upper (octet ∷ [])) }
     {
-        let high = HEXADECIMAL[usize::from(octet >> 4)];
-        let low = HEXADECIMAL[usize::from(octet & 0x0F)];
-        self.put(&[high, low])
-    }
-
-    // The hexadecimal digits of all octets.
-    #[tactic(auto, using(crate::proofs::Hexadecimal::encode_upper_more))]
-    fn put_each_octet(&mut self, octets: &[u8]) -> Result<(), OutOfMemory>
-        ensures { OnOk result (self.new ≡ self.old ++ encode_upper octets.now) }
-    {
-        for octet in octets {
-            self.put_octet(*octet)?;
-        }
-        Ok(())
+        self.put_hexadecimal(&[octet])
     }
 
     /// Appends octets in hexadecimal, or a dash where there is none.
@@ -99,7 +92,7 @@ impl Text {
     {
         match octets {
             [] => self.put(b"-"),
-            _ => self.put_each_octet(octets),
+            _ => self.put_hexadecimal(octets),
         }
     }
 }

@@ -2,8 +2,11 @@ ghost use Rattle.std.specs.Prelude.{◌≡◌, ◌++◌, decimal, map, slice_ind
 ghost use Rattle.hex.specs.Hex.{upper_digits};
 ghost use Rattle.sccp_report.specs.Values.{or_dash, digits_text, point_code_text, selector_text};
 
-use crate::text::{HEXADECIMAL, Text};
+use crate::text::Text;
 use sccp_base::{Digits, OutOfMemory, PointCode, Selector};
+
+/// The sixteen digits that a title may have.
+const DIGITS: &[u8; 16] = b"0123456789ABCDEF";
 
 /// Appends a point code as zone, area and signalling point.
 #[tactic(auto, unfolding(crate::specs::Values::point_code_text))]
@@ -11,11 +14,11 @@ pub fn put_point_code(text: &mut Text, pc: PointCode) -> Result<(), OutOfMemory>
     ensures { OnOk result (text.new ≡ text.old ++ point_code_text pc) }
 {
     let value = u32::from(pc.value());
-    text.put_number((value >> 11) & 0x07)?;
+    text.put_number(value / 2048)?;
     text.put(b"-")?;
-    text.put_number((value >> 3) & 0xFF)?;
+    text.put_number(value / 8 % 256)?;
     text.put(b"-")?;
-    text.put_number(value & 0x07)
+    text.put_number(value % 8)
 }
 
 /// Appends a selector's kind and the numbers that this kind has.
@@ -52,13 +55,13 @@ pub fn put_selector(text: &mut Text, selector: &Selector) -> Result<(), OutOfMem
     }
 }
 
-// The hexadecimal digits of all of them.
-#[tactic(auto, using(crate::proofs::Hexadecimal::digits_more))]
+// A character for each digit.
+#[tactic(auto, using(crate::proofs::DigitTexts::digits_more))]
 fn put_each_digit(text: &mut Text, digits: &Digits) -> Result<(), OutOfMemory>
     ensures { OnOk result (text.new ≡ text.old ++ map (slice_index upper_digits) digits.now) }
 {
     for digit in digits.as_slice() {
-        text.put(&[HEXADECIMAL[usize::from(*digit)]])?;
+        text.put(&[DIGITS[usize::from(*digit)]])?;
     }
     Ok(())
 }

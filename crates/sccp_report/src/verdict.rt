@@ -30,7 +30,7 @@ fn put_kind(text: &mut Text, kind: Kind) -> Result<(), OutOfMemory>
     }
 }
 
-/// Appends whether one marking for all relays gives the same route.
+/// Appends whether the hops are the same where each relay holds all the marks of the route.
 #[tactic(auto, unfolding(crate::specs::Verdicts::steady_words))]
 fn put_steady(text: &mut Text, steady: bool) -> Result<(), OutOfMemory>
     ensures { OnOk result (text.new ≡ text.old ++ steady_words steady) }
