@@ -1,0 +1,6 @@
+pub mod Redirected
+pub mod Addresses
+pub mod Arrivals
+pub mod Behind
+pub mod StepEnds
+pub mod Meaning

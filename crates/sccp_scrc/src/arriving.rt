@@ -1,0 +1,237 @@
+ghost use Rattle.std.specs.Prelude.{◌≡◌, ◌<◌, ◌==◌, ℕ, List, Option, length, IfOk, IfNone, IsSome, Some, false, [], ◌∷◌, option_map};
+ghost use Rattle.std.specs.List.{list_any};
+ghost use Rattle.sccp_address.specs.declared.address.Address.{Address};
+ghost use Rattle.sccp_base.specs.declared.mark.Mark.{Mark};
+ghost use Rattle.sccp_message.specs.declared.message.Message.{Message};
+ghost use Rattle.plan_model.specs.Routes.{StaysIn};
+ghost use Rattle.sccp_scrc.specs.declared.service.Service.{Service};
+ghost use Rattle.sccp_scrc.specs.Unitdata.{called_of};
+ghost use Rattle.sccp_scrc.specs.Next.{onward_address, next_place};
+ghost use Rattle.sccp_scrc.specs.Arriving.{by_called, point_of, subsystems_of, at_subsystem, after_step, at_title, is_last_hop, arrival};
+ghost use Rattle.sccp_scrc.specs.Outcomes.{IsRelayed, IsEnded, IsLocal, IsReturned};
+
+use crate::arrival::Arrival;
+use crate::fields::{called, hops};
+use crate::leaving::{place, relay};
+use crate::returning::returned;
+use crate::rewriting::{address_after, spot_in};
+use plan_model::{Plan, Step, step};
+use sccp_address::Address;
+use sccp_base::{List, Mark, Marking, OutOfMemory, PointCode};
+use sccp_message::{DecodeFault, Message, decode};
+use std::alloc::Global;
+
+fn own_point(plan: &Plan, node: u8) -> PointCode
+    requires { node < length plan.now.nodes }
+    ensures { result ≡ point_of plan.now node }
+{
+    plan.nodes().as_slice()[usize::from(node)].pc
+}
+
+fn is_own(plan: &Plan, node: u8, ssn: u8) -> bool
+    requires { node < length plan.now.nodes }
+    ensures { result ≡ list_any (λ own. own == ssn) (subsystems_of plan.now node) }
+{
+    plan.nodes().as_slice()[usize::from(node)].is_equipped(ssn)
+}
+
+fn one_mark(alloc: Global, mark: Mark) -> Result<List<Mark>, OutOfMemory>
+    ensures { IfOk result (λ marks. marks ≡ mark ∷ []) }
+{
+    let mut marks = List::new(alloc);
+    marks.push(mark)?;
+    Ok(marks)
+}
+
+/// Routed on SSN.
+fn at_subsystem(
+    alloc: Global,
+    plan: &Plan,
+    node: u8,
+    marking: &Marking,
+    origin: PointCode,
+    message: Message,
+    ssn: Option<u8>,
+) -> Result<Arrival, OutOfMemory>
+    requires { node < length plan.now.nodes }
+    ensures { IfOk result (λ a. a ≡ at_subsystem plan.now node marking.now origin message ssn) }
+{
+    let Some(ssn) = ssn else {
+        return returned(alloc, marking, origin, message, 4, List::new(alloc));
+    };
+    if ssn == 1 {
+        return Ok(Arrival::Management(message));
+    }
+    if !is_own(plan, node, ssn) {
+        return returned(alloc, marking, origin, message, 4, List::new(alloc));
+    }
+    let own = own_point(plan, node);
+    if marking.holds(Mark::Subsystem(own, ssn)) {
+        let marks = one_mark(alloc, Mark::Subsystem(own, ssn))?;
+        return returned(alloc, marking, origin, message, 3, marks);
+    }
+    Ok(Arrival::Local { ssn, message })
+}
+
+/// What a step makes of the message, with the called address that it goes on with.
+fn after(
+    alloc: Global,
+    plan: &Plan,
+    node: u8,
+    marking: &Marking,
+    origin: PointCode,
+    message: Message,
+    to: Option<Address>,
+    step: Step,
+) -> Result<Arrival, OutOfMemory>
+    requires node { node < length plan.now.nodes }
+    requires called { IsSome (called_of message) }
+    requires stays { StaysIn plan.now step }
+    requires to { IfNone to (next_place step ≡ false) }
+    ensures { (address : Address) → called_of message ≡ Some address → to ≡ onward_address step address → IfOk result (λ a. a ≡ after_step plan.now node marking.now origin message address step) }
+{
+    match step {
+        Step::Sent { next, .. } => match to {
+            Some(to) => relay(
+                alloc,
+                own_point(plan, next.node),
+                marking,
+                origin,
+                message,
+                to,
+            ),
+            None => unreachable!(),
+        },
+        Step::Ended { pc, ssn, .. } => match to {
+            Some(to) => place(
+                alloc,
+                own_point(plan, node),
+                pc,
+                ssn,
+                marking,
+                origin,
+                message,
+                to,
+            ),
+            None => unreachable!(),
+        },
+        Step::Blocked { cause, marks } => returned(alloc, marking, origin, message, cause, marks),
+        Step::NoRow { cause } => returned(alloc, marking, origin, message, cause, List::new(alloc)),
+        Step::Overgrown => returned(alloc, marking, origin, message, 9, List::new(alloc)),
+    }
+}
+
+/// Whether the hop counter is used up by one more translation.
+fn is_last_hop(hops: Option<u8>) -> bool
+    ensures { result ≡ is_last_hop hops }
+{
+    match hops {
+        Some(hops) => hops <= 1,
+        None => false,
+    }
+}
+
+/// Routed on title: first the hop counter is tested.
+fn at_title(
+    alloc: Global,
+    plan: &Plan,
+    node: u8,
+    marking: &Marking,
+    origin: PointCode,
+    message: Message,
+) -> Result<Arrival, OutOfMemory>
+    requires node { node < length plan.now.nodes }
+    requires called { IsSome (called_of message) }
+    ensures { (address : Address) → called_of message ≡ Some address → IfOk result (λ a. a ≡ at_title plan.now node marking.now origin message address) }
+{
+    if is_last_hop(hops(&message)) {
+        return returned(alloc, marking, origin, message, 12, List::new(alloc));
+    }
+    match spot_in(node, &message) {
+        None => returned(alloc, marking, origin, message, 0, List::new(alloc)),
+        Some(spot) => {
+            let step = step(alloc, plan, &spot, marking)?;
+            let to = address_after(&message, &spot, &step);
+            after(alloc, plan, node, marking, origin, message, to, step)
+        }
+    }
+}
+
+/// How a message is routed: on SSN or not, and its SSN. A connection-oriented one isn't routed by its called address.
+fn routing(message: &Message) -> Option<(bool, Option<u8>)>
+    ensures { result ≡ option_map (λ a. (a.by_ssn, a.ssn)) (called_of message.now) }
+{
+    match called(message) {
+        Some(address) => Some((address.by_ssn, address.ssn)),
+        None => None,
+    }
+}
+
+/// What becomes of a message.
+fn of_message(
+    alloc: Global,
+    plan: &Plan,
+    node: u8,
+    marking: &Marking,
+    origin: PointCode,
+    message: Message,
+) -> Result<Arrival, OutOfMemory>
+    requires node { node < length plan.now.nodes }
+    ensures { IfOk result (λ a. a ≡ by_called plan.now node marking.now origin message (called_of message)) }
+{
+    match routing(&message) {
+        None => Ok(Arrival::Connection(message)),
+        Some((by_ssn, ssn)) => {
+            if by_ssn {
+                at_subsystem(alloc, plan, node, marking, origin, message, ssn)
+            } else {
+                at_title(alloc, plan, node, marking, origin, message)
+            }
+        }
+    }
+}
+
+/// What becomes of octets.
+fn of_octets(
+    alloc: Global,
+    plan: &Plan,
+    node: u8,
+    marking: &Marking,
+    origin: PointCode,
+    octets: &[u8],
+) -> Result<Arrival, OutOfMemory>
+    requires node { node < length plan.now.nodes }
+    ensures { IfOk result (λ a. a ≡ arrival plan.now node marking.now origin octets.now) }
+{
+    match decode(alloc, octets) {
+        Ok(message) => of_message(alloc, plan, node, marking, origin, message),
+        Err(DecodeFault::OutOfMemory) => Err(OutOfMemory),
+        Err(fault) => Ok(Arrival::Undecodable(fault)),
+    }
+}
+
+/// What becomes of octets that arrive from the point `origin` at the node at this place of the plan, which holds the
+/// marking (Q.714 section 2).
+pub fn arrive(
+    alloc: Global,
+    plan: &Plan,
+    node: u8,
+    marking: &Marking,
+    origin: PointCode,
+    octets: &[u8],
+) -> Result<Arrival, OutOfMemory>
+    requires node { node < length plan.now.nodes }
+    ensures exact { IfOk result (λ a. a ≡ arrival plan.now node marking.now origin octets.now) }
+    // A relayed message goes to another relay of the plan, with nothing changed but its called address and hop counter.
+    ensures relayed { IfOk result (λ a. (pc : ℕ) (sent : List ℕ) → a ≡ Arrival.Relayed pc sent → IsRelayed plan.now node octets.now pc sent) }
+    // One with a destination goes to a point of which no mark is held, likewise.
+    ensures ended { IfOk result (λ a. (pc ssn : ℕ) (sent : List ℕ) → a ≡ Arrival.Ended pc ssn sent → IsEnded plan.now node marking.now octets.now pc ssn sent) }
+    // One for the node itself is for one of its subsystems that isn't prohibited.
+    ensures local { IfOk result (λ a. (ssn : ℕ) (new : Message) → a ≡ Arrival.Local ssn new → IsLocal plan.now node marking.now octets.now ssn new) }
+    // A return names marks that are held, and its cause is that of the last one.
+    ensures names { IfOk result (λ a. (cause : ℕ) (marks : List Mark) (service : Option Service) → a ≡ Arrival.Returned cause marks service → IsReturned marking.now cause marks) }
+{
+    // That the plan is one is known from this call alone.
+    let _nodes = plan.nodes();
+    of_octets(alloc, plan, node, marking, origin, octets)
+}

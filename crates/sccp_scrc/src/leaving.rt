@@ -1,0 +1,105 @@
+//! Messages that leave a node: their octets, and the return of what can't be written.
+ghost use Rattle.std.specs.Prelude.{◌≡◌, ◌==◌, if◌then◌else◌, IfOk, IsSome};
+ghost use Rattle.sccp_scrc.specs.declared.arrival.Arrival.TheVariants.{Relayed, Ended, Local};
+ghost use Rattle.sccp_scrc.specs.Unitdata.{called_of, redirected, octets_of};
+ghost use Rattle.sccp_scrc.specs.Rewriting.{one_less};
+ghost use Rattle.sccp_scrc.specs.Arriving.{leaving};
+
+use crate::arrival::Arrival;
+use crate::fields::hops;
+use crate::returning::returned;
+use crate::rewriting::{restore, rewrite};
+use sccp_address::Address;
+use sccp_base::{List, Marking, Octets, OutOfMemory, PointCode};
+use sccp_message::{EncodeFault, Message, encode};
+use std::alloc::Global;
+
+/// The octets of a message, where it can be written.
+#[tactic(auto, using(crate::proofs::Redirected::octets_written))]
+pub(crate) fn octets_of(alloc: Global, message: &Message) -> Result<Option<Octets>, OutOfMemory>
+    ensures { IfOk result (λ octets. octets ≡ octets_of message.now) }
+{
+    match encode(alloc, message) {
+        Ok(octets) => Ok(Some(octets)),
+        Err(EncodeFault::TooLong(_)) => Ok(None),
+        Err(EncodeFault::PointerTooFar(_)) => Ok(None),
+        Err(EncodeFault::OutOfMemory) => Err(OutOfMemory),
+    }
+}
+
+/// On to a relay, where the message can be written.
+pub(crate) fn relay(
+    alloc: Global,
+    pc: PointCode,
+    marking: &Marking,
+    origin: PointCode,
+    message: Message,
+    to: Address,
+) -> Result<Arrival, OutOfMemory>
+    requires called { IsSome (called_of message) }
+    ensures { IfOk result (λ a. a ≡ leaving marking.now origin message (Relayed pc) (octets_of (redirected to one_less message))) }
+{
+    let before = hops(&message).unwrap_or(0);
+    let (new, old) = rewrite(message, to);
+    match octets_of(alloc, &new)? {
+        Some(octets) => Ok(Arrival::Relayed { pc, octets }),
+        None => returned(
+            alloc,
+            marking,
+            origin,
+            restore(new, old, before),
+            9,
+            List::new(alloc),
+        ),
+    }
+}
+
+/// To a destination at another point, where the message can be written.
+fn depart(
+    alloc: Global,
+    pc: PointCode,
+    ssn: u8,
+    marking: &Marking,
+    origin: PointCode,
+    message: Message,
+    to: Address,
+) -> Result<Arrival, OutOfMemory>
+    requires called { IsSome (called_of message) }
+    ensures { IfOk result (λ a. a ≡ leaving marking.now origin message (Ended pc ssn) (octets_of (redirected to one_less message))) }
+{
+    let before = hops(&message).unwrap_or(0);
+    let (new, old) = rewrite(message, to);
+    match octets_of(alloc, &new)? {
+        Some(octets) => Ok(Arrival::Ended { pc, ssn, octets }),
+        None => returned(
+            alloc,
+            marking,
+            origin,
+            restore(new, old, before),
+            9,
+            List::new(alloc),
+        ),
+    }
+}
+
+/// To a destination, which is a subsystem of the node where the point is the node's own.
+pub(crate) fn place(
+    alloc: Global,
+    own: PointCode,
+    pc: PointCode,
+    ssn: u8,
+    marking: &Marking,
+    origin: PointCode,
+    message: Message,
+    to: Address,
+) -> Result<Arrival, OutOfMemory>
+    requires called { IsSome (called_of message) }
+    ensures { IfOk result (λ a. a
+        ≡ (if pc == own then Local ssn (redirected to one_less message) else leaving marking.now origin message (Ended pc ssn) (octets_of (redirected to one_less message)))) }
+{
+    if pc == own {
+        let (message, _) = rewrite(message, to);
+        return Ok(Arrival::Local { ssn, message });
+    }
+    depart(alloc, pc, ssn, marking, origin, message, to)
+}

@@ -1,0 +1,12 @@
+use sccp_base::{Mark, PointCode};
+
+/// How a service message goes back (Q.714 section 4.2).
+#[derive(Clone, Copy, Debug, PartialEq, Eq)]
+pub enum Way {
+    /// To this point: that of the calling address, or the one that the message came from.
+    Direct(PointCode),
+    /// Not at all: this mark of that point is held.
+    Shut(Mark),
+    /// By translation, as an arrival at the node that returns the message.
+    ByTitle,
+}
