@@ -1,7 +1,7 @@
 -- The text of digits, one at a time.
-use Rattle.std.proofs.Common.{◌≡◌, ℕ, ◌+◌, ◌/◌, ◌%◌, ◌<◌, List, [], ◌∷◌, ◌++◌, length, take, map, get_or, slice_index, refl, ap, append_assoc, rules}
-use Rattle.std.proofs.lemmas.List.{take_more, map_more}
-use Rattle.hex.specs.Hex.{encode_with, encode_upper, upper_digits}
+use Rattle.std.proofs.Common.{◌≡◌, ℕ, ◌+◌, ◌<◌, List, [], ◌∷◌, ◌++◌, length, take, map, get_or, slice_index, append_assoc}
+use Rattle.std.proofs.lemmas.List.{map_more}
+use Rattle.hex.specs.Hex.{upper_digits}
 
 -- one digit more
 pub digits_more : (text : List ℕ) (ds : List ℕ) (i : ℕ) → i < length ds →
