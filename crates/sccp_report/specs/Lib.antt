@@ -5,3 +5,4 @@ pub mod MessageText
 pub mod Hops
 pub mod PlanFaults
 pub mod Verdicts
+pub mod Told

@@ -6,13 +6,15 @@
 //!
 //! `hops_text` gives a line for each hop of a route: the title, what was held prohibited, and what the relay did with it (Q.714 section 2).
 //! `plan_fault_text` says why a text is no plan, and where. `verdict_text` gives the verdict on a plan and the route that shows it, `accepted_text` the one line
-//! that a plan is accepted. These texts are exactly those of `specs/Hops`, `specs/PlanFaults` and `specs/Verdicts`.
+//! that a plan is accepted. These texts are exactly those of `specs/Hops`, `specs/PlanFaults` and `specs/Verdicts`. The text of a route's hops
+//! tells the hops (`text_tells_route`), and that of a point code the number (`text_tells_point_code`).
 #![tactic(auto)]
 
 mod address;
 mod fault;
 mod fields;
 mod hop;
+mod laws;
 mod mark;
 mod message;
 mod plan_fault;
@@ -22,6 +24,7 @@ mod values;
 mod verdict;
 
 pub use hop::hops_text;
+pub use laws::{text_tells_point_code, text_tells_route};
 pub use plan_fault::plan_fault_text;
 pub use report::message_text;
 pub use verdict::{accepted_text, verdict_text};
