@@ -58,7 +58,7 @@ blocked_means plan s marking cause [] h = absurd (h.cause_is)
 blocked_means plan s marking cause (m ∷ ms) h = record { held = all_held h.node s.ssn marking h.row.targets (m ∷ ms) h.closed; why = h.cause_is }
 
 -- the octets of what can be written
-octets_are : (m : Message) (sent : List ℕ) (o : Option JoinFault) → (if is_none o then Some (message_octets m) else None) ≡ Some sent → sent ≡ message_octets m
+pub octets_are : (m : Message) (sent : List ℕ) (o : Option JoinFault) → (if is_none o then Some (message_octets m) else None) ≡ Some sent → sent ≡ message_octets m
 octets_are m sent None e = let same : message_octets m ≡ sent = cc in sym same
 octets_are m sent (Some f) e = absurd (cc)
 

@@ -1,0 +1,4 @@
+pub mod Going
+pub mod Counters
+pub mod Turns
+pub mod Told

@@ -1,0 +1,31 @@
+use sccp_base::{List, Mark, Octets, PointCode};
+use sccp_message::{DecodeFault, Message};
+
+/// How a journey ends, at the last node of its path.
+#[derive(Debug, Drop)]
+pub enum End {
+    /// The message goes to its destination, at another point.
+    Ended {
+        pc: PointCode,
+        ssn: u8,
+        octets: Octets,
+    },
+    /// It is for a subsystem of the node.
+    Local {
+        ssn: u8,
+        message: Message,
+    },
+    /// It can't be delivered, for this return cause, with one mark for each closed target.
+    Returned {
+        cause: u8,
+        marks: List<Mark>,
+    },
+    /// It is of a connection-oriented type.
+    Connection(Message),
+    /// It is for SCCP management.
+    Management(Message),
+    /// The octets are no message.
+    Undecodable(DecodeFault),
+    /// Without a hop counter it would need a fifteenth translation.
+    Cut,
+}

@@ -1,0 +1,11 @@
+use sccp_base::{Octets, PointCode};
+
+/// A message that is to be routed, with its place among those of its batch: the node that it comes to, the point that it
+/// comes from, and its octets.
+#[derive(Debug, Drop)]
+pub struct Job {
+    pub index: u32,
+    pub entry: u8,
+    pub origin: PointCode,
+    pub octets: Octets,
+}

@@ -1,0 +1,25 @@
+//! The journey of a message from relay to relay (ITU-T Q.714 section 2), and the service message's way back (section 4.2).
+//!
+//! `journey` follows the octets that come to a node until they are delivered, leave the relays, or come back, and tells the
+//! nodes on the way. The crates above may rely on this: under an accepted plan a covered message with room, whose hop counter
+//! is above the plan's bound, passes at most that many relays, whatever they have marked, and comes with unchanged data to an
+//! allowed destination, or back with a cause that names a mark for each closed target.
+#![tactic(auto)]
+
+mod back;
+mod end;
+mod holds_marking;
+mod job;
+mod laws;
+mod served;
+mod travelled;
+mod travelling;
+
+pub use back::Back;
+pub use end::End;
+pub use holds_marking::HoldsMarking;
+pub use job::Job;
+pub use laws::covered_messages_go_well;
+pub use served::Served;
+pub use travelled::Journey;
+pub use travelling::journey;

@@ -1,0 +1,12 @@
+use crate::back::Back;
+use crate::end::End;
+use sccp_base::List;
+
+/// The nodes that a message comes to, in order, with its end at the last of them and, where it is returned, the service
+/// message.
+#[derive(Debug, Drop)]
+pub struct Journey {
+    pub path: List<u8>,
+    pub end: End,
+    pub back: Option<Back>,
+}

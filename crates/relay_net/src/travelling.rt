@@ -1,0 +1,276 @@
+ghost use Rattle.std.specs.Prelude.{◌≡◌, ◌<◌, ◌++◌, length, map, Some, Ok, IfOk};
+ghost use Rattle.plan_model.specs.declared.spot.Spot.{Spot};
+ghost use Rattle.plan_model.specs.Network.{node_of};
+ghost use Rattle.sccp_message.specs.declared.message.Message.{Message};
+ghost use Rattle.sccp_message.specs.Reading.{reading};
+ghost use Rattle.sccp_scrc.specs.Arriving.{arrival, point_of};
+ghost use Rattle.relay_net.specs.Journeys.{held_at, travel, most_arrivals, trip_of, end_at, end_of, service_in, last_node, back_by, back_of, journey};
+ghost use Rattle.relay_net.specs.Headline.{IsCoveredMessage, GoesWell, IsCutOff};
+ghost use Rattle.relay_net.specs.Relays.{RelaysWithin};
+
+use crate::back::Back;
+use crate::end::End;
+use crate::holds_marking::HoldsMarking;
+use crate::travelled::Journey;
+use plan_check::Accepted;
+use plan_model::Plan;
+use sccp_base::{List, Octets, OutOfMemory, PointCode};
+use sccp_message::{DecodeFault, Message, decode};
+use sccp_scrc::{Arrival, Service, Way, arrive};
+use std::alloc::Global;
+
+/// What becomes of the octets at a node, under the marking that it holds.
+fn stop<S: HoldsMarking>(
+    alloc: Global,
+    plan: &Plan,
+    states: &[S],
+    node: u8,
+    origin: PointCode,
+    octets: &[u8],
+) -> Result<Arrival, OutOfMemory>
+    requires node { node < length plan.now.nodes }
+    requires states { length states.now ≡ length plan.now.nodes }
+    ensures value { IfOk result (λ a. a ≡ arrival plan.now node (held_at (map S.held states.now) node) origin octets.now) }
+    ensures within { IfOk result (λ a. RelaysWithin plan.now a) }
+{
+    arrive(
+        alloc,
+        plan,
+        node,
+        states[usize::from(node)].marking(),
+        origin,
+        octets,
+    )
+}
+
+fn point_of(plan: &Plan, node: u8) -> PointCode
+    requires { node < length plan.now.nodes }
+    ensures { result ≡ point_of plan.now node }
+{
+    plan.nodes().as_slice()[usize::from(node)].pc
+}
+
+/// So many arrivals at most, after the nodes of the path; the last arrival, or none where the message is cut off.
+fn travel<S: HoldsMarking>(
+    alloc: Global,
+    plan: &Plan,
+    states: &[S],
+    left: u8,
+    node: u8,
+    origin: PointCode,
+    octets: &[u8],
+    path: &mut List<u8>,
+) -> Result<Option<Arrival>, OutOfMemory>
+    requires node { node < length plan.now.nodes }
+    requires states { length states.now ≡ length plan.now.nodes }
+    ensures last { IfOk result (λ last. last ≡ (travel plan.now (map S.held states.now) left node origin octets.now).last) }
+    ensures path { IfOk result (λ last. path.new ≡ path.old ++ (travel plan.now (map S.held states.now) left node origin octets.now).path) }
+{
+    if left == 0 {
+        return Ok(None);
+    }
+    path.push(node)?;
+    match stop(alloc, plan, states, node, origin, octets)? {
+        Arrival::Relayed { pc, octets } => {
+            let next = plan.relay_at(pc);
+            let from = point_of(plan, node);
+            travel(
+                alloc,
+                plan,
+                states,
+                left - 1,
+                next,
+                from,
+                octets.as_slice(),
+                path,
+            )
+        }
+        last => Ok(Some(last)),
+    }
+}
+
+/// How many arrivals the message has at most: one with a hop counter isn't relayed at its fifteenth (Q.713 section 3.18).
+fn most_arrivals_of(message: &Message) -> u8
+    ensures { result ≡ most_arrivals (Ok message.now) }
+{
+    match message {
+        Message::Xudt { .. }
+        | Message::Xudts { .. }
+        | Message::Ludt { .. }
+        | Message::Ludts { .. } => 15,
+        _ => 14,
+    }
+}
+
+fn most_arrivals(alloc: Global, octets: &[u8]) -> Result<u8, OutOfMemory>
+    ensures { IfOk result (λ most. most ≡ most_arrivals (reading octets.now)) }
+{
+    match decode(alloc, octets) {
+        Ok(message) => Ok(most_arrivals_of(&message)),
+        Err(DecodeFault::OutOfMemory) => Err(OutOfMemory),
+        Err(_) => Ok(14),
+    }
+}
+
+/// The nodes that octets come to, in order, and the last arrival, or none where the message is cut off.
+fn trip<S: HoldsMarking>(
+    alloc: Global,
+    plan: &Plan,
+    states: &[S],
+    entry: u8,
+    origin: PointCode,
+    octets: &[u8],
+) -> Result<(List<u8>, Option<Arrival>), OutOfMemory>
+    requires entry { entry < length plan.now.nodes }
+    requires states { length states.now ≡ length plan.now.nodes }
+    ensures path { IfOk result (λ t. t.0 ≡ (trip_of plan.now (map S.held states.now) entry origin octets.now).path) }
+    ensures last { IfOk result (λ t. t.1 ≡ (trip_of plan.now (map S.held states.now) entry origin octets.now).last) }
+{
+    let left = most_arrivals(alloc, octets)?;
+    let mut path = List::new(alloc);
+    let last = travel(alloc, plan, states, left, entry, origin, octets, &mut path)?;
+    Ok((path, last))
+}
+
+/// How a trip ends, and the service message.
+fn ended(last: Option<Arrival>) -> (End, Option<Service>)
+    ensures end { result.0 ≡ end_of last }
+    ensures service { result.1 ≡ service_in last }
+{
+    match last {
+        Some(arrival) => at_end(arrival),
+        None => (End::Cut, None),
+    }
+}
+
+fn at_end(arrival: Arrival) -> (End, Option<Service>)
+    ensures end { result.0 ≡ end_at arrival }
+    ensures service { result.1 ≡ service_in (Some arrival) }
+{
+    match arrival {
+        Arrival::Relayed { .. } => (End::Cut, None),
+        Arrival::Ended { pc, ssn, octets } => (End::Ended { pc, ssn, octets }, None),
+        Arrival::Local { ssn, message } => (End::Local { ssn, message }, None),
+        Arrival::Returned {
+            cause,
+            marks,
+            service,
+        } => (End::Returned { cause, marks }, service),
+        Arrival::Connection(message) => (End::Connection(message), None),
+        Arrival::Management(message) => (End::Management(message), None),
+        Arrival::Undecodable(fault) => (End::Undecodable(fault), None),
+    }
+}
+
+/// The service message on its way: one that goes by title arrives at the node that returns it, with that node as origin.
+fn back_by<S: HoldsMarking>(
+    alloc: Global,
+    plan: &Plan,
+    states: &[S],
+    node: u8,
+    octets: Octets,
+    way: Way,
+) -> Result<Back, OutOfMemory>
+    requires node { node < length plan.now.nodes }
+    requires states { length states.now ≡ length plan.now.nodes }
+    ensures { IfOk result (λ b. b ≡ back_by plan.now (map S.held states.now) node octets way) }
+{
+    if let Way::ByTitle = way {
+        let (path, last) = trip(
+            alloc,
+            plan,
+            states,
+            node,
+            point_of(plan, node),
+            octets.as_slice(),
+        )?;
+        let (end, _) = ended(last);
+        return Ok(Back {
+            octets,
+            way,
+            path,
+            end: Some(end),
+        });
+    }
+    Ok(Back {
+        octets,
+        way,
+        path: List::new(alloc),
+        end: None,
+    })
+}
+
+fn back<S: HoldsMarking>(
+    alloc: Global,
+    plan: &Plan,
+    states: &[S],
+    node: u8,
+    service: Option<Service>,
+) -> Result<Option<Back>, OutOfMemory>
+    requires node { node < length plan.now.nodes }
+    requires states { length states.now ≡ length plan.now.nodes }
+    ensures { IfOk result (λ b. b ≡ back_of plan.now (map S.held states.now) node service) }
+{
+    match service {
+        Some(service) => Ok(Some(back_by(alloc, plan, states, node, service.octets, service.way)?)),
+        None => Ok(None),
+    }
+}
+
+/// The last of some nodes.
+fn last_node(path: &[u8]) -> u8
+    ensures { result ≡ last_node 0 path.now }
+{
+    let mut last = 0;
+    for node in path {
+        last = *node;
+    }
+    last
+}
+
+/// The whole journey.
+fn whole<S: HoldsMarking>(
+    alloc: Global,
+    plan: &Plan,
+    states: &[S],
+    entry: u8,
+    origin: PointCode,
+    octets: &[u8],
+) -> Result<Journey, OutOfMemory>
+    requires entry { entry < length plan.now.nodes }
+    requires states { length states.now ≡ length plan.now.nodes }
+    ensures { IfOk result (λ j. j ≡ journey plan.now (map S.held states.now) entry origin octets.now) }
+{
+    let _nodes = plan.nodes();
+    let (path, last) = trip(alloc, plan, states, entry, origin, octets)?;
+    let node = last_node(path.as_slice());
+    let (end, service) = ended(last);
+    let back = back(alloc, plan, states, node, service)?;
+    Ok(Journey { path, end, back })
+}
+
+/// The journey of octets that come from the point `origin` to the node at the place `entry` of an accepted plan, where each
+/// node holds the marking of its state (Q.714 section 2).
+///
+/// What is relayed arrives at the relay with its point code; any other arrival is the end. A message without a hop counter
+/// is cut off where its fourteenth arrival is relayed.
+pub fn journey<S: HoldsMarking>(
+    alloc: Global,
+    accepted: &Accepted,
+    states: &[S],
+    entry: u8,
+    origin: PointCode,
+    octets: &[u8],
+) -> Result<Journey, OutOfMemory>
+    requires entry { entry < length accepted.now.plan.nodes }
+    requires states { length states.now ≡ length accepted.now.plan.nodes }
+    ensures same { IfOk result (λ j. j ≡ journey accepted.now.plan (map S.held states.now) entry origin octets.now) }
+    // A covered message with room, whose hop counter is above the bound, goes well whatever the nodes have marked.
+    ensures goes_well { (m : Message) (s : Spot) → IsCoveredMessage accepted.now.plan accepted.now.bound entry octets.now m s →
+        IfOk result (λ j. GoesWell accepted.now.plan (map S.held states.now) accepted.now.bound m s j.path j.end) }
+    // Only a message without a hop counter is cut off, after fourteen nodes.
+    ensures cut { IfOk result (λ j. j.end ≡ End.Cut → IsCutOff octets.now j.path) }
+{
+    let plan = accepted.plan();
+    whole(alloc, plan, states, entry, origin, octets)
+}
