@@ -4,3 +4,7 @@ pub mod Coupling
 pub mod Runs
 pub mod Invariant
 pub mod Laws
+pub mod Sending
+pub mod Marked
+pub mod Ways
+pub mod Exchanges

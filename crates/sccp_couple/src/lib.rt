@@ -6,10 +6,21 @@
 //! data message that is sent is one of exactly one pair; and none is made up.
 #![tactic(auto)]
 
+mod answering;
+mod exchange;
+mod finding;
 mod laws;
+mod making;
+mod params;
+mod references;
+mod releasing;
+mod requesting;
 mod section;
+mod sections;
+mod sending;
 mod way;
 
+pub use exchange::Exchange;
 pub use laws::{
     all_is_sent, each_goes_to_one_section, each_is_of_one_pair, none_is_made_up, steps_keep,
 };

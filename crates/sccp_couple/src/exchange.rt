@@ -1,0 +1,167 @@
+ghost use Rattle.std.specs.Prelude.{◌≡◌, ◌<◌, [], map, length, IfOk, OnOk, OnErr};
+ghost use Rattle.sccp_couple.specs.Coupling.{coupled};
+ghost use Rattle.sccp_couple.specs.Invariant.{IsCoupling};
+ghost use Rattle.sccp_couple.specs.Sections.{known, is_established};
+ghost use Rattle.sccp_couple.specs.Sending.{written_sent, HasShortParts};
+ghost use Rattle.sccp_couple.specs.Ways.{event_of};
+
+use crate::answering::{on_complete, on_confirm, on_data, on_refusal};
+use crate::releasing::on_release;
+use crate::requesting::on_request;
+use crate::section::Section;
+use crate::sections::Sections;
+use plan_model::Plan;
+use sccp_base::{List, Marking, OutOfMemory, PointCode, Reference};
+use sccp_manage::Sent;
+use sccp_message::Message;
+use std::alloc::Global;
+use std::marker::Model;
+
+/// The coupling of connections at one node of a plan.
+#[derive(Drop)]
+pub struct Exchange {
+    alloc: Global,
+    node: u8,
+    sections: Sections,
+}
+
+impl Model for Exchange {
+    ghost use Rattle.sccp_couple.specs.Exchanges.{Exchanging};
+    ghost use Rattle.sccp_couple.specs.Invariant.{IsCoupling};
+
+    ghost Value = { Exchanging };
+
+    ghost view = { λ e. record { node = e.node; sections = e.sections } };
+
+    ghost invariant = { λ e. IsCoupling e.sections };
+}
+
+impl Exchange {
+    /// The coupling of a node, which is given by its place in the plan, without sections. It takes no memory.
+    pub fn new(alloc: Global, node: u8) -> Exchange
+        ensures node { result.node ≡ node }
+        ensures sections { result.sections ≡ [] }
+    {
+        Exchange {
+            alloc,
+            node,
+            sections: Sections::new(alloc),
+        }
+    }
+
+    /// What the node does with a connection-oriented message that comes from a point: its sections afterwards, and what is
+    /// sent, in this order. A connectionless message changes nothing and is not answered.
+    ///
+    /// An error is want of memory, and leaves the sections as they were.
+    pub fn on(
+        &mut self,
+        plan: &Plan,
+        marking: &Marking,
+        origin: PointCode,
+        message: &Message,
+    ) -> Result<List<Sent>, OutOfMemory>
+        requires node { self.old.node < length plan.now.nodes }
+        requires short { HasShortParts message.now }
+        ensures node { self.new.node ≡ self.old.node }
+        ensures sections { OnOk result (self.new.sections ≡ (coupled self.old.sections (event_of plan.now self.old.node marking.now origin message.now)).sections) }
+        ensures sent { IfOk result (λ sent. sent ≡ map written_sent (coupled self.old.sections (event_of plan.now self.old.node marking.now origin message.now)).sent) }
+        ensures err { OnErr result (self.new ≡ self.old) }
+    {
+        let alloc = self.alloc;
+        match message {
+            Message::Cr {
+                slr,
+                class,
+                called,
+                params,
+            } => on_request(
+                alloc,
+                plan,
+                self.node,
+                marking,
+                &mut self.sections,
+                origin,
+                *slr,
+                *class,
+                called,
+                params,
+            ),
+            Message::Cc {
+                dlr,
+                slr,
+                class,
+                params,
+            } => {
+                on_confirm(
+                    alloc,
+                    &mut self.sections,
+                    origin,
+                    *dlr,
+                    *slr,
+                    *class,
+                    params,
+                )
+            }
+            Message::Cref { dlr, cause, params } => {
+                on_refusal(alloc, &mut self.sections, origin, *dlr, *cause, params)
+            }
+            Message::Rlsd {
+                dlr,
+                slr,
+                cause,
+                params,
+            } => {
+                on_release(
+                    alloc,
+                    &mut self.sections,
+                    origin,
+                    *dlr,
+                    *slr,
+                    *cause,
+                    params,
+                )
+            }
+            Message::Rlc { dlr, slr } => {
+                on_complete(&mut self.sections, origin, *dlr, *slr);
+                Ok(List::new(alloc))
+            }
+            Message::Dt1 { dlr, more, payload } => {
+                on_data(alloc, &self.sections, origin, *dlr, *more, payload)
+            }
+            _ => Ok(List::new(alloc)),
+        }
+    }
+
+    /// The sections, in the order in which they were made, of a pair the near one first.
+    pub fn sections(&self) -> &List<Section>
+        ensures value { result.now ≡ self.now.sections }
+        ensures kept { IsCoupling self.now.sections }
+    {
+        self.sections.list()
+    }
+
+    /// The section that a message from this point with this destination local reference is known to.
+    pub fn known(&self, origin: PointCode, dlr: Reference) -> Option<Section>
+        ensures { result ≡ known self.now.sections origin dlr }
+    {
+        self.sections.known(origin, dlr)
+    }
+
+    /// Whether the section and its other one both have a remote.
+    pub fn is_established(&self, section: &Section) -> bool
+        ensures { result ≡ is_established self.now.sections section.now }
+    {
+        self.sections.is_established(section)
+    }
+
+    /// The same coupling in memory of its own.
+    pub fn try_clone(&self) -> Result<Exchange, OutOfMemory>
+        ensures { IfOk result (λ copy. copy ≡ self.now) }
+    {
+        Ok(Exchange {
+            alloc: self.alloc,
+            node: self.node,
+            sections: self.sections.try_clone()?,
+        })
+    }
+}

@@ -1,0 +1,84 @@
+//! Connection request (CR).
+ghost use Rattle.std.specs.Prelude.{◌≡◌, ◌≤◌, [], map, length, true, IfOk, OnOk, OnErr, ◌<◌};
+ghost use Rattle.sccp_address.specs.Written.{written};
+ghost use Rattle.sccp_layout.specs.Joining.{are_short};
+ghost use Rattle.sccp_message.specs.declared.message.Message.{Message};
+ghost use Rattle.sccp_couple.specs.declared.way.Way.TheVariants.{Onward};
+ghost use Rattle.sccp_couple.specs.Coupling.{request_goes, on_request, to_one};
+ghost use Rattle.sccp_couple.specs.Sending.{written_sent};
+ghost use Rattle.sccp_couple.specs.Ways.{request_way};
+
+use crate::references::new_references;
+use crate::sections::Sections;
+use crate::sending::{refusal, to_one};
+use crate::way::{Way, request_way};
+use plan_model::Plan;
+use sccp_address::Address;
+use sccp_base::{List, Marking, OutOfMemory, PointCode, Reference};
+use sccp_layout::Param;
+use sccp_manage::Sent;
+use sccp_message::Message;
+use std::alloc::Global;
+
+/// A request goes on: a pair is made, or the request is refused where there are too many sections.
+#[tactic(auto, using(crate::proofs::Fits::request_fits))]
+fn go_on(
+    alloc: Global,
+    sections: &mut Sections,
+    origin: PointCode,
+    slr: Reference,
+    class: u8,
+    to: PointCode,
+    called: Address,
+    params: List<Param>,
+) -> Result<List<Sent>, OutOfMemory>
+    requires called { length (written called) ≤ 21 }
+    requires params { are_short params ≡ true }
+    ensures state { OnOk result (sections.new ≡ (request_goes sections.old origin slr class (Onward to called params)).sections) }
+    ensures sent { IfOk result (λ sent. sent ≡ map written_sent (request_goes sections.old origin slr class (Onward to called params)).sent) }
+    ensures err { OnErr result (sections.new ≡ sections.old) }
+{
+    if 4094 < sections.list().as_slice().len() {
+        return refusal(alloc, origin, slr, 7);
+    }
+    let (near, far) = new_references(sections.list().as_slice());
+    let request = Message::Cr {
+        slr: far,
+        class,
+        called,
+        params,
+    };
+    let sent = to_one(alloc, to, &request)?;
+    sections.couple(near, far, origin, slr, to)?;
+    Ok(sent)
+}
+
+/// Connection request (CR). One that a near section shows to have come before is not answered.
+pub(crate) fn on_request(
+    alloc: Global,
+    plan: &Plan,
+    node: u8,
+    marking: &Marking,
+    sections: &mut Sections,
+    origin: PointCode,
+    slr: Reference,
+    class: u8,
+    called: &Address,
+    params: &List<Param>,
+) -> Result<List<Sent>, OutOfMemory>
+    requires node { node < length plan.now.nodes }
+    requires short { are_short params.now ≡ true }
+    ensures state { OnOk result (sections.new ≡ (on_request sections.old origin slr class (request_way plan.now node marking.now class called.now params.now)).sections) }
+    ensures sent { IfOk result (λ sent. sent ≡ map written_sent (on_request sections.old origin slr class (request_way plan.now node marking.now class called.now params.now)).sent) }
+    ensures err { OnErr result (sections.new ≡ sections.old) }
+{
+    if sections.has_near(origin, slr) {
+        return Ok(List::new(alloc));
+    }
+    match request_way(alloc, plan, node, marking, class, called, params)? {
+        Way::Refused(cause) => refusal(alloc, origin, slr, cause),
+        Way::Onward { to, called, params } => go_on(
+            alloc, sections, origin, slr, class, to, called, params,
+        ),
+    }
+}

@@ -1,0 +1,200 @@
+//! Messages as octets on their way to a point.
+ghost use Rattle.std.specs.Prelude.{◌≡◌, ◌≤◌, ◌++◌, ℕ, [], map, length, true, IfOk, Some};
+ghost use Rattle.sccp_layout.specs.Joining.{are_short};
+ghost use Rattle.sccp_message.specs.declared.message.Message.{Message};
+ghost use Rattle.sccp_message.specs.Written.{message_octets, Writable};
+ghost use Rattle.sccp_couple.specs.Coupling.{to_one, to_remote, toward};
+ghost use Rattle.sccp_couple.specs.Sending.{written_sent};
+
+use crate::params::copied;
+use crate::section::Section;
+use sccp_base::{List, Octets, OutOfMemory, PointCode, Reference};
+use sccp_layout::Param;
+use sccp_manage::Sent;
+use sccp_message::{EncodeFault, Message, encode};
+use std::alloc::Global;
+
+/// The octets of a message that can be written.
+fn octets_of(alloc: Global, message: &Message) -> Result<Octets, OutOfMemory>
+    requires { Writable message.now }
+    ensures { IfOk result (λ octets. octets ≡ message_octets message.now) }
+{
+    match encode(alloc, message) {
+        Ok(octets) => Ok(octets),
+        Err(EncodeFault::OutOfMemory) => Err(OutOfMemory),
+        Err(_) => unreachable!(),
+    }
+}
+
+/// One message to one point.
+pub(crate) fn to_one(
+    alloc: Global,
+    to: PointCode,
+    message: &Message,
+) -> Result<List<Sent>, OutOfMemory>
+    requires { Writable message.now }
+    ensures { IfOk result (λ sent. sent ≡ map written_sent (to_one to message.now)) }
+{
+    let octets = octets_of(alloc, message)?;
+    let mut sent = List::new(alloc);
+    sent.push(Sent { to, octets })?;
+    Ok(sent)
+}
+
+/// Two messages, each to a point.
+pub(crate) fn to_two(
+    alloc: Global,
+    to: PointCode,
+    message: &Message,
+    then_to: PointCode,
+    then_message: &Message,
+) -> Result<List<Sent>, OutOfMemory>
+    requires first { Writable message.now }
+    requires second { Writable then_message.now }
+    ensures { IfOk result (λ sent. sent ≡ map written_sent (to_one to message.now ++ to_one then_to then_message.now)) }
+{
+    let mut sent = to_one(alloc, to, message)?;
+    let octets = octets_of(alloc, then_message)?;
+    sent.push(Sent {
+        to: then_to,
+        octets,
+    })?;
+    Ok(sent)
+}
+
+/// A protocol data unit error (ERR).
+pub(crate) fn error(
+    alloc: Global,
+    to: PointCode,
+    dlr: Reference,
+    cause: u8,
+) -> Result<List<Sent>, OutOfMemory>
+    ensures { IfOk result (λ sent. sent ≡ map written_sent (to_one to (Message.Err dlr cause))) }
+{
+    to_one(alloc, to, &Message::Err { dlr, cause })
+}
+
+/// A refusal (CREF) without parameters.
+pub(crate) fn refusal(
+    alloc: Global,
+    to: PointCode,
+    dlr: Reference,
+    cause: u8,
+) -> Result<List<Sent>, OutOfMemory>
+    ensures { IfOk result (λ sent. sent ≡ map written_sent (to_one to (Message.Cref dlr cause []))) }
+{
+    let params = List::new(alloc);
+    to_one(alloc, to, &Message::Cref { dlr, cause, params })
+}
+
+/// A confirmation (CC).
+#[tactic(auto, using(crate::proofs::Fits::confirm_fits))]
+fn confirmation(
+    alloc: Global,
+    to: PointCode,
+    dlr: Reference,
+    slr: Reference,
+    class: u8,
+    params: &List<Param>,
+) -> Result<List<Sent>, OutOfMemory>
+    requires { are_short params.now ≡ true }
+    ensures { IfOk result (λ sent. sent ≡ map written_sent (to_one to (Message.Cc dlr slr class params.now))) }
+{
+    let params = copied(alloc, params)?;
+    let message = Message::Cc {
+        dlr,
+        slr,
+        class,
+        params,
+    };
+    to_one(alloc, to, &message)
+}
+
+/// A confirmation toward a section, where there is one with a remote.
+pub(crate) fn confirm_toward(
+    alloc: Global,
+    section: Option<Section>,
+    class: u8,
+    params: &List<Param>,
+) -> Result<List<Sent>, OutOfMemory>
+    requires { are_short params.now ≡ true }
+    ensures { IfOk result (λ sent. sent ≡ map written_sent (toward section (λ remote own. Message.Cc remote own class params.now))) }
+{
+    match section {
+        None => Ok(List::new(alloc)),
+        Some(section) => match section.remote {
+            None => Ok(List::new(alloc)),
+            Some(remote) => confirmation(alloc, section.point, remote, section.own, class, params),
+        },
+    }
+}
+
+/// A refusal (CREF) with parameters.
+#[tactic(auto, using(crate::proofs::Fits::refusal_fits))]
+fn refusal_with(
+    alloc: Global,
+    to: PointCode,
+    dlr: Reference,
+    cause: u8,
+    params: &List<Param>,
+) -> Result<List<Sent>, OutOfMemory>
+    requires { are_short params.now ≡ true }
+    ensures { IfOk result (λ sent. sent ≡ map written_sent (to_one to (Message.Cref dlr cause params.now))) }
+{
+    let params = copied(alloc, params)?;
+    to_one(alloc, to, &Message::Cref { dlr, cause, params })
+}
+
+/// A refusal toward a section, where there is one with a remote.
+pub(crate) fn refuse_toward(
+    alloc: Global,
+    section: Option<Section>,
+    cause: u8,
+    params: &List<Param>,
+) -> Result<List<Sent>, OutOfMemory>
+    requires { are_short params.now ≡ true }
+    ensures { IfOk result (λ sent. sent ≡ map written_sent (toward section (λ remote own. Message.Cref remote cause params.now))) }
+{
+    match section {
+        None => Ok(List::new(alloc)),
+        Some(section) => match section.remote {
+            None => Ok(List::new(alloc)),
+            Some(remote) => refusal_with(alloc, section.point, remote, cause, params),
+        },
+    }
+}
+
+/// Data (DT1).
+#[tactic(auto, using(crate::proofs::Fits::data_fits))]
+fn data(
+    alloc: Global,
+    to: PointCode,
+    dlr: Reference,
+    more: bool,
+    payload: &Octets,
+) -> Result<List<Sent>, OutOfMemory>
+    requires { length payload.now ≤ 255 }
+    ensures { IfOk result (λ sent. sent ≡ map written_sent (to_one to (Message.Dt1 dlr more payload.now))) }
+{
+    let payload = payload.try_clone(alloc)?;
+    to_one(alloc, to, &Message::Dt1 { dlr, more, payload })
+}
+
+/// Data toward a section, where there is one with a remote.
+pub(crate) fn data_toward(
+    alloc: Global,
+    section: Option<Section>,
+    more: bool,
+    payload: &Octets,
+) -> Result<List<Sent>, OutOfMemory>
+    requires { length payload.now ≤ 255 }
+    ensures { IfOk result (λ sent. sent ≡ map written_sent (toward section (λ remote own. Message.Dt1 remote more payload.now))) }
+{
+    match section {
+        None => Ok(List::new(alloc)),
+        Some(section) => match section.remote {
+            None => Ok(List::new(alloc)),
+            Some(remote) => data(alloc, section.point, remote, more, payload),
+        },
+    }
+}
