@@ -1,11 +1,12 @@
-mod CauseLemmas
+mod Causes
 mod LimitLemmas
-mod LineLemmas
-mod PlanEnds
+mod PlanLemmas
 mod ReadingLemmas
 mod RoseLemmas
+mod RouteLemmas
+mod RunLemmas
+mod ShowHexLemmas
 mod ShowLemmas
-mod VerdictEnds
 mod VerifyLemmas
 mod WorkLemmas
 mod WritingLemmas

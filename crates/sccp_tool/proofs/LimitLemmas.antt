@@ -1,17 +1,17 @@
 -- A file that a command needs whole.
-use Rattle.std.proofs.Common.{◌≡◌, ◌<◌, ◌≤◌, ℕ, List, length, true, false, cond, ltb, Result, IsTrue, sym, subst}
-use Rattle.std.proofs.lemmas.Bool.{le-ltb}
+use Rattle.std.proofs.Common.{◌≡◌, ◌<◌, ◌≤◌, ℕ, List, length, Option, Some, Bool, true, false, cond, ltb, Result, IsTrue, refl, sym, subst, arith}
+use Rattle.std.proofs.lemmas.Bool.{le-ltb, ltb-true, ltb-false}
 use Rattle.std.proofs.lemmas.Bool.Decides.{Decides-ltb}
-use Rattle.sccp_io.specs.Files.{Reads, lacks}
+use Rattle.sccp_io.specs.Files.{Contents, Reads, lacks}
 use Rattle.sccp_tool.specs.Ending.{Works}
-use Rattle.sccp_tool.specs.Limit.{within_limit}
+use Rattle.sccp_tool.specs.Limit.{within_limit, HasFile, HasLongFile}
 use Rattle.sccp_tool.specs.Moment.{Moment}
 use Rattle.sccp_tool.specs.Texts.{too_long}
-use Rattle.sccp_tool.specs.Work.{Work, answered}
+use Rattle.sccp_tool.specs.Work.{Work, answered, Ends}
 use Rattle.sccp_tool.specs.declared.status.Status.{Status}
 use Rattle.sccp_tool.specs.declared.status.Status.TheVariants.{TooLong}
 use Rattle.sccp_tool.specs.declared.stop.Stop.{Stop}
-use Rattle.sccp_tool.proofs.WorkLemmas.{Moved, Works-read}
+use Rattle.sccp_tool.proofs.WorkLemmas.{Moved, Works-read, same_octets}
 
 -- what follows the reading
 abbrev pub file_or_answer : (List ℕ → Work) → List ℕ → Work
@@ -32,3 +32,26 @@ Works-within name next octets result b m a p spared reads few w =
     let e : ltb 1048576 (length octets) ≡ false = le-ltb 1048576 (length octets) few in
     Works-read name (file_or_answer next) octets result b m a p spared reads
     (subst (λ v. Works (cond v (answered (TooLong, too_long)) (next octets)) result m a) (sym e) w)
+
+-- ---- how a command over such a file ends
+
+-- the file is too long, or the command goes on with its octets
+pub data FileEnds (contents : Option Contents) (name : List ℕ) (on : List ℕ → Status → Type 0) : Status → Type 0 where
+  long : HasLongFile contents name → FileEnds contents name on TooLong
+  within : {s : Status} → HasFile contents name (λ octets. on octets s) → FileEnds contents name on s
+
+pub Ends-within_limit : (on : List ℕ → Status → Type 0) (contents : Option Contents) (name : List ℕ) (next : List ℕ → Work) (s : Status) (text : List ℕ)
+    → ((octets : List ℕ) → Ends contents (next octets) s text → on octets s) → Ends contents (within_limit name next) s text → FileEnds contents name on s
+Ends-within_limit on contents name next s text goes h = by (ltb 1048576 (length h.0)) refl h.2 where
+  by : (v : Bool) → ltb 1048576 (length h.0) ≡ v → Ends contents (cond v (answered (TooLong, too_long)) (next h.0)) s text → FileEnds contents name on s
+  by true e k = subst (FileEnds contents name on) (sym k.2.0) (long (h.0, h.1, ltb-true 1048576 (length h.0) e))
+  by false e k = within (h.0, h.1, ltb-false 1048576 (length h.0) e, goes h.0 k)
+
+-- what holds of the octets of a file holds of the same octets that another finds there
+pub at_file : (c : Contents) (name : List ℕ) (P Q : List ℕ → Type 0) → HasFile (Some c) name P → (has : HasFile (Some c) name Q) → P has.0
+at_file c name P Q h has = subst P (same_octets (c name) h.0 has.0 h.1 has.1) h.3
+
+pub not_long : (c : Contents) (name : List ℕ) (P : List ℕ → Type 0) → HasFile (Some c) name P → HasLongFile (Some c) name → ⊥
+not_long c name P h has =
+    let few : length has.0 ≤ 1048576 = subst (λ o. length o ≤ 1048576) (same_octets (c name) h.0 has.0 h.1 has.1) h.2 in
+    absurd (omega (arith, few, has.2))

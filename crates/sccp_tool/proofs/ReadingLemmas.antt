@@ -6,8 +6,9 @@ use Rattle.sccp_io.specs.declared.fault.IoFault.{IoFault}
 use Rattle.sccp_io.specs.declared.fault.IoFault.TheVariants.{Failed, OutOfMemory}
 use Rattle.sccp_io.specs.Files.{Contents, Reads, lacks, whole}
 use Rattle.sccp_tool.specs.Reading.{reading_stop}
+use Rattle.sccp_tool.specs.declared.status.Status.{Status}
 use Rattle.sccp_tool.specs.declared.stop.Stop.{Stop}
-use Rattle.sccp_tool.specs.declared.stop.Stop.TheVariants.{Read, Write}
+use Rattle.sccp_tool.specs.declared.stop.Stop.TheVariants.{Answered, Read, Write}
 
 pub prepend_known-nil : (known : Option (List ℕ)) → prepend_known [] known ≡ known
 prepend_known-nil None = refl
@@ -67,3 +68,7 @@ reading_stop-Read OutOfMemory stop e h = cc
 pub reading_stop-Write : (fault : IoFault) (stop : Stop) → stop ≡ reading_stop fault → stop ≡ Write → ⊥
 reading_stop-Write Failed stop e h = cc
 reading_stop-Write OutOfMemory stop e h = cc
+
+pub reading_stop-Answered : (fault : IoFault) (stop : Stop) (status : Status) → stop ≡ reading_stop fault → stop ≡ Answered status → ⊥
+reading_stop-Answered Failed stop status e h = cc
+reading_stop-Answered OutOfMemory stop status e h = cc

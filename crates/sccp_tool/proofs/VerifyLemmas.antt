@@ -1,29 +1,130 @@
--- The verdict on a plan is printed.
-use Rattle.std.proofs.Common.{◌≡◌, List, ℕ, Result, IfOk, subst}
-use Rattle.sccp_report.specs.Verdicts.{verdict_text}
+-- What the verifying of a plan ends with.
+use Rattle.std.proofs.Common.{◌≡◌, ◌⊎◌, ℕ, List, ◌++◌, Option, Some, Result, IfOk, sym, ◌∙◌, ap, subst, append-nil, inl, inr}
+use Rattle.std.specs.Io.KnownBytes.{append_known}
+use Rattle.plan_model.proofs.SafeWays.{safe_not_bad}
 use Rattle.plan_model.specs.Network.{Network}
 use Rattle.plan_verify.specs.Lawful.{IsLawful}
+use Rattle.plan_verify.specs.Witnesses.{IsWitness}
 use Rattle.plan_verify.specs.declared.verdict.Verdict.{Verdict}
 use Rattle.plan_verify.specs.declared.verdict.Verdict.TheVariants as verdicts
+use Rattle.plan_verify.specs.declared.witness.Witness.{Witness}
+use Rattle.sccp_io.specs.Files.{Contents}
+use Rattle.sccp_report.specs.Verdicts.{verdict_text}
 use Rattle.sccp_tool.specs.Ending.{IsCut, Works}
 use Rattle.sccp_tool.specs.Moment.{Moment}
-use Rattle.sccp_tool.specs.Verify.{status_of}
-use Rattle.sccp_tool.specs.Work.{answered}
+use Rattle.sccp_tool.specs.Plans.{HasPlan}
+use Rattle.sccp_tool.specs.Task.{Verify}
+use Rattle.sccp_tool.specs.Verify.{status_of, verify_work, IsSafe, IsBad, IsWide, IsOnVerdict, VerifyCause, VerifySure, VerifyTells}
+use Rattle.sccp_tool.specs.Work.{Work, judge, answered, IsJudged, Ends}
 use Rattle.sccp_tool.specs.Writing.{Writes}
 use Rattle.sccp_tool.specs.declared.status.Status.{Status}
+use Rattle.sccp_tool.specs.declared.status.Status.TheVariants.{Done, Refused, BadPlan, TooWide, TooLong}
 use Rattle.sccp_tool.specs.declared.stop.Stop.{Stop}
-use Rattle.sccp_tool.proofs.VerdictEnds.{judged_work}
+use Rattle.sccp_tool.proofs.Causes.{Causes}
+use Rattle.sccp_tool.proofs.PlanLemmas.{PlanEnds, long, bad, good, Ends-with_plan, if_long, if_bad, at_plan}
 use Rattle.sccp_tool.proofs.WorkLemmas.{Works-answered, Works-judge}
+
+abbrev pub judged_work : Network → Work
+judged_work plan = judge plan (λ verdict. answered (status_of verdict, verdict_text plan verdict))
+
+-- ---- the verdict on a plan is printed
 
 not_cut : (v : Verdict) → IsCut (status_of v) → ⊥
 not_cut (verdicts.Accepted accepted) cut = cut
 not_cut (verdicts.Refused plan witness) cut = cut
 not_cut (verdicts.TooWide plan) cut = cut
 
-pub Works-verdict : (plan : Network) (verdict : Verdict) (status : Status) (text : List ℕ) (result : Result Status Stop) (b a : Moment) → IsLawful plan verdict → status ≡ status_of verdict → text ≡ verdict_text plan verdict
+pub Works-verdict : (plan : Network) (verdict : Verdict) (status : Status) (text : List ℕ) (result : Result Status Stop) (b a : Moment) → IsJudged plan verdict → status ≡ status_of verdict → text ≡ verdict_text plan verdict
     → Writes text result b.taken a.taken b.write_faults a.write_faults → IfOk result (λ s. s ≡ status) → a.contents ≡ b.contents → a.sound ≡ b.sound → a.read_faults ≡ b.read_faults → Works (judged_work plan) result b a
-Works-verdict plan verdict status text result b a lawful of spelt writes is contents sound read_faults =
+Works-verdict plan verdict status text result b a judged of spelt writes is contents sound read_faults =
     let whole = subst (λ t. Writes t result b.taken a.taken b.write_faults a.write_faults) spelt writes in
     let answer = subst (λ t. IfOk result (λ s. s ≡ t)) of is in
-    Works-judge plan (λ v. answered (status_of v, verdict_text plan v)) verdict result b a lawful
+    Works-judge plan (λ v. answered (status_of v, verdict_text plan v)) verdict result b a judged
     (Works-answered (status_of verdict, verdict_text plan verdict) result b a (not_cut verdict) whole answer contents sound read_faults)
+
+-- ---- how the command ends
+
+-- a lawful verdict gives the answer and the text
+record Judged (text : List ℕ) (plan : Network) (s : Status) : Type 0 where
+  pub verdict : Verdict
+  pub lawful : IsLawful plan verdict
+  pub status : s ≡ status_of verdict
+  pub whole : text ≡ verdict_text plan verdict
+
+Ends-judged : (contents : Option Contents) (plan : Network) (s : Status) (text : List ℕ) → Ends contents (judged_work plan) s text → Judged text plan s
+Ends-judged contents plan s text h = record {
+  verdict = h.0;
+  lawful = h.1.1;
+  status = h.2.2.0;
+  whole = h.2.1 ∙ ap (λ rest. verdict_text plan h.0 ++ rest) h.2.2.1 ∙ append-nil (verdict_text plan h.0);
+}
+
+plan_ends : (contents : Option Contents) (name : List ℕ) (s : Status) (text : List ℕ) → Ends contents (verify_work name) s text → PlanEnds contents name (Judged text) s
+plan_ends contents name s text h = Ends-with_plan (Judged text) contents name judged_work s text (λ plan e. Ends-judged contents plan s text e) h
+
+-- ---- what each answer says of the plan
+
+cause_of : (contents : Option Contents) (name : List ℕ) (plan : Network) (v : Verdict) → ((P : Network → Type 0) → P plan → HasPlan contents name P) → IsLawful plan v → VerifyCause contents name (status_of v)
+cause_of contents name plan (verdicts.Accepted accepted) here lawful = here IsSafe (accepted.bound, lawful.0)
+cause_of contents name plan (verdicts.Refused same witness) here lawful = here IsBad (witness, lawful)
+cause_of contents name plan (verdicts.TooWide same) here lawful = here IsWide lawful
+
+only : (contents : Option Contents) (name : List ℕ) (s : Status) (text : List ℕ) → PlanEnds contents name (Judged text) s → VerifyCause contents name s
+only contents name TooLong text (long h) = h
+only contents name BadPlan text (bad h) = h
+only contents name s text (good h) =
+    subst (VerifyCause contents name) (sym h.3.2.status)
+    (cause_of contents name h.3.0 h.3.2.verdict (λ P p. (h.0, h.1, h.2, (h.3.0, h.3.1, p))) h.3.2.lawful)
+
+-- ---- what each answer follows from
+
+-- no safe plan has a bad route
+safe_or_bad : (plan : Network) → IsSafe plan → (w : Witness) → IsWitness plan w → ⊥
+safe_or_bad plan safe w is = safe_not_bad plan safe.0 w.cover w.spot w.markings w.hops w.kind safe.1.few safe.1.safe is.bad
+
+done_if_safe : (plan : Network) (v : Verdict) (s : Status) → IsLawful plan v → s ≡ status_of v → IsSafe plan → (IsWide plan → ⊥) → s ≡ Done
+done_if_safe plan (verdicts.Accepted accepted) s lawful e safe narrow = e
+done_if_safe plan (verdicts.Refused same witness) s lawful e safe narrow = absurd (safe_or_bad plan safe witness lawful)
+done_if_safe plan (verdicts.TooWide same) s lawful e safe narrow = absurd (narrow lawful)
+
+refused_if_bad : (plan : Network) (v : Verdict) (s : Status) → IsLawful plan v → s ≡ status_of v → IsBad plan → (s ≡ Refused) ⊎ (s ≡ TooWide)
+refused_if_bad plan (verdicts.Accepted accepted) s lawful e is = absurd (safe_or_bad plan (accepted.bound, lawful.0) is.0 is.1)
+refused_if_bad plan (verdicts.Refused same witness) s lawful e is = inl e
+refused_if_bad plan (verdicts.TooWide same) s lawful e is = inr e
+
+always : (c : Contents) (name : List ℕ) (t s : Status) (text : List ℕ) → VerifySure (Some c) name t → PlanEnds (Some c) name (Judged text) s → s ≡ t
+always c name Done s text has ends =
+    let j = at_plan c name (Judged text) (λ plan. IsSafe plan × (IsWide plan → ⊥)) s ends has in
+    done_if_safe has.3.0 j.verdict s j.lawful j.status has.3.2.0 has.3.2.1
+always c name BadPlan s text has ends = if_bad c name (Judged text) s ends has
+always c name TooLong s text has ends = if_long c name (Judged text) s ends has
+always c name t s text has ends = absurd has
+
+sure : (contents : Option Contents) (name : List ℕ) (t : Status) → (IsOnVerdict t → ⊥) → VerifyCause contents name t → VerifySure contents name t
+sure contents name Done other cause = absurd (other tt)
+sure contents name Refused other cause = absurd (other tt)
+sure contents name TooWide other cause = absurd (other tt)
+sure contents name t other cause = cause
+
+refused : (c : Contents) (name : List ℕ) (s : Status) (text : List ℕ) → HasPlan (Some c) name IsBad → PlanEnds (Some c) name (Judged text) s → (s ≡ Refused) ⊎ (s ≡ TooWide)
+refused c name s text has ends =
+    let j = at_plan c name (Judged text) IsBad s ends has in
+    refused_if_bad has.3.0 j.verdict s j.lawful j.status has.3.2
+
+-- ---- the text tells the verdict
+
+tells : (contents : Option Contents) (name : List ℕ) (s : Status) (text : List ℕ) (taken taken' : Option (List ℕ)) → taken' ≡ append_known taken text → PlanEnds contents name (Judged text) s → VerifyTells contents name s taken taken'
+tells contents name TooLong text taken taken' is (long h) = λ given. absurd given
+tells contents name BadPlan text taken taken' is (bad h) = λ given. absurd given
+tells contents name s text taken taken' is (good h) = λ given.
+    (h.0, h.1, h.2, (h.3.0, h.3.1, record { verdict = h.3.2.verdict; lawful = h.3.2.lawful; status = h.3.2.status; text = is ∙ ap (λ t. append_known taken t) h.3.2.whole }))
+
+pub verify_causes : (name : List ℕ) → Causes (Some (Verify name))
+verify_causes name = record {
+  only = λ contents s text h. only contents name s text (plan_ends contents name s text h);
+  usage = λ contents cause. absurd cause;
+  always = λ c t s text cause h. always c name t s text cause (plan_ends (Some c) name s text h);
+  sure = λ contents t other cause. sure contents name t other cause;
+  refused = λ c s text cause h. refused c name s text cause (plan_ends (Some c) name s text h);
+  tells = λ c s text taken taken' is ends. λ given. tells (Some c) name s text taken taken' is (plan_ends (Some c) name s text (ends given)) given;
+}

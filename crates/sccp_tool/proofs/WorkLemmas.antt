@@ -4,19 +4,18 @@ use Rattle.std.specs.Prelude.{is_none, IsErrOf, OnOk}
 use Rattle.std.specs.Io.{StartsWith}
 use Rattle.std.specs.Io.KnownBytes.{append_known}
 use Rattle.plan_model.specs.Network.{Network}
-use Rattle.plan_verify.specs.Lawful.{IsLawful}
 use Rattle.plan_verify.specs.declared.verdict.Verdict.{Verdict}
 use Rattle.sccp_io.specs.Faults.{Rose}
 use Rattle.sccp_io.specs.Files.{Contents, Reads, lacks}
-use Rattle.sccp_tool.specs.Ending.{Goes, IsCut, IsSpared, Stops, Works, Answers, Outcome, Closes, answer_of}
+use Rattle.sccp_tool.specs.Ending.{Goes, IsCut, IsSpared, Stops, Works, Answers, Outcome, Closes, answer_of, early}
 use Rattle.sccp_tool.specs.Moment.{Moment}
 use Rattle.sccp_tool.specs.Texts.{read_fault}
 use Rattle.sccp_tool.specs.Writing.{Writes}
-use Rattle.sccp_tool.specs.Work.{Work, finish, print, read, judge, answered, Ends, ComesToReading, BeginsWith, HasFiles}
+use Rattle.sccp_tool.specs.Work.{Work, finish, print, read, judge, answered, IsJudged, Ends, ComesToReading, BeginsWith, HasFiles}
 use Rattle.sccp_tool.specs.declared.status.Status.{Status}
 use Rattle.sccp_tool.specs.declared.status.Status.TheVariants.{NoMemory, ReadFault, WriteFault}
 use Rattle.sccp_tool.specs.declared.stop.Stop.{Stop}
-use Rattle.sccp_tool.specs.declared.stop.Stop.TheVariants.{Read, Write, Memory}
+use Rattle.sccp_tool.specs.declared.stop.Stop.TheVariants.{Answered, Read, Write, Memory}
 use Rattle.sccp_tool.proofs.RoseLemmas.{Rose-before}
 use Rattle.sccp_tool.proofs.WritingLemmas.{append_known-nil, append_known-append}
 
@@ -75,29 +74,36 @@ Works-memory work m = record {
 -- ---- a last text
 
 stops_answered : (a : Status × List ℕ) (result : Result Status Stop) (b m : Moment) (front : List ℕ) → StartsWith a.1 front → OnOk result (front ≡ a.1) → IfOk result (λ s. s ≡ a.0) → (IsCut a.0 → ⊥)
-    → (IsErrOf result Write → Rose b.write_faults m.write_faults) → (IsErrOf result Read → ⊥) → Stops (answered a) result front b m
-stops_answered a (Ok s) b m front begins whole is own failed no_reading = ((λ cut. own (subst IsCut is cut)), ([], whole ∙ sym (append-nil a.1), (is, refl)))
-stops_answered a (Err Read) b m front begins whole is own failed no_reading = absurd (no_reading refl)
-stops_answered a (Err Write) b m front begins whole is own failed no_reading = (failed refl, inl begins)
-stops_answered a (Err Memory) b m front begins whole is own failed no_reading = inl begins
+    → (IsErrOf result Write → Rose b.write_faults m.write_faults) → (IsErrOf result Read → ⊥) → ((s : Status) → IsErrOf result (Answered s) → ⊥) → Stops (answered a) result front b m
+stops_answered a (Ok s) b m front begins whole is own failed no_reading no_answer = ((λ cut. own (subst IsCut is cut)), ([], whole ∙ sym (append-nil a.1), (is, refl)))
+stops_answered a (Err (Answered s)) b m front begins whole is own failed no_reading no_answer = absurd (no_answer s refl)
+stops_answered a (Err Read) b m front begins whole is own failed no_reading no_answer = absurd (no_reading refl)
+stops_answered a (Err Write) b m front begins whole is own failed no_reading no_answer = (failed refl, inl begins)
+stops_answered a (Err Memory) b m front begins whole is own failed no_reading no_answer = inl begins
 
 pub Works-answered : (a : Status × List ℕ) (result : Result Status Stop) (b m : Moment) → (IsCut a.0 → ⊥) → Writes a.1 result b.taken m.taken b.write_faults m.write_faults → IfOk result (λ s. s ≡ a.0)
     → m.contents ≡ b.contents → m.sound ≡ b.sound → m.read_faults ≡ b.read_faults → Works (answered a) result b m
 Works-answered a result b m own writes is contents sound read_faults = record {
   text = writes.front;
   goes = record { contents = contents; sound = sound; read_faults = omega (arith, read_faults); write_faults = writes.later; taken = writes.appends };
-  stops = stops_answered a result b m writes.front writes.begins writes.whole is own writes.failed writes.no_reading;
+  stops = stops_answered a result b m writes.front writes.begins writes.whole is own writes.failed writes.no_reading writes.no_answer;
   spared = λ h. spares b.contents;
 } where
   spares : (k : Option Contents) → IfSome k (λ c. HasFiles c (answered a) → m.read_faults ≡ b.read_faults)
   spares None = tt
   spares (Some c) = λ h. read_faults
 
+-- the command ends early with it
+pub Works-early : (work : Work) (result : Result Status Stop) (b a : Moment) → Works work result b a → Works work (Err (early result)) b a
+Works-early work (Ok s) b a w = record { text = w.text; goes = w.goes; stops = w.stops; spared = w.spared }
+Works-early work (Err stop) b a w = w
+
 -- ---- a file is read
 
 stops_read : (name : List ℕ) (f : List ℕ → Work) (octets : List ℕ) (result : Result Status Stop) (text : List ℕ) (b m a : Moment) → Moved b m → Reads b.contents name octets
     → Stops (f octets) result text m a → Stops (read name f) result text b a
 stops_read name f octets (Ok s) text b m a p reads e = (e.0, (octets, reads, subst (λ c. Ends c (f octets) s text) p.contents e.1))
+stops_read name f octets (Err (Answered s)) text b m a p reads e = (e.0, (octets, reads, subst (λ c. Ends c (f octets) s text) p.contents e.1))
 stops_read name f octets (Err Read) text b m a p reads e = (Rose-before b.read_faults m.read_faults a.read_faults p.read_faults e.0, inr (octets, reads, subst (λ c. ComesToReading c (f octets) text) p.contents e.1))
 stops_read name f octets (Err Write) text b m a p reads e = (Rose-before b.write_faults m.write_faults a.write_faults (omega (arith, p.write_faults)) e.0, inr (octets, reads, subst (λ c. BeginsWith c (f octets) text) p.contents e.1))
 stops_read name f octets (Err Memory) text b m a p reads e = inr (octets, reads, subst (λ c. BeginsWith c (f octets) text) p.contents e)
@@ -134,17 +140,18 @@ Works-read name f octets result b m a p spared reads w = record {
 
 -- the reading failed, or memory ran out at it
 pub Works-reading : (name : List ℕ) (f : List ℕ → Work) (stop : Stop) (b m : Moment) → Moved b m → (IsTrue b.sound → lacks b.contents name ≡ false → m.read_faults ≡ b.read_faults)
-    → (stop ≡ Read → Rose b.read_faults m.read_faults) → (stop ≡ Write → ⊥) → Works (read name f) (Err stop) b m
-Works-reading name f stop b m p spared failed no_writing = record {
+    → (stop ≡ Read → Rose b.read_faults m.read_faults) → (stop ≡ Write → ⊥) → ((s : Status) → stop ≡ Answered s → ⊥) → Works (read name f) (Err stop) b m
+Works-reading name f stop b m p spared failed no_writing no_answer = record {
   text = [];
   goes = Goes-moved b m p;
-  stops = stopped stop failed no_writing;
+  stops = stopped stop failed no_writing no_answer;
   spared = λ h. at b.contents refl h;
 } where
-  stopped : (s : Stop) → (s ≡ Read → Rose b.read_faults m.read_faults) → (s ≡ Write → ⊥) → Stops (read name f) (Err s) [] b m
-  stopped Read failed never = (failed refl, inl refl)
-  stopped Write failed never = absurd (never refl)
-  stopped Memory failed never = inl refl
+  stopped : (s : Stop) → (s ≡ Read → Rose b.read_faults m.read_faults) → (s ≡ Write → ⊥) → ((t : Status) → s ≡ Answered t → ⊥) → Stops (read name f) (Err s) [] b m
+  stopped (Answered t) failed never own = absurd (own t refl)
+  stopped Read failed never own = (failed refl, inl refl)
+  stopped Write failed never own = absurd (never refl)
+  stopped Memory failed never own = inl refl
 
   at : (k : Option Contents) → b.contents ≡ k → IsTrue b.sound → IfSome k (λ c. HasFiles c (read name f) → m.read_faults ≡ b.read_faults)
   at None e h = tt
@@ -152,22 +159,23 @@ Works-reading name f stop b m p spared failed no_writing = record {
 
 -- ---- a verdict
 
-pub Works-judge : (plan : Network) (f : Verdict → Work) (verdict : Verdict) (result : Result Status Stop) (b a : Moment) → IsLawful plan verdict → Works (f verdict) result b a → Works (judge plan f) result b a
-Works-judge plan f verdict result b a lawful w = record {
+pub Works-judge : (plan : Network) (f : Verdict → Work) (verdict : Verdict) (result : Result Status Stop) (b a : Moment) → IsJudged plan verdict → Works (f verdict) result b a → Works (judge plan f) result b a
+Works-judge plan f verdict result b a judged w = record {
   text = w.text;
   goes = w.goes;
   stops = stops_judge result w.stops;
   spared = λ h. at b.contents (w.spared h);
 } where
   stops_judge : (r : Result Status Stop) → Stops (f verdict) r w.text b a → Stops (judge plan f) r w.text b a
-  stops_judge (Ok s) e = (e.0, (verdict, lawful, e.1))
-  stops_judge (Err Read) e = (e.0, (verdict, lawful, e.1))
-  stops_judge (Err Write) e = (e.0, inr (verdict, lawful, e.1))
-  stops_judge (Err Memory) e = inr (verdict, lawful, e)
+  stops_judge (Ok s) e = (e.0, (verdict, judged, e.1))
+  stops_judge (Err (Answered s)) e = (e.0, (verdict, judged, e.1))
+  stops_judge (Err Read) e = (e.0, (verdict, judged, e.1))
+  stops_judge (Err Write) e = (e.0, inr (verdict, judged, e.1))
+  stops_judge (Err Memory) e = inr (verdict, judged, e)
 
   at : (k : Option Contents) → IfSome k (λ c. HasFiles c (f verdict) → a.read_faults ≡ b.read_faults) → IfSome k (λ c. HasFiles c (judge plan f) → a.read_faults ≡ b.read_faults)
   at None h = tt
-  at (Some c) h = λ has. h (has verdict lawful)
+  at (Some c) h = λ has. h (has verdict judged)
 
 -- ---- the end of the call
 
@@ -201,6 +209,7 @@ told : (work : Work) (written : List ℕ) (b m a : Moment) → Rose b.read_fault
     → IfOk last (λ s. s ≡ ReadFault) → b.write_faults ≤ m.write_faults → Answers work (answer_of last) (written ++ wr.front) b a
 told work written b m a rose comes (Ok s) wr is later =
     subst (λ s. Answers work s (written ++ wr.front) b a) (sym is) (rose, (written, comes, ap (λ l. written ++ l) wr.whole))
+told work written b m a rose comes (Err (Answered s)) wr is later = absurd (wr.no_answer s refl)
 told work written b m a rose comes (Err Read) wr is later = absurd (wr.no_reading refl)
 told work written b m a rose comes (Err Write) wr is later = (Rose-before b.write_faults m.write_faults a.write_faults later (wr.failed refl), inr (rose, (written, wr.front, comes, wr.begins, refl)))
 told work written b m a rose comes (Err Memory) wr is later = inr (rose, (written, wr.front, comes, wr.begins, refl))
@@ -209,6 +218,8 @@ pub Outcome-closed : (work : Work) (result : Result Status Stop) (answer : Statu
     → a.contents ≡ m.contents → a.sound ≡ m.sound → a.read_faults ≡ m.read_faults → Outcome work answer b a
 Outcome-closed work (Ok s) answer b m a w closes contents sound read_faults =
     plain work (Ok s) answer b m a closes.0 w (own_answers work s w.text b a w.stops.0 w.stops.1) contents sound read_faults closes.1 closes.2
+Outcome-closed work (Err (Answered s)) answer b m a w closes contents sound read_faults =
+    plain work (Err (Answered s)) answer b m a closes.0 w (own_answers work s w.text b a w.stops.0 w.stops.1) contents sound read_faults closes.1 closes.2
 Outcome-closed work (Err Write) answer b m a w closes contents sound read_faults =
     plain work (Err Write) answer b m a closes.0 w (subst (λ n. Rose b.write_faults n) (sym closes.2) w.stops.0, inl w.stops.1) contents sound read_faults closes.1 closes.2
 Outcome-closed work (Err Memory) answer b m a w closes contents sound read_faults =

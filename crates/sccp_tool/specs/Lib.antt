@@ -1,9 +1,7 @@
 pub mod Commands
 pub mod Ending
-pub mod HexWord
 pub mod Limit
 pub mod LineFault
-pub mod Lines
 pub mod Moment
 pub mod Parsed
 pub mod Plans
@@ -11,9 +9,10 @@ pub mod Reading
 pub mod Route
 pub mod Run
 pub mod Show
-pub mod Shown
+pub mod ShowHex
 pub mod Starts
 pub mod Status
+pub mod Task
 pub mod Texts
 pub mod Verify
 pub mod Work

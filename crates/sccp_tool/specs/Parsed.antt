@@ -1,13 +1,13 @@
 -- What the code makes of the words, seen as a task.
 use Rattle.std.specs.Prelude.{Option, Some, None}
-use Rattle.sccp_tool.specs.Commands.{Task}
-use Rattle.sccp_tool.specs.Commands as spec
+use Rattle.sccp_tool.specs.Task.{Task}
+use Rattle.sccp_tool.specs.Task as spec
 use Rattle.sccp_tool.specs.declared.command.Command.{Command}
 use Rattle.sccp_tool.specs.declared.command.Command.TheVariants.{ShowHex, Show, Verify, Route}
 
 abbrev pub task_in : Option Command → Option Task
 task_in None = None
-task_in (Some (ShowHex octets)) = Some (spec.ShowHex octets.items)
+task_in (Some (ShowHex octets)) = Some (spec.ShowHex octets)
 task_in (Some (Show name)) = Some (spec.Show name.now)
 task_in (Some (Verify name)) = Some (spec.Verify name.now)
 task_in (Some (Route name start)) = Some (spec.Route name.now start)

@@ -1,13 +1,26 @@
--- The text for a file of messages, one a line.
-use Rattle.std.specs.Prelude.{ℕ, ◌+◌, List, [], ◌∷◌, ◌++◌, length, ◌==◌, Option, Some, None, Result, Ok, Err, if◌then◌else◌}
+-- The command that shows the messages of a file, one a line.
+use Rattle.std.specs.Prelude.{◌≡◌, ℕ, ◌+◌, List, [], ◌∷◌, ◌++◌, length, ◌==◌, Option, Some, None, option_map, Result, Ok, Err, IsOk, IsErr, Vec, if◌then◌else◌}
+use Rattle.std.specs.declared.alloc.Global.{Global}
+use Rattle.sccp_io.specs.Files.{Contents}
 use Rattle.sccp_report.specs.MessageText.{message_text}
-use Rattle.sccp_tool.specs.HexWord.{hex_word}
+use Rattle.trace_text.specs.Forms.{file_name}
+use Rattle.trace_text.specs.Hex.{hex_word}
+use Rattle.trace_text.specs.Lines.{TextLine, lines_of, content_of}
+use Rattle.trace_text.specs.declared.line_fault.LineFault.{LineFault}
+use Rattle.trace_text.specs.declared.line_fault.LineKind.TheVariants.{NotALine}
+use Rattle.sccp_tool.specs.Limit.{within_limit, HasFile, HasLongFile}
 use Rattle.sccp_tool.specs.LineFault.{bad_line}
-use Rattle.sccp_tool.specs.Lines.{Line, lines_of, content_of}
-use Rattle.sccp_tool.specs.declared.line_fault.LineFault.{LineFault}
-use Rattle.sccp_tool.specs.declared.line_fault.LineKind.TheVariants.{NotALine}
+use Rattle.sccp_tool.specs.Task.{Task, Show}
+use Rattle.sccp_tool.specs.Work.{Work, answered}
+use Rattle.sccp_tool.specs.declared.show.ShowError.{ShowError}
+use Rattle.sccp_tool.specs.declared.show.ShowError.TheVariants as errors
 use Rattle.sccp_tool.specs.declared.status.Status.{Status}
-use Rattle.sccp_tool.specs.declared.status.Status.TheVariants.{Done, BadTrace}
+use Rattle.sccp_tool.specs.declared.status.Status.TheVariants.{Done, BadTrace, TooLong}
+
+-- FILE
+unfoldable pub show_words : List (List ℕ) → Option Task
+show_words (name ∷ []) = option_map Show (file_name name)
+show_words words = None
 
 -- what is printed of a message: its text and an empty line
 abbrev pub shown_octets : ℕ → Option (List ℕ) → Result (List ℕ) LineFault
@@ -23,7 +36,7 @@ shown_if_held number (Ok content) = shown_content number content
 shown_if_held number (Err fault) = Err fault
 
 -- what is printed of a line, or its fault
-abbrev pub shown_line : ℕ → Line → Result (List ℕ) LineFault
+abbrev pub shown_line : ℕ → TextLine → Result (List ℕ) LineFault
 shown_line number line = shown_if_held number (content_of number line)
 
 abbrev pub joined : Result (List ℕ) LineFault → Result (List ℕ) LineFault → Result (List ℕ) LineFault
@@ -32,14 +45,32 @@ joined (Ok text) (Err fault) = Err fault
 joined (Err fault) more = Err fault
 
 -- what is printed of the lines from that number on, or the first fault
-abbrev pub shown_lines : ℕ → List Line → Result (List ℕ) LineFault
+abbrev pub shown_lines : ℕ → List TextLine → Result (List ℕ) LineFault
 shown_lines number [] = Ok []
 shown_lines number (line ∷ lines) = joined (shown_line number line) (shown_lines (number + 1) lines)
 
--- the answer and the text: the whole file is checked before anything is printed
 abbrev pub answer_for : Result (List ℕ) LineFault → Status × List ℕ
 answer_for (Ok text) = (Done, text)
 answer_for (Err fault) = (BadTrace, bad_line fault)
 
+-- the answer and the text for a file of these octets
 abbrev pub show_answer : List ℕ → Status × List ℕ
 show_answer octets = answer_for (shown_lines 1 (lines_of octets))
+
+-- the file is read and checked whole before anything is printed
+abbrev pub show_work : List ℕ → Work
+show_work name = within_limit name (λ octets. answered (show_answer octets))
+
+-- The cause of each answer: the file is within the limit and has no faulty line, or it has a line that is no word of hexadecimal
+-- digits or breaks a limit of lines, or it is too long.
+abbrev pub ShowCause : Option Contents → List ℕ → Status → Type 0
+ShowCause contents name Done = HasFile contents name (λ octets. IsOk (shown_lines 1 (lines_of octets)))
+ShowCause contents name BadTrace = HasFile contents name (λ octets. IsErr (shown_lines 1 (lines_of octets)))
+ShowCause contents name TooLong = HasLongFile contents name
+ShowCause contents name answer = ⊥
+
+-- the code hands out the text or the fault, unless memory ran out
+abbrev pub Gives : Result (Vec ℕ Global) ShowError → Result (List ℕ) LineFault → Type 0
+Gives (Ok text) shown = shown ≡ Ok text.items
+Gives (Err errors.Memory) shown = Unit {0}
+Gives (Err (errors.Line fault)) shown = shown ≡ Err fault

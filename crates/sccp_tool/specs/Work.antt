@@ -1,7 +1,7 @@
 -- What a call has to do, in the order in which it does it, and how far it can come.
 use Rattle.std.specs.Prelude.{◌≡◌, ◌⊎◌, ℕ, List, [], ◌++◌, Option, Some}
 use Rattle.std.specs.Io.{StartsWith}
-use Rattle.plan_model.specs.Network.{Network}
+use Rattle.plan_model.specs.Network.{Network, IsPlan}
 use Rattle.plan_verify.specs.Lawful.{IsLawful}
 use Rattle.plan_verify.specs.declared.verdict.Verdict.{Verdict}
 use Rattle.sccp_io.specs.Files.{Contents, Reads}
@@ -18,6 +18,10 @@ pub data Work : Type 0 where
   -- the plan is verified, and what follows depends on the verdict
   judge : Network → (Verdict → Work) → Work
 
+-- a plan, and a verdict that is true of it
+abbrev pub IsJudged : Network → Verdict → Type 0
+IsJudged plan verdict = IsPlan plan × IsLawful plan verdict
+
 -- the whole work of an answer and its text
 abbrev pub answered : Status × List ℕ → Work
 answered a = print a.1 (finish a.0)
@@ -27,7 +31,7 @@ abbrev pub Ends : Option Contents → Work → Status → List ℕ → Type 0
 Ends contents (finish s) status text = (status ≡ s) × (text ≡ [])
 Ends contents (print t w) status text = (rest : List ℕ) × (text ≡ t ++ rest) × Ends contents w status rest
 Ends contents (read name f) status text = (octets : List ℕ) × Reads contents name octets × Ends contents (f octets) status text
-Ends contents (judge plan f) status text = (verdict : Verdict) × IsLawful plan verdict × Ends contents (f verdict) status text
+Ends contents (judge plan f) status text = (verdict : Verdict) × IsJudged plan verdict × Ends contents (f verdict) status text
 
 -- the work comes to the reading of a file, and this is all that it writes before it
 abbrev pub ComesToReading : Option Contents → Work → List ℕ → Type 0
@@ -35,7 +39,7 @@ ComesToReading contents (finish s) text = ⊥
 ComesToReading contents (print t w) text = (rest : List ℕ) × (text ≡ t ++ rest) × ComesToReading contents w rest
 ComesToReading contents (read name f) text =
     (text ≡ []) ⊎ ((octets : List ℕ) × Reads contents name octets × ComesToReading contents (f octets) text)
-ComesToReading contents (judge plan f) text = (verdict : Verdict) × IsLawful plan verdict × ComesToReading contents (f verdict) text
+ComesToReading contents (judge plan f) text = (verdict : Verdict) × IsJudged plan verdict × ComesToReading contents (f verdict) text
 
 -- what the work writes begins with this text
 abbrev pub BeginsWith : Option Contents → Work → List ℕ → Type 0
@@ -44,11 +48,11 @@ BeginsWith contents (print t w) text =
     StartsWith t text ⊎ ((rest : List ℕ) × (text ≡ t ++ rest) × BeginsWith contents w rest)
 BeginsWith contents (read name f) text =
     (text ≡ []) ⊎ ((octets : List ℕ) × Reads contents name octets × BeginsWith contents (f octets) text)
-BeginsWith contents (judge plan f) text = (text ≡ []) ⊎ ((verdict : Verdict) × IsLawful plan verdict × BeginsWith contents (f verdict) text)
+BeginsWith contents (judge plan f) text = (text ≡ []) ⊎ ((verdict : Verdict) × IsJudged plan verdict × BeginsWith contents (f verdict) text)
 
 -- each file that the work comes to is there, whatever the verdicts
 abbrev pub HasFiles : Contents → Work → Type 0
 HasFiles c (finish s) = Unit {0}
 HasFiles c (print t w) = HasFiles c w
 HasFiles c (read name f) = (octets : List ℕ) × (c name ≡ Some octets) × HasFiles c (f octets)
-HasFiles c (judge plan f) = (verdict : Verdict) → IsLawful plan verdict → HasFiles c (f verdict)
+HasFiles c (judge plan f) = (verdict : Verdict) → IsJudged plan verdict → HasFiles c (f verdict)

@@ -7,15 +7,14 @@
 #![tactic(auto)]
 
 mod command;
-mod hex_word;
 mod limit;
 mod line_fault;
-mod lines;
 mod plans;
 mod program;
 mod reading;
 mod route;
 mod show;
+mod show_hex;
 mod start;
 mod status;
 mod stop;

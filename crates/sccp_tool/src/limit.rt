@@ -2,9 +2,9 @@
 ghost use Rattle.sccp_tool.specs.Limit.{GivesWhole};
 ghost use Rattle.sccp_tool.specs.Moment.{moment};
 
-use crate::reading::{Reading, read_whole};
+use crate::reading::read_whole;
 use crate::status::Status;
-use crate::stop::Stop;
+use crate::stop::{Stop, early};
 use crate::writing::print_last;
 use sccp_io::{Files, Sink};
 use std::alloc::Global;
@@ -14,29 +14,19 @@ const TOO_LONG: &[u8] = b"too long\n";
 /// How many octets a file may have that a command needs whole.
 const LONGEST_FILE: usize = 1_048_576;
 
-/// The octets of a file, or the answer where there are too many.
-#[derive(Drop)]
-pub enum Given {
-    Octets(Vec<u8>),
-    Answered(Status),
-}
-
-/// Reads a whole file. One that is too long is told by a line, and that is the answer.
+/// Reads a whole file. One that is too long is told by a line, and that is the answer of the command.
 pub fn within_limit<F: Files, K: Sink>(
     alloc: Global,
     name: &str,
     files: &mut F,
     out: &mut K,
-) -> Result<Given, Stop>
+) -> Result<Vec<u8>, Stop>
     ensures { GivesWhole name.now result
         (moment F.contents F.sound F.faults K.taken K.faults files.old out.old)
         (moment F.contents F.sound F.faults K.taken K.faults files.new out.new) }
 {
     match read_whole(alloc, files, name, LONGEST_FILE)? {
-        Reading::Whole(octets) => Ok(Given::Octets(octets)),
-        Reading::TooLong => {
-            let status = print_last(out, TOO_LONG, Status::TooLong)?;
-            Ok(Given::Answered(status))
-        }
+        Some(octets) => Ok(octets),
+        None => Err(early(print_last(out, TOO_LONG, Status::TooLong))),
     }
 }

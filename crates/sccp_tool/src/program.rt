@@ -5,20 +5,20 @@ ghost use Rattle.sccp_tool.specs.Commands.{task_of, texts};
 ghost use Rattle.sccp_tool.specs.Ending.{Works, Outcome, Closes, answer_of};
 ghost use Rattle.sccp_tool.specs.Moment.{moment};
 ghost use Rattle.sccp_tool.specs.Parsed.{task_in};
-ghost use Rattle.sccp_tool.specs.Run.{work_of, show_work, ExactlyWhere, ComesWhere, RefusedWhere, CanBeDone, MustBeDone, HasBadRoute, HasWidePlan, HasBadPlan, HasBadLine, HasLongFile, TellsVerdict};
+ghost use Rattle.sccp_tool.specs.Run.{work_of, Cause, SureCause, TellsVerdict, ExactlyWhere, ComesWhere, RefusedWhere};
 ghost use Rattle.sccp_tool.specs.Work.{HasFiles};
 
 use crate::command::{Command, parse};
-use crate::limit::{Given, within_limit};
 use crate::route::route;
-use crate::show::show_answer;
+use crate::show::show;
+use crate::show_hex::show_hex;
 use crate::status::Status;
 use crate::stop::Stop;
 use crate::verify::verify;
 use crate::writing::print_last;
+use sccp_base::OutOfMemory;
 use sccp_io::{Files, Sink};
-use sccp_report::message_text;
-use std::alloc::{AllocError, Global};
+use std::alloc::Global;
 
 const USAGE: &[u8] =
     b"usage: show-hex HEX | show FILE | verify PLAN | route PLAN NODE SELECTOR SSN DIGITS\n";
@@ -34,22 +34,22 @@ pub fn run<F: Files, K: Sink>(alloc: Global, words: &[String], files: &mut F, ou
 
     // The verdict on a plan, and its text.
     ensures verdict { IfSome (F.contents files.old)
-        (λ c. TellsVerdict c (task_of (texts words.now)) result (K.taken out.old) (K.taken out.new)) }
+        (λ c. TellsVerdict (Some c) (task_of (texts words.now)) result (K.taken out.old) (K.taken out.new)) }
 
     // The cause of each answer.
     ensures done { IfSome (F.contents files.old)
-        (λ c. ComesWhere Status.Done result (CanBeDone c (task_of (texts words.now))) (MustBeDone c (task_of (texts words.now)))) }
+        (λ c. ComesWhere Status.Done result (Cause (Some c) (task_of (texts words.now)) Status.Done) (SureCause (Some c) (task_of (texts words.now)) Status.Done)) }
     ensures refused { IfSome (F.contents files.old)
-        (λ c. RefusedWhere result (HasBadRoute c (task_of (texts words.now)))) }
+        (λ c. RefusedWhere result (Cause (Some c) (task_of (texts words.now)) Status.Refused)) }
     ensures too_wide { IfSome (F.contents files.old)
-        (λ c. result ≡ Status.TooWide → HasWidePlan c (task_of (texts words.now))) }
+        (λ c. result ≡ Status.TooWide → Cause (Some c) (task_of (texts words.now)) Status.TooWide) }
     ensures usage { ExactlyWhere Status.Usage result (task_of (texts words.now) ≡ None) }
     ensures bad_plan { IfSome (F.contents files.old)
-        (λ c. ExactlyWhere Status.BadPlan result (HasBadPlan c (task_of (texts words.now)))) }
+        (λ c. ExactlyWhere Status.BadPlan result (Cause (Some c) (task_of (texts words.now)) Status.BadPlan)) }
     ensures bad_trace { IfSome (F.contents files.old)
-        (λ c. ExactlyWhere Status.BadTrace result (HasBadLine c (task_of (texts words.now)))) }
+        (λ c. ExactlyWhere Status.BadTrace result (Cause (Some c) (task_of (texts words.now)) Status.BadTrace)) }
     ensures too_long { IfSome (F.contents files.old)
-        (λ c. ExactlyWhere Status.TooLong result (HasLongFile c (task_of (texts words.now)))) }
+        (λ c. ExactlyWhere Status.TooLong result (Cause (Some c) (task_of (texts words.now)) Status.TooLong)) }
     ensures read_fault { result ≡ Status.ReadFault → Rose (F.faults files.old) (F.faults files.new) }
     ensures write_fault { result ≡ Status.WriteFault → Rose (K.faults out.old) (K.faults out.new) }
     // Sound files that have each file which the work comes to don't fail.
@@ -74,7 +74,7 @@ fn carry_out<F: Files, K: Sink>(
     match parse(alloc, words) {
         Ok(Some(command)) => obey(alloc, &command, files, out),
         Ok(None) => print_last(out, USAGE, Status::Usage),
-        Err(AllocError) => Err(Stop::Memory),
+        Err(OutOfMemory) => Err(Stop::Memory),
     }
 }
 
@@ -90,33 +90,10 @@ fn obey<F: Files, K: Sink>(
         (moment F.contents F.sound F.faults K.taken K.faults files.new out.new) }
 {
     match command {
-        Command::ShowHex(octets) => {
-            let text = message_text(alloc, octets)?;
-            print_last(out, text.as_slice(), Status::Done)
-        }
+        Command::ShowHex(octets) => show_hex(alloc, octets.as_slice(), out),
         Command::Show(name) => show(alloc, name, files, out),
         Command::Verify(name) => verify(alloc, name, files, out),
         Command::Route(name, start) => route(alloc, name, start, files, out),
-    }
-}
-
-/// Shows the messages of a file.
-fn show<F: Files, K: Sink>(
-    alloc: Global,
-    name: &str,
-    files: &mut F,
-    out: &mut K,
-) -> Result<Status, Stop>
-    ensures { Works (show_work name.now) result
-        (moment F.contents F.sound F.faults K.taken K.faults files.old out.old)
-        (moment F.contents F.sound F.faults K.taken K.faults files.new out.new) }
-{
-    match within_limit(alloc, name, files, out)? {
-        Given::Octets(octets) => {
-            let (status, text) = show_answer(alloc, &octets)?;
-            print_last(out, &text, status)
-        }
-        Given::Answered(status) => Ok(status),
     }
 }
 
@@ -130,11 +107,12 @@ fn close<K: Sink>(worked: Result<Status, Stop>, out: &mut K) -> Status
     }
 }
 
-/// The answer where the work was stopped. A fault of the files is told by a line of its own.
+/// The answer where the work ended early. A fault of the files is told by a line of its own.
 fn tell<K: Sink>(stop: Stop, out: &mut K) -> Status
     ensures { Closes (Err stop) result (K.taken out.old) (K.taken out.new) (K.faults out.old) (K.faults out.new) }
 {
     match stop {
+        Stop::Answered(status) => status,
         Stop::Read => answer_of(print_last(out, READ_FAULT, Status::ReadFault)),
         Stop::Write => Status::WriteFault,
         Stop::Memory => Status::NoMemory,
@@ -147,6 +125,7 @@ fn answer_of(worked: Result<Status, Stop>) -> Status
 {
     match worked {
         Ok(status) => status,
+        Err(Stop::Answered(status)) => status,
         Err(Stop::Read) => Status::ReadFault,
         Err(Stop::Write) => Status::WriteFault,
         Err(Stop::Memory) => Status::NoMemory,

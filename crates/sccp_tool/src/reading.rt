@@ -9,20 +9,13 @@ use std::alloc::Global;
 /// How many octets are taken at a time.
 const PIECE: usize = 4096;
 
-/// A file that was read within a limit.
-#[derive(Drop)]
-pub enum Reading {
-    Whole(Vec<u8>),
-    TooLong,
-}
-
-/// Reads a whole file, or finds that it has more octets than the limit.
+/// Reads a whole file, or none of it where it has more octets than the limit.
 pub fn read_whole<F: Files>(
     alloc: Global,
     files: &mut F,
     name: &str,
     limit: usize,
-) -> Result<Reading, Stop>
+) -> Result<Option<Vec<u8>>, Stop>
     requires { limit < 2 ^ 32 }
     ensures { ReadsFile name.now limit result (F.contents files.old) (F.contents files.new) (F.sound files.old) (F.sound files.new)
         (F.faults files.old) (F.faults files.new) }
@@ -38,11 +31,11 @@ pub fn read_whole<F: Files>(
             Err(fault) => return Err(stopped(fault)),
         };
         if count == 0 {
-            return Ok(Reading::Whole(octets));
+            return Ok(Some(octets));
         }
         octets.extend_from_slice(&piece[..count])?;
     }
-    Ok(Reading::TooLong)
+    Ok(None)
 }
 
 /// How a fault of the files stops the work.

@@ -1,12 +1,15 @@
 //! The command that follows one title under empty markings.
 ghost use Rattle.std.specs.Prelude.{◌≡◌, ◌<◌, IfOk, length};
 ghost use Rattle.plan_model.specs.Network.{IsPlan};
+ghost use Rattle.sccp_tool.specs.Commands.{texts};
 ghost use Rattle.sccp_tool.specs.Ending.{Works};
 ghost use Rattle.sccp_tool.specs.Moment.{moment};
-ghost use Rattle.sccp_tool.specs.Route.{unmarked, hops_from, spot_at, route_text, route_work};
+ghost use Rattle.sccp_tool.specs.Parsed.{task_in};
+ghost use Rattle.sccp_tool.specs.Route.{route_words, route_of, unmarked, hops_from, spot_at, route_text, route_work};
 
-use crate::plans::{Planned, with_plan};
-use crate::start::Start;
+use crate::command::Command;
+use crate::plans::with_plan;
+use crate::start::{Start, start_of};
 use crate::status::Status;
 use crate::stop::Stop;
 use crate::writing::print_last;
@@ -15,11 +18,49 @@ use sccp_base::{Marking, Octets, OutOfMemory};
 use sccp_io::{Files, Sink};
 use sccp_report::hops_text;
 use std::alloc::Global;
+use trace_text::is_file_name;
 
 const UNKNOWN_NODE: &[u8] = b"unknown node\n";
 
 /// How many hops are followed.
 const MOST_HOPS: u8 = 15;
+
+/// Its words: `PLAN NODE SELECTOR SSN DIGITS`.
+#[tactic(auto, unfolding(crate::specs::Route::route_words))]
+pub fn route_words(words: &[String]) -> Option<Command<'_>>
+    ensures { task_in result ≡ route_words (texts words.now) }
+{
+    match words {
+        [plan, node, selector, ssn, digits] => route_of(
+            plan.as_str(),
+            node.as_str(),
+            selector.as_str(),
+            ssn.as_str(),
+            digits.as_str(),
+        ),
+        _ => None,
+    }
+}
+
+/// The command of these five words.
+#[tactic(auto, unfolding(crate::specs::Route::route_of))]
+fn route_of<'a>(
+    plan: &'a str,
+    node: &str,
+    selector: &str,
+    ssn: &str,
+    digits: &str,
+) -> Option<Command<'a>>
+    ensures { task_in result ≡ route_of plan.now node.now selector.now ssn.now digits.now }
+{
+    if !is_file_name(plan.as_bytes()) {
+        return None;
+    }
+    match start_of(node, selector, ssn, digits) {
+        Some(start) => Some(Command::Route(plan, start)),
+        None => None,
+    }
+}
 
 /// Prints the hops of a title under the plan of a file.
 pub fn route<F: Files, K: Sink>(
@@ -33,13 +74,9 @@ pub fn route<F: Files, K: Sink>(
         (moment F.contents F.sound F.faults K.taken K.faults files.old out.old)
         (moment F.contents F.sound F.faults K.taken K.faults files.new out.new) }
 {
-    match with_plan(alloc, name, files, out)? {
-        Planned::Plan(plan) => {
-            let text = route_text(alloc, &plan, start)?;
-            print_last(out, text.as_slice(), Status::Done)
-        }
-        Planned::Answered(status) => Ok(status),
-    }
+    let plan = with_plan(alloc, name, files, out)?;
+    let text = route_text(alloc, &plan, start)?;
+    print_last(out, text.as_slice(), Status::Done)
 }
 
 /// The hops from the node of the start, or the line that no node has its name.

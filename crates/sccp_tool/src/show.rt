@@ -1,17 +1,24 @@
-//! The text for a file of messages, one a line.
+//! The command that shows the messages of a file, one a line.
 ghost use Rattle.std.specs.Prelude.{◌≡◌, ◌≤◌, IfOk, OnOk};
-ghost use Rattle.sccp_tool.specs.Lines.{line_of, lines_of};
-ghost use Rattle.sccp_tool.specs.Show.{shown_content, shown_line, shown_lines, show_answer};
-ghost use Rattle.sccp_tool.specs.Shown.{Gives};
+ghost use Rattle.trace_text.specs.Lines.{lines_of, text_line};
+ghost use Rattle.sccp_tool.specs.Commands.{texts};
+ghost use Rattle.sccp_tool.specs.Ending.{Works};
+ghost use Rattle.sccp_tool.specs.Moment.{moment};
+ghost use Rattle.sccp_tool.specs.Parsed.{task_in};
+ghost use Rattle.sccp_tool.specs.Show.{show_words, show_work, shown_content, shown_line, shown_lines, show_answer, Gives};
 ghost use Rattle.sccp_tool.specs.declared.show.ShowError.TheVariants.{Memory};
 
-use crate::hex_word::octets_of;
-use crate::line_fault::{LineFault, LineKind, bad_line};
-use crate::lines::{content, first_line};
+use crate::command::Command;
+use crate::limit::within_limit;
+use crate::line_fault::bad_line;
 use crate::status::Status;
+use crate::stop::Stop;
+use crate::writing::print_last;
 use sccp_base::OutOfMemory;
+use sccp_io::{Files, Sink};
 use sccp_report::message_text;
 use std::alloc::{AllocError, Global};
+use trace_text::{LineFault, LineKind, content, first_line, is_file_name, octets_of};
 
 /// Why a line isn't shown.
 #[derive(Clone, Copy, Debug, PartialEq, Eq)]
@@ -36,8 +43,41 @@ impl From<OutOfMemory> for ShowError {
     }
 }
 
+/// Its word: `FILE`.
+#[tactic(auto, unfolding(crate::specs::Show::show_words))]
+pub fn show_words(words: &[String]) -> Option<Command<'_>>
+    ensures { task_in result ≡ show_words (texts words.now) }
+{
+    match words {
+        [name] => {
+            if is_file_name(name.as_bytes()) {
+                Some(Command::Show(name.as_str()))
+            } else {
+                None
+            }
+        }
+        _ => None,
+    }
+}
+
+/// Prints the messages of a file.
+pub fn show<F: Files, K: Sink>(
+    alloc: Global,
+    name: &str,
+    files: &mut F,
+    out: &mut K,
+) -> Result<Status, Stop>
+    ensures { Works (show_work name.now) result
+        (moment F.contents F.sound F.faults K.taken K.faults files.old out.old)
+        (moment F.contents F.sound F.faults K.taken K.faults files.new out.new) }
+{
+    let octets = within_limit(alloc, name, files, out)?;
+    let (status, text) = show_answer(alloc, &octets)?;
+    print_last(out, &text, status)
+}
+
 /// The answer and the text for a file of these octets: all its messages or, where a line has a fault, that fault alone.
-pub fn show_answer(alloc: Global, octets: &[u8]) -> Result<(Status, Vec<u8>), AllocError>
+fn show_answer(alloc: Global, octets: &[u8]) -> Result<(Status, Vec<u8>), AllocError>
     ensures { IfOk result (λ answer. (answer.0, answer.1.items) ≡ show_answer octets.now) }
 {
     match shown_lines(alloc, octets) {
@@ -66,7 +106,7 @@ fn shown_lines(alloc: Global, octets: &[u8]) -> Result<Vec<u8>, ShowError>
 
 /// The text of a line, or its fault.
 fn shown_line(alloc: Global, number: u32, octets: &[u8], ended: bool) -> Result<Vec<u8>, ShowError>
-    ensures text { Gives result (shown_line number (line_of octets.now ended)) }
+    ensures text { Gives result (shown_line number (text_line octets.now ended)) }
     ensures few { OnOk result (number ≤ 1000000) }
 {
     match content(number, octets, ended) {
@@ -84,7 +124,7 @@ fn shown_content(alloc: Global, number: u32, content: &[u8]) -> Result<Vec<u8>, 
     }
     match octets_of(alloc, content)? {
         Some(octets) => {
-            let mut text = message_text(alloc, &octets)?;
+            let mut text = message_text(alloc, octets.as_slice())?;
             text.push(b'\n')?;
             Ok(text.into_vec())
         }

@@ -1,6 +1,5 @@
 //! Where a route begins.
 ghost use Rattle.std.specs.Prelude.{◌≡◌};
-ghost use Rattle.plan_text.specs.Words.{name_of};
 ghost use Rattle.sccp_tool.specs.Starts.{ssn_of, digits_word, title_digits, start_of};
 
 use sccp_base::{Digits, Name, Selector, decimal};
@@ -19,7 +18,7 @@ pub struct Start {
 pub fn start_of(node: &str, selector: &str, ssn: &str, digits: &str) -> Option<Start>
     ensures { result ≡ start_of node.now selector.now ssn.now digits.now }
 {
-    let node = node_name(node.as_bytes())?;
+    let node = Name::parse(node.as_bytes())?;
     let selector = Selector::parse(selector.as_bytes())?;
     let ssn = ssn_of(ssn.as_bytes())?;
     let digits = title_digits(digits)?;
@@ -29,13 +28,6 @@ pub fn start_of(node: &str, selector: &str, ssn: &str, digits: &str) -> Option<S
         ssn,
         digits,
     })
-}
-
-/// The name of a node, as plan texts have it.
-fn node_name(word: &[u8]) -> Option<Name>
-    ensures { result ≡ name_of word.now }
-{
-    Name::parse(word)
 }
 
 /// A subsystem number of one to ten decimal digits.

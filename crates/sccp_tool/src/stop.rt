@@ -1,13 +1,17 @@
-//! What stops a call.
+//! What ends a command before its end.
 ghost use Rattle.std.specs.Prelude.{◌≡◌};
+ghost use Rattle.sccp_tool.specs.Ending.{early};
 ghost use Rattle.sccp_tool.specs.declared.stop.Stop.TheVariants.{Memory};
 
+use crate::status::Status;
 use sccp_base::OutOfMemory;
 use std::alloc::AllocError;
 
-/// What stops the work of a call before its end.
+/// What ends the work of a command before its end.
 #[derive(Clone, Copy, Debug, PartialEq, Eq)]
 pub enum Stop {
+    /// The command has its answer already, and its text is written.
+    Answered(Status),
     /// The files failed.
     Read,
     /// The sink failed.
@@ -29,5 +33,15 @@ impl From<OutOfMemory> for Stop {
 
     fn from(_: OutOfMemory) -> Self {
         Stop::Memory
+    }
+}
+
+/// What ends a command early whose last text was to be written.
+pub fn early(worked: Result<Status, Stop>) -> Stop
+    ensures { result ≡ early worked }
+{
+    match worked {
+        Ok(status) => Stop::Answered(status),
+        Err(stop) => stop,
     }
 }

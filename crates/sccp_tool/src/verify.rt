@@ -3,11 +3,14 @@ ghost use Rattle.std.specs.Prelude.{◌≡◌, IfOk};
 ghost use Rattle.plan_model.specs.Network.{IsPlan};
 ghost use Rattle.plan_verify.specs.Lawful.{IsLawful, plan_of};
 ghost use Rattle.sccp_report.specs.Verdicts.{verdict_text};
+ghost use Rattle.sccp_tool.specs.Commands.{texts};
 ghost use Rattle.sccp_tool.specs.Ending.{Works};
 ghost use Rattle.sccp_tool.specs.Moment.{moment};
-ghost use Rattle.sccp_tool.specs.Verify.{status_of, verify_work};
+ghost use Rattle.sccp_tool.specs.Parsed.{task_in};
+ghost use Rattle.sccp_tool.specs.Verify.{status_of, verify_words, verify_work};
 
-use crate::plans::{Planned, with_plan};
+use crate::command::Command;
+use crate::plans::with_plan;
 use crate::status::Status;
 use crate::stop::Stop;
 use crate::writing::print_last;
@@ -17,6 +20,24 @@ use sccp_base::{Octets, OutOfMemory};
 use sccp_io::{Files, Sink};
 use sccp_report::verdict_text;
 use std::alloc::Global;
+use trace_text::is_file_name;
+
+/// Its word: `PLAN`.
+#[tactic(auto, unfolding(crate::specs::Verify::verify_words))]
+pub fn verify_words(words: &[String]) -> Option<Command<'_>>
+    ensures { task_in result ≡ verify_words (texts words.now) }
+{
+    match words {
+        [name] => {
+            if is_file_name(name.as_bytes()) {
+                Some(Command::Verify(name.as_str()))
+            } else {
+                None
+            }
+        }
+        _ => None,
+    }
+}
 
 /// Prints the verdict on the plan of a file, and the route that shows it.
 pub fn verify<F: Files, K: Sink>(
@@ -29,14 +50,10 @@ pub fn verify<F: Files, K: Sink>(
         (moment F.contents F.sound F.faults K.taken K.faults files.old out.old)
         (moment F.contents F.sound F.faults K.taken K.faults files.new out.new) }
 {
-    match with_plan(alloc, name, files, out)? {
-        Planned::Plan(plan) => {
-            let verdict = plan_verify::verify(alloc, plan)?;
-            let text = lawful_text(alloc, plan_of(&verdict), &verdict)?;
-            print_last(out, text.as_slice(), status_of(&verdict))
-        }
-        Planned::Answered(status) => Ok(status),
-    }
+    let plan = with_plan(alloc, name, files, out)?;
+    let verdict = plan_verify::verify(alloc, plan)?;
+    let text = lawful_text(alloc, plan_of(&verdict), &verdict)?;
+    print_last(out, text.as_slice(), status_of(&verdict))
 }
 
 /// The text of a lawful verdict, whose route stays in the plan.

@@ -1,11 +1,13 @@
-use Rattle.std.proofs.Common.{refl, ap, subst, Ok, Err}
+use Rattle.std.proofs.Common.{refl, ap, subst, Err}
 use Rattle.std.proofs.lemmas.Result.{err_from_is_err_and}
+use Rattle.sccp_tool.specs.Ending.{early}
 use Rattle.sccp_tool.specs.Moment.{Moment, moment}
 use Rattle.sccp_tool.specs.Texts.{too_long}
 use Rattle.sccp_tool.specs.declared.status.Status.TheVariants.{TooLong}
 use Rattle.sccp_tool.specs.Reading.{GivesFile}
+use Rattle.sccp_tool.specs.Work.{answered}
 use Rattle.sccp_tool.proofs.LimitLemmas.{file_or_answer, Works-long, Works-within}
-use Rattle.sccp_tool.proofs.WorkLemmas.{Works-answered, Works-reading}
+use Rattle.sccp_tool.proofs.WorkLemmas.{Works-answered, Works-early, Works-reading}
 use Rattle.sccp_tool.proofs.limit.within_limit.Goals as goal
 
 pub returns-in_err-octets : goal.returns-in_err-octets
@@ -17,41 +19,29 @@ returns-in_err-octets g c =
     rw (p.1, p.2)
     (λ next. Works-reading c.args.name.now (file_or_answer next) c.in_err-octets.field-0.0 b m
     (record { contents = e.same; sound = e.soundness; read_faults = e.later; taken = refl; write_faults = refl })
-    e.spared (λ h. e.failed (ap Err h)) (λ h. e.no_writing (ap Err h)))
+    e.spared (λ h. e.failed (ap Err h)) (λ h. e.no_writing (ap Err h)) (λ s h. e.no_answer s (ap Err h)))
 
-pub returns-in-Whole : goal.returns-in-Whole
-returns-in-Whole g c =
+pub returns-in-Some : goal.returns-in-Some
+returns-in-Some g c =
     let e = c.in_ok-octets.ensures in
-    let given = subst (GivesFile (g.F.Files.contents c.args.files.now) c.args.name.now 1048576) c.in-Whole.is e.gives in
+    let given = subst (GivesFile (g.F.Files.contents c.args.files.now) c.args.name.now 1048576) c.in-Some.is e.gives in
     let b : Moment = moment g.F.Files.contents g.F.Files.sound g.F.Files.faults g.K.Sink.taken g.K.Sink.faults c.args.files.now c.args.out.now in
     let m : Moment = moment g.F.Files.contents g.F.Files.sound g.F.Files.faults g.K.Sink.taken g.K.Sink.faults c.read_whole.new.files c.args.out.now in
     λ next result after w.
-    Works-within c.args.name.now next c.in-Whole.octets.items result b m after
+    Works-within c.args.name.now next c.in-Some.octets.items result b m after
     (record { contents = e.same; sound = e.soundness; read_faults = e.later; taken = refl; write_faults = refl })
     e.spared given.0 given.1 w
 
-pub returns-in_ok-status-in-TooLong : goal.returns-in_ok-status-in-TooLong
+pub returns-in-None : goal.returns-in-None
 unfolding too_long
-returns-in_ok-status-in-TooLong g c =
+returns-in-None g c =
     let e = c.in_ok-octets.ensures in
-    let given = subst (GivesFile (g.F.Files.contents c.args.files.now) c.args.name.now 1048576) c.in-TooLong.is e.gives in
+    let given = subst (GivesFile (g.F.Files.contents c.args.files.now) c.args.name.now 1048576) c.in-None.is e.gives in
     let b : Moment = moment g.F.Files.contents g.F.Files.sound g.F.Files.faults g.K.Sink.taken g.K.Sink.faults c.args.files.now c.args.out.now in
     let m : Moment = moment g.F.Files.contents g.F.Files.sound g.F.Files.faults g.K.Sink.taken g.K.Sink.faults c.read_whole.new.files c.args.out.now in
-    let w = c.in_ok-status-in-TooLong.ensures in
-    λ next. Works-long c.args.name.now next given.0 (Ok c.in_ok-status-in-TooLong.status) b m _
+    let a : Moment = moment g.F.Files.contents g.F.Files.sound g.F.Files.faults g.K.Sink.taken g.K.Sink.faults c.read_whole.new.files c.print_last.new.out in
+    let w = c.print_last.ensures in
+    rw c.early.ensures
+    (λ next. Works-long c.args.name.now next given.0 (Err (early c.print_last.result)) b m a
     (record { contents = e.same; sound = e.soundness; read_faults = e.later; taken = refl; write_faults = refl })
-    e.spared given.1 given.2 (Works-answered (TooLong, too_long) _ m _ (λ cut. cut) w.text w.answer refl refl refl)
-
-pub returns-in_err-status-in-TooLong : goal.returns-in_err-status-in-TooLong
-unfolding too_long
-returns-in_err-status-in-TooLong g c =
-    let e = c.in_ok-octets.ensures in
-    let given = subst (GivesFile (g.F.Files.contents c.args.files.now) c.args.name.now 1048576) c.in-TooLong.is e.gives in
-    let b : Moment = moment g.F.Files.contents g.F.Files.sound g.F.Files.faults g.K.Sink.taken g.K.Sink.faults c.args.files.now c.args.out.now in
-    let m : Moment = moment g.F.Files.contents g.F.Files.sound g.F.Files.faults g.K.Sink.taken g.K.Sink.faults c.read_whole.new.files c.args.out.now in
-    let p = err_from_is_err_and c.from_residual-in_err-status-in-TooLong.result c.from_residual-in_err-status-in-TooLong.ensures.1 in
-    let w = c.in_err-status-in-TooLong.ensures in
-    rw (p.1, p.2)
-    (λ next. Works-long c.args.name.now next given.0 (Err c.in_err-status-in-TooLong.field-0.0) b m _
-    (record { contents = e.same; sound = e.soundness; read_faults = e.later; taken = refl; write_faults = refl })
-    e.spared given.1 given.2 (Works-answered (TooLong, too_long) _ m _ (λ cut. cut) w.text w.answer refl refl refl))
+    e.spared given.1 given.2 (Works-early (answered (TooLong, too_long)) c.print_last.result m a (Works-answered (TooLong, too_long) c.print_last.result m a (λ cut. cut) w.text w.answer refl refl refl)))

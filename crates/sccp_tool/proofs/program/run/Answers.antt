@@ -1,9 +1,10 @@
 use Rattle.std.proofs.Common.{refl, Option}
-use Rattle.sccp_tool.specs.Commands.{Task, task_of, texts}
+use Rattle.sccp_tool.specs.Commands.{task_of, texts}
 use Rattle.sccp_tool.specs.Ending.{Outcome}
 use Rattle.sccp_tool.specs.Moment.{Moment, moment}
 use Rattle.sccp_tool.specs.Run.{work_of}
-use Rattle.sccp_tool.proofs.CauseLemmas.{verdict_told, done_cause, refused_cause, wide_cause, usage_cause, bad_plan_cause, bad_line_cause, long_cause, read_cause, write_cause, sound_cause}
+use Rattle.sccp_tool.specs.Task.{Task}
+use Rattle.sccp_tool.proofs.RunLemmas.{verdict_told, done_cause, refused_cause, wide_cause, usage_cause, bad_plan_cause, bad_line_cause, long_cause, read_cause, write_cause, sound_cause}
 use Rattle.sccp_tool.proofs.WorkLemmas.{Outcome-closed}
 use Rattle.sccp_tool.proofs.program.run.Goals as goal
 

@@ -13,4 +13,5 @@ returns g c =
       failed = λ e. cc;
       spared = λ h _. p.spared h;
       no_writing = λ e. cc;
+      no_answer = λ s e. cc;
     }

@@ -1,7 +1,6 @@
-use Rattle.std.proofs.Common.{subst, Ok, Err}
+use Rattle.std.proofs.Common.{Err}
 use Rattle.std.proofs.lemmas.Result.{err_from_is_err_and}
 use Rattle.sccp_tool.specs.Moment.{Moment, moment}
-use Rattle.sccp_tool.specs.Plans.{GivesPlan}
 use Rattle.sccp_tool.specs.Route.{route_text}
 use Rattle.sccp_tool.specs.Work.{answered}
 use Rattle.sccp_tool.specs.declared.status.Status.TheVariants.{Done}
@@ -9,10 +8,8 @@ use Rattle.sccp_tool.specs.declared.stop.Stop.TheVariants.{Memory}
 use Rattle.sccp_tool.proofs.WorkLemmas.{Works-memory}
 use Rattle.sccp_tool.proofs.route.route.Goals as goal
 
-pub returns-in_err-text-in-Plan : goal.returns-in_err-text-in-Plan
-returns-in_err-text-in-Plan g c =
-    let p = err_from_is_err_and c.from_residual-in_err-text-in-Plan.result c.from_residual-in_err-text-in-Plan.ensures.1 in
-    let b : Moment = moment g.F.Files.contents g.F.Files.sound g.F.Files.faults g.K.Sink.taken g.K.Sink.faults c.args.files.now c.args.out.now in
+pub returns-in_err-text : goal.returns-in_err-text
+returns-in_err-text g c =
+    let p = err_from_is_err_and c.from_residual-in_err-text.result c.from_residual-in_err-text.ensures.1 in
     let m : Moment = moment g.F.Files.contents g.F.Files.sound g.F.Files.faults g.K.Sink.taken g.K.Sink.faults c.with_plan.new.files c.with_plan.new.out in
-    let given = subst (λ given. GivesPlan c.args.name.now (Ok given) b m) c.in-Plan.is c.in_ok-plan.ensures in
-    rw (p.1, p.2) (given (λ plan. answered (Done, route_text plan c.args.start.now)) (Err Memory) m (Works-memory (answered (Done, route_text c.in-Plan.plan c.args.start.now)) m))
+    rw (p.1, p.2) (c.in_ok-plan.ensures.plan (λ plan. answered (Done, route_text plan c.args.start.now)) (Err Memory) m (Works-memory (answered (Done, route_text c.in_ok-plan.plan c.args.start.now)) m))

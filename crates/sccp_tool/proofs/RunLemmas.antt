@@ -1,0 +1,137 @@
+-- The clauses of the call, from how the work ended.
+use Rattle.std.proofs.Common.{◌≡◌, ◌≢◌, ◌<◌, ◌⊎◌, ◌^◌, ◌-◌, IsTrue, ℕ, List, Option, Some, None, IfSome, refl, sym, subst, arith, inl, inr}
+use Rattle.sccp_io.specs.Faults.{Rose}
+use Rattle.sccp_io.specs.Files.{Contents}
+use Rattle.sccp_tool.specs.Ending.{IsCut, Answers, Outcome}
+use Rattle.sccp_tool.specs.Moment.{Moment}
+use Rattle.sccp_tool.specs.Run.{work_of, Cause, SureCause, TellsVerdict, UsageCause, ExactlyWhere, ComesWhere, RefusedWhere}
+use Rattle.sccp_tool.specs.Task.{Task, ShowHex, Show, Verify, Route}
+use Rattle.sccp_tool.specs.Verify.{IsOnVerdict}
+use Rattle.sccp_tool.specs.Work.{Work, Ends, HasFiles}
+use Rattle.sccp_tool.specs.declared.status.Status.{Status}
+use Rattle.sccp_tool.specs.declared.status.Status.TheVariants.{Done, Refused, Usage, BadPlan, BadTrace, TooWide, TooLong, NoMemory, ReadFault, WriteFault}
+use Rattle.sccp_tool.proofs.Causes.{Causes}
+use Rattle.sccp_tool.proofs.RouteLemmas.{route_causes}
+use Rattle.sccp_tool.proofs.ShowHexLemmas.{show_hex_causes}
+use Rattle.sccp_tool.proofs.ShowLemmas.{show_causes}
+use Rattle.sccp_tool.proofs.VerifyLemmas.{verify_causes}
+
+-- ---- the causes of the answers, task by task
+
+is_usage : (t s : Status) → UsageCause t → s ≡ Usage → s ≡ t
+is_usage Usage s cause e = e
+is_usage t s cause e = absurd cause
+
+usage_causes : Causes None
+usage_causes = record {
+  only = λ contents s text h. subst UsageCause (sym h.2.0) tt;
+  usage = λ contents cause. refl;
+  always = λ c t s text cause h. is_usage t s cause h.2.0;
+  sure = λ contents t other cause. cause;
+  refused = λ c s text cause h. absurd cause;
+  tells = λ c s text taken taken' is ends. tt;
+}
+
+causes : (task : Option Task) → Causes task
+causes None = usage_causes
+causes (Some (ShowHex octets)) = show_hex_causes octets
+causes (Some (Show name)) = show_causes name
+causes (Some (Verify name)) = verify_causes name
+causes (Some (Route name start)) = route_causes name start
+
+if_some : {C : Type 0} (o : Option C) (P : C → Type 0) → ((c : C) → o ≡ Some c → P c) → IfSome o P
+if_some None P f = tt
+if_some (Some c) P f = f c refl
+
+-- a call that wasn't cut short did all its work
+cut_or_ends : (s : Status) (work : Work) (text : List ℕ) (b a : Moment) → Answers work s text b a → IsCut s ⊎ Ends b.contents work s text
+cut_or_ends WriteFault work text b a h = inl tt
+cut_or_ends NoMemory work text b a h = inl tt
+cut_or_ends ReadFault work text b a h = inl tt
+cut_or_ends s work text b a h = inr h
+
+unless_cut : {P : Type 0} (s : Status) (work : Work) (text : List ℕ) (b a : Moment) → Answers work s text b a → (Ends b.contents work s text → P) → P ⊎ IsCut s
+unless_cut {P} s work text b a h f = by (cut_or_ends s work text b a h) where
+  by : IsCut s ⊎ Ends b.contents work s text → P ⊎ IsCut s
+  by (inl cut) = inr cut
+  by (inr e) = inl (f e)
+
+-- an answer of a verdict is the work's own
+own_verdict : (s : Status) (work : Work) (text : List ℕ) (b a : Moment) → Answers work s text b a → IsOnVerdict s → Ends b.contents work s text
+own_verdict Done work text b a h given = h
+own_verdict Refused work text b a h given = h
+own_verdict TooWide work text b a h given = h
+own_verdict s work text b a h given = absurd given
+
+without_task : (contents : Option Contents) (task : Option Task) (s : Status) (text : List ℕ) → task ≡ None → Ends contents (work_of task) s text → s ≡ Usage
+without_task contents None s text e h = h.2.0
+without_task contents (Some t) s text e h = cc
+
+-- ---- the clauses of the call
+
+module _ (task : Option Task) (s : Status) (b a : Moment) (o : Outcome (work_of task) s b a) where
+  answers : (t : Status) → s ≡ t → Answers (work_of task) t o.text b a
+  answers t e = subst (λ t. Answers (work_of task) t o.text b a) e o.answers
+
+  -- an answer of the work's own comes only where its cause holds
+  only_where : (t : Status) (c : Contents) → b.contents ≡ Some c → (Answers (work_of task) t o.text b a → Ends b.contents (work_of task) t o.text) → s ≡ t → Cause (Some c) task t
+  only_where t c told own e = subst (λ k. Cause k task t) told ((causes task).only b.contents t o.text (own (answers t e)))
+
+  -- an answer comes unless the call was cut short
+  always_where : (c : Contents) (Q : Type 0) → b.contents ≡ Some c → (Ends (Some c) (work_of task) s o.text → Q) → Q ⊎ IsCut s
+  always_where c Q told always = unless_cut s (work_of task) o.text b a o.answers (λ e. always (subst (λ k. Ends k (work_of task) s o.text) told e))
+
+  -- an answer of the work's own that no verdict gives comes exactly where its cause holds
+  exactly : (t : Status) (c : Contents) → b.contents ≡ Some c → (Answers (work_of task) t o.text b a → Ends b.contents (work_of task) t o.text) → (IsOnVerdict t → ⊥) → ExactlyWhere t s (Cause (Some c) task t)
+  exactly t c told own other = record {
+    only = only_where t c told own;
+    always = λ cause. always_where c (s ≡ t) told ((causes task).always c t s o.text ((causes task).sure (Some c) t other cause));
+  }
+
+  pub verdict_told : IfSome b.contents (λ c. TellsVerdict (Some c) task s b.taken a.taken)
+  verdict_told = if_some b.contents _ (λ c told. (causes task).tells c s o.text b.taken a.taken o.goes.taken
+      (λ given. subst (λ k. Ends k (work_of task) s o.text) told (own_verdict s (work_of task) o.text b a o.answers given)))
+
+  pub done_cause : IfSome b.contents (λ c. ComesWhere Done s (Cause (Some c) task Done) (SureCause (Some c) task Done))
+  done_cause = if_some b.contents _ (λ c told. record {
+    only = only_where Done c told (λ e. e);
+    always = λ cause. always_where c (s ≡ Done) told ((causes task).always c Done s o.text cause);
+  })
+
+  pub refused_cause : IfSome b.contents (λ c. RefusedWhere s (Cause (Some c) task Refused))
+  refused_cause = if_some b.contents _ (λ c told. record {
+    only = only_where Refused c told (λ e. e);
+    always = λ cause. always_where c ((s ≡ Refused) ⊎ (s ≡ TooWide)) told ((causes task).refused c s o.text cause);
+  })
+
+  pub wide_cause : IfSome b.contents (λ c. s ≡ TooWide → Cause (Some c) task TooWide)
+  wide_cause = if_some b.contents _ (λ c told. only_where TooWide c told (λ e. e))
+
+  pub usage_cause : ExactlyWhere Usage s (task ≡ None)
+  usage_cause = record {
+    only = λ e. (causes task).usage b.contents ((causes task).only b.contents Usage o.text (answers Usage e));
+    always = λ none. unless_cut s (work_of task) o.text b a o.answers (λ e. without_task b.contents task s o.text none e);
+  }
+
+  pub bad_plan_cause : IfSome b.contents (λ c. ExactlyWhere BadPlan s (Cause (Some c) task BadPlan))
+  bad_plan_cause = if_some b.contents _ (λ c told. exactly BadPlan c told (λ e. e) (λ given. given))
+
+  pub bad_line_cause : IfSome b.contents (λ c. ExactlyWhere BadTrace s (Cause (Some c) task BadTrace))
+  bad_line_cause = if_some b.contents _ (λ c told. exactly BadTrace c told (λ e. e) (λ given. given))
+
+  pub long_cause : IfSome b.contents (λ c. ExactlyWhere TooLong s (Cause (Some c) task TooLong))
+  long_cause = if_some b.contents _ (λ c told. exactly TooLong c told (λ e. e) (λ given. given))
+
+  pub read_cause : s ≡ ReadFault → Rose b.read_faults a.read_faults
+  read_cause e = (answers ReadFault e).0
+
+  pub write_cause : s ≡ WriteFault → Rose b.write_faults a.write_faults
+  write_cause e = (answers WriteFault e).0
+
+  pub sound_cause : IsTrue b.sound → IfSome b.contents (λ c. HasFiles c (work_of task) → (a.read_faults ≡ b.read_faults) × (b.read_faults < 2 ^ 64 - 1 → s ≢ ReadFault))
+  sound_cause h = if_some b.contents _ (λ c told has.
+      let same : a.read_faults ≡ b.read_faults = subst (λ k. IfSome k (λ d. HasFiles d (work_of task) → a.read_faults ≡ b.read_faults)) told (o.spared h) has in
+      (same, λ few e. stays same few (read_cause e))) where
+        stays : a.read_faults ≡ b.read_faults → b.read_faults < 2 ^ 64 - 1 → Rose b.read_faults a.read_faults → ⊥
+        stays same few (inl rose) = absurd (omega arith)
+        stays same few (inr end) = absurd (omega arith)

@@ -1,0 +1,13 @@
+-- What the words of the command line ask for.
+use Rattle.std.specs.Prelude.{ℕ, List}
+use Rattle.sccp_tool.specs.declared.start.Start.{Start}
+
+pub data Task : Type 0 where
+  -- shows the message of these octets
+  ShowHex : List ℕ → Task
+  -- shows the messages of the file of this name
+  Show : List ℕ → Task
+  -- verifies the plan of the file of this name
+  Verify : List ℕ → Task
+  -- follows a title from its start, under the plan of the file of this name
+  Route : List ℕ → Start → Task
