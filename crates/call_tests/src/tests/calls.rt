@@ -1,0 +1,125 @@
+//! Whole calls over files and sinks in memory.
+ghost use Rattle.std.specs.Prelude.{◌≢◌};
+ghost use Rattle.sccp_io.specs.Memory.{file_named, files_in};
+ghost use Rattle.sccp_tool.specs.Commands.{task_of, texts};
+ghost use Rattle.sccp_tool.specs.Run.{work_of};
+ghost use Rattle.sccp_tool.specs.Work.{HasFiles};
+
+use super::plan_texts::BACKED;
+use sccp_base::Octets;
+use sccp_io::{Files, MemoryFiles, MemorySink, Sink, SoundFiles, SoundSink};
+use sccp_tool::{Status, run};
+use std::alloc::{AllocError, Global};
+use std::test::Fail;
+
+/// The words between the blanks of a line.
+fn words_of(alloc: Global, line: &str) -> Result<Vec<String>, AllocError> {
+    let mut words = Vec::new(alloc);
+    for word in line.split(' ') {
+        words.push(word.to_string(alloc)?)?;
+    }
+    Ok(words)
+}
+
+/// One file named `f`.
+fn one_file(alloc: Global, octets: &[u8]) -> Result<Vec<(String, Vec<u8>)>, AllocError> {
+    let mut files = Vec::new(alloc);
+    files.push(("f".to_string(alloc)?, octets.to_vec(alloc)?))?;
+    Ok(files)
+}
+
+/// A sink in memory never fails but for memory, so no `WriteFault` comes.
+fn run_into_sound_sink<F: Files>(
+    alloc: Global,
+    words: &[String],
+    files: &mut F,
+    out: &mut SoundSink,
+) -> Status
+    ensures { result ≢ Status.WriteFault }
+{
+    run(alloc, words, files, out)
+}
+
+/// Files in memory that are all there never fail, so no `ReadFault` comes.
+fn run_over_sound_files<K: Sink>(
+    alloc: Global,
+    words: &[String],
+    files: Vec<(String, Vec<u8>)>,
+    out: &mut K,
+) -> Status
+    requires { HasFiles (file_named (files_in files.items)) (work_of (task_of (texts words.now))) }
+    ensures { result ≢ Status.ReadFault }
+{
+    let mut files = SoundFiles::new(files);
+    run(alloc, words, &mut files, out)
+}
+
+/// The status and the text of these words, over one file named `f`.
+pub fn answer(alloc: Global, line: &str, octets: &[u8]) -> Result<(Status, Octets), Fail> {
+    let words = words_of(alloc, line)?;
+    let mut files = SoundFiles::new(one_file(alloc, octets)?);
+    let mut out = SoundSink::new(alloc);
+    let status = run_into_sound_sink(alloc, &words, &mut files, &mut out);
+    Ok((
+        status,
+        Octets::from_vec(Vec::from_slice(alloc, out.taken())?),
+    ))
+}
+
+/// The file of a command is begun by the first call, the second takes its octets, and the third finds its end. An absent one
+/// fails at the first.
+#[test]
+fn a_fault_of_the_files_ends_the_call(rt: HostRuntime) -> Result<(), Fail> {
+    let alloc = rt.alloc();
+    for (line, failing) in [
+        ("show f", 0),
+        ("show f", 1),
+        ("show f", 2),
+        ("show g", 9),
+        ("verify f", 0),
+        ("verify f", 1),
+        ("verify f", 2),
+        ("verify g", 9),
+        ("route f b 4:0:1:4 6 49", 0),
+        ("route f b 4:0:1:4 6 49", 1),
+        ("route f b 4:0:1:4 6 49", 2),
+        ("route g b 4:0:1:4 6 49", 9),
+    ] {
+        let words = words_of(alloc, line)?;
+        let files = one_file(alloc, BACKED.as_bytes())?;
+        let mut files = MemoryFiles::new(files, vec![in alloc; failing]?);
+        let mut out = SoundSink::new(alloc);
+        let status = run(alloc, &words, &mut files, &mut out);
+        assert_eq!(rt; status, Status::ReadFault, "at {line}, call {failing}");
+        assert_eq!(rt;
+            out.taken(),
+            b"read fault\n".as_slice(),
+            "at {line}, call {failing}"
+        );
+    }
+    Ok(())
+}
+
+#[test]
+fn a_fault_of_the_sink_ends_the_call(rt: HostRuntime) -> Result<(), Fail> {
+    let alloc = rt.alloc();
+    for line in [
+        "show-hex 00",
+        "show-hex 0",
+        "show f",
+        "show g",
+        "verify f",
+        "route f a 4:0:1:4 6 49",
+    ] {
+        let words = words_of(alloc, line)?;
+        let mut files = SoundFiles::new(one_file(alloc, BACKED.as_bytes())?);
+        let mut out = MemorySink::new(alloc, vec![in alloc; 0]?);
+        assert_eq!(rt;
+            run(alloc, &words, &mut files, &mut out),
+            Status::WriteFault,
+            "at {line}"
+        );
+        assert_eq!(rt; out.taken(), b"".as_slice(), "at {line}");
+    }
+    Ok(())
+}

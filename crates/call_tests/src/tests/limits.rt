@@ -1,0 +1,228 @@
+//! Files and plans at their limits, which the text of a repeated piece reaches.
+use super::calls::answer;
+use super::plan_texts::BACKED;
+use sccp_tool::Status;
+use std::alloc::{AllocError, Global};
+use std::test::Fail;
+
+/// Appends a piece so many times.
+fn repeat(text: &mut Vec<u8>, piece: &str, count: usize) -> Result<(), AllocError> {
+    for _ in 0..count {
+        text.extend_from_slice(piece.as_bytes())?;
+    }
+    Ok(())
+}
+
+/// A piece so many times between two others.
+fn text_of(
+    alloc: Global,
+    head: &str,
+    piece: &str,
+    count: usize,
+    end: &str,
+) -> Result<Vec<u8>, AllocError> {
+    let mut text = Vec::from_slice(alloc, head.as_bytes())?;
+    repeat(&mut text, piece, count)?;
+    text.extend_from_slice(end.as_bytes())?;
+    Ok(text)
+}
+
+#[test]
+fn the_limits_of_lines_hold(rt: HostRuntime) -> Result<(), Fail> {
+    let alloc = rt.alloc();
+    for (piece, count, end, status, want) in [
+        ("0", 8192, "", Status::Done, "undecodable unknown type\n\n"),
+        (
+            "0",
+            8192,
+            "\n",
+            Status::Done,
+            "undecodable unknown type\n\n",
+        ),
+        (
+            "0",
+            8190,
+            "\r\n",
+            Status::Done,
+            "undecodable unknown type\n\n",
+        ),
+        (
+            "0",
+            8192,
+            "\r\n",
+            Status::BadTrace,
+            "bad trace line 1 too long\n",
+        ),
+        (
+            "0",
+            8193,
+            "",
+            Status::BadTrace,
+            "bad trace line 1 too long\n",
+        ),
+        ("\n", 1_000_000, "", Status::Done, ""),
+        (
+            "\n",
+            1_000_000,
+            "x",
+            Status::BadTrace,
+            "bad trace line 1000001 too many\n",
+        ),
+        (
+            "\n",
+            1_000_001,
+            "",
+            Status::BadTrace,
+            "bad trace line 1000001 too many\n",
+        ),
+        (
+            "x",
+            1_048_576,
+            "",
+            Status::BadTrace,
+            "bad trace line 1 too long\n",
+        ),
+        ("x", 1_048_577, "", Status::TooLong, "too long\n"),
+    ] {
+        let octets = text_of(alloc, "", piece, count, end)?;
+        let (found, text) = answer(alloc, "show f", &octets)?;
+        assert_eq!(rt; found, status, "at {count} of {piece:?}");
+        assert_eq!(rt; text.as_slice(), want.as_bytes(), "at {count} of {piece:?}");
+    }
+    Ok(())
+}
+
+/// A plan and a comment behind it, so many octets in all.
+fn plan_of_size(alloc: Global, size: usize) -> Result<Vec<u8>, AllocError> {
+    let mut octets = Vec::from_slice(alloc, BACKED.as_bytes())?;
+    octets.push(b'#')?;
+    for _ in octets.len()..size {
+        octets.push(b'x')?;
+    }
+    Ok(octets)
+}
+
+#[test]
+fn a_plan_file_has_a_greatest_size(rt: HostRuntime) -> Result<(), Fail> {
+    let alloc = rt.alloc();
+    for (line, size, status, want) in [
+        (
+            "route f b 4:0:1:4 6 49",
+            1_048_576,
+            Status::Done,
+            "unknown node\n",
+        ),
+        (
+            "route f b 4:0:1:4 6 49",
+            1_048_577,
+            Status::TooLong,
+            "too long\n",
+        ),
+        (
+            "verify f",
+            1_048_576,
+            Status::Done,
+            "accepted bound 1\nat a 4:0:1:4 6 490000000000 held none ended 2-0-1/6 target 0\n",
+        ),
+        ("verify f", 1_048_577, Status::TooLong, "too long\n"),
+    ] {
+        let octets = plan_of_size(alloc, size)?;
+        let (found, text) = answer(alloc, line, &octets)?;
+        assert_eq!(rt; found, status, "at {line}, {size}");
+        assert_eq!(rt; text.as_slice(), want.as_bytes(), "at {line}, {size}");
+    }
+    Ok(())
+}
+
+const NODE: &str = "[[node]]\nname = \"a\"\npoint = \"1-0-2\"\n";
+
+const ROW: &str = "{ selector = \"1:4\", prefix = \"49\", first = { final = \"2-0-1\" } },\n";
+
+const COVER: &str =
+    "[[cover]]\nnode = \"a\"\nselector = \"1:4\"\nssn = 6\nprefix = \"49\"\nleast = 2\nmost = 2\nallowed = [\"2-0-1/6\"]\n";
+
+/// A limit is told before the version's value, a repeated name and a missing cover; the nodes are counted first.
+#[test]
+fn the_limits_of_nodes_and_covers_hold(rt: HostRuntime) -> Result<(), Fail> {
+    let alloc = rt.alloc();
+    let one_row =
+        "version = 1\n[[node]]\nname = \"a\"\npoint = \"1-0-2\"\n[[node.row]]\nselector = \"1:4\"\nprefix = \"49\"\nfirst = { final = \"2-0-1\" }\n";
+    let both =
+        "[[node]]\nname = \"a\"\npoint = \"1-0-2\"\n[[cover]]\nnode = \"a\"\nselector = \"1:4\"\nssn = 6\nprefix = \"49\"\nleast = 2\nmost = 2\nallowed = []\n";
+    for (head, piece, count, end, want) in [
+        (
+            "version = 1\n",
+            NODE,
+            64,
+            "",
+            "bad plan repeated node 1 name\n",
+        ),
+        ("version = 1\n", NODE, 65, "", "bad plan limit nodes\n"),
+        ("version = 3\n", NODE, 65, "", "bad plan limit nodes\n"),
+        ("version = 1\n", both, 257, "", "bad plan limit nodes\n"),
+        (
+            one_row,
+            COVER,
+            256,
+            "",
+            "accepted bound 1\nat a 1:4 6 49 held none ended 2-0-1/6 target 0\n",
+        ),
+        (one_row, COVER, 257, "", "bad plan limit covers\n"),
+        (
+            one_row,
+            COVER,
+            255,
+            "[[cover]]\nnode = \"a\"\nselector = \"1:4\"\nssn = 6\nprefix = \"48\"\nleast = 2\nmost = 2\nallowed = []\n",
+            "refused no row 1 cover 255 steady yes\nat a 1:4 6 48 held none no row 1\n",
+        ),
+    ] {
+        let octets = text_of(alloc, head, piece, count, end)?;
+        let (_, text) = answer(alloc, "verify f", &octets)?;
+        assert_eq!(rt; text.as_slice(), want.as_bytes(), "at {count}");
+    }
+    Ok(())
+}
+
+/// Two relays with so many rows each.
+fn plan_of_rows(alloc: Global, first: usize, second: usize) -> Result<Vec<u8>, AllocError> {
+    let mut text = Vec::from_slice(alloc, b"version = 1\n")?;
+    for (node, count) in [
+        (
+            "[[node]]\nname = \"a\"\npoint = \"1-0-2\"\nrow = [\n",
+            first,
+        ),
+        (
+            "[[node]]\nname = \"b\"\npoint = \"1-0-3\"\nrow = [\n",
+            second,
+        ),
+    ] {
+        text.extend_from_slice(node.as_bytes())?;
+        repeat(&mut text, ROW, count)?;
+        text.extend_from_slice(b"]\n")?;
+    }
+    Ok(text)
+}
+
+/// The rows of all relays are counted together.
+#[test]
+fn the_limit_of_rows_holds(rt: HostRuntime) -> Result<(), Fail> {
+    let alloc = rt.alloc();
+    for (first, second, want) in [
+        (2048, 2048, "bad plan rule node 0 twice 0 1\n"),
+        (2048, 2049, "bad plan limit rows\n"),
+        (4097, 0, "bad plan limit rows\n"),
+    ] {
+        let octets = plan_of_rows(alloc, first, second)?;
+        let (_, text) = answer(alloc, "verify f", &octets)?;
+        assert_eq!(rt; text.as_slice(), want.as_bytes(), "at {first} and {second}");
+    }
+    let last = "{ selector = \"1:4\", prefix = \"49\", first = { relay = \"a\" } }]\n";
+    let head = "version = 1\n[[node]]\nname = \"a\"\npoint = \"1-0-2\"\nrow = [\n";
+    let octets = text_of(alloc, head, ROW, 4095, last)?;
+    let (_, text) = answer(alloc, "verify f", &octets)?;
+    assert_eq!(rt;
+        text.as_slice(),
+        b"bad plan relay to self node 0 row 4095 first\n".as_slice()
+    );
+    Ok(())
+}

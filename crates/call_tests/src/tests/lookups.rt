@@ -1,0 +1,84 @@
+//! Look-ups in a relay's rows with the rows counted that are looked at.
+ghost use Rattle.std.specs.Prelude.{◌≡◌, ◌≤◌, ◌<◌, ◌+◌, length};
+
+use super::plan_texts::NESTED_PREFIXES;
+use plan_rules::{Steps, Table};
+use plan_text::read;
+use sccp_base::{Digits, Selector};
+use std::alloc::Global;
+use std::marker::Brand;
+use std::sync::ledger::{Blank, Ledger};
+use std::test::Fail;
+
+/// No look-up among 4,096 rows, the most that a plan has, looks at more than 58.
+fn found<L: Ledger>(
+    table: &Table,
+    selector: Selector,
+    digits: &Digits,
+    steps: &mut Steps<L>,
+) -> Option<usize>
+    requires { length table.now ≤ 4096 }
+    ensures { steps.new ≤ steps.old + 58 }
+{
+    table.find_counted(selector, 6, digits, steps)
+}
+
+/// A look-up with a counter of its own.
+fn found_anew<L: Ledger>(
+    table: &Table,
+    selector: Selector,
+    digits: &Digits,
+    blank: Blank,
+) -> Option<usize>
+    requires name { blank.name ≡ L.name }
+    requires parts { blank.parts ≡ L.parts }
+    requires some { 0 < blank.parts }
+    requires rows { length table.now ≤ 4096 }
+{
+    let mut steps = Steps::<L>::new(blank);
+    found(table, selector, digits, &mut steps)
+}
+
+/// The place of the row that counts, with the count.
+fn counted(table: &Table, selector: Selector, digits: &Digits) -> Option<usize>
+    requires { length table.now ≤ 4096 }
+{
+    found_anew::<Brand>(table, selector, digits, Blank::new(1))
+}
+
+/// The row that counts for a title at the plan's first relay, without a count and with one.
+fn rows_for(
+    alloc: Global,
+    text: &str,
+    digits: &str,
+) -> Result<(Option<usize>, Option<usize>), Fail> {
+    let plan = read(alloc, text.as_bytes())?;
+    let selector = Selector::new(4, 0, 1, 4).ok_or("a selector")?;
+    let digits = Digits::parse(digits.as_bytes())?;
+    let Some(node) = plan.nodes().as_slice().first() else {
+        return Err("a relay")?;
+    };
+    if node.table.len() > 4096 {
+        return Err("rows of a plan")?;
+    }
+    Ok((
+        node.table.find(selector, 6, &digits),
+        counted(&node.table, selector, &digits),
+    ))
+}
+
+#[test]
+fn a_count_changes_no_look_up(rt: HostRuntime) -> Result<(), Fail> {
+    for (digits, want) in [
+        ("11110", Some(0)),
+        ("111111", Some(6)),
+        ("1113", Some(3)),
+        ("119", Some(1)),
+        ("19", Some(4)),
+        ("9", Some(2)),
+    ] {
+        let found = rows_for(rt.alloc(), NESTED_PREFIXES, digits)?;
+        assert_eq!(rt; found, (want, want), "at {digits}");
+    }
+    Ok(())
+}

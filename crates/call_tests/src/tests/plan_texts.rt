@@ -1,0 +1,252 @@
+//! Texts of plans.
+
+/// A relay that sends titles of 49 to 2-0-1, and to 2-0-2 where that is closed.
+pub const BACKED: &str = r#"version = 1
+[[node]]
+name = "a"
+point = "1-0-2"
+subsystems = [8]
+[[node.row]]
+selector = "4:0:1:4"
+prefix = "49"
+first = { final = "2-0-1", ssn = 6 }
+backup = { final = "2-0-2", ssn = 6 }
+[[cover]]
+node = "a"
+selector = "4:0:1:4"
+ssn = 6
+prefix = "49"
+least = 12
+most = 12
+allowed = ["2-0-1/6", "2-0-2/6"]
+"#;
+
+/// The same, where 2-0-2 isn't allowed.
+pub const BACKUP_FORBIDDEN: &str = r#"version = 1
+[[node]]
+name = "a"
+point = "1-0-2"
+[[node.row]]
+selector = "4:0:1:4"
+prefix = "49"
+first = { final = "2-0-1", ssn = 6 }
+backup = { final = "2-0-2", ssn = 6 }
+[[cover]]
+node = "a"
+selector = "4:0:1:4"
+ssn = 6
+prefix = "49"
+least = 12
+most = 12
+allowed = ["2-0-1/6"]
+"#;
+
+/// A relay that sends titles of 49 to 2-0-1 alone.
+pub const ONE_TARGET: &str = r#"version = 1
+[[node]]
+name = "a"
+point = "1-0-2"
+subsystems = [8]
+concerned = ["1-0-7", "2-0-1"]
+[[node.row]]
+selector = "4:0:1:4"
+prefix = "49"
+first = { final = "2-0-1", ssn = 6 }
+[[cover]]
+node = "a"
+selector = "4:0:1:4"
+ssn = 6
+prefix = "49"
+least = 12
+most = 12
+allowed = ["2-0-1/6", "2-0-2/6"]
+"#;
+
+/// A relay that has a row for some of the covered titles alone.
+pub const ROW_OF_SOME: &str = r#"version = 1
+[[node]]
+name = "a"
+point = "1-0-2"
+[[node.row]]
+selector = "4:0:1:4"
+prefix = "4917"
+first = { final = "2-0-1", ssn = 6 }
+[[cover]]
+node = "a"
+selector = "4:0:1:4"
+ssn = 6
+prefix = "49"
+least = 12
+most = 12
+allowed = ["2-0-1/6"]
+"#;
+
+/// A relay that sends titles of 49 to three places, and those of subsystem 8 to a fourth.
+pub const THREE_TARGETS: &str = r#"version = 2
+[[node]]
+name = "a"
+point = "1-0-2"
+[[node.row]]
+selector = "4:0:1:4"
+prefix = "49"
+targets = [
+    { final = "2-0-1", ssn = 6 },
+    { final = "2-0-2", ssn = 6 },
+    { final = "2-0-3", ssn = 6 },
+]
+[[node.row]]
+selector = "4:0:1:4"
+prefix = "49"
+ssn = 8
+targets = [{ final = "2-0-4" }]
+[[cover]]
+node = "a"
+selector = "4:0:1:4"
+ssn = 6
+prefix = "49"
+least = 12
+most = 12
+allowed = ["2-0-1/6", "2-0-2/6", "2-0-3/6"]
+"#;
+
+/// A relay that sends titles of 49 to eight places.
+pub const EIGHT_TARGETS: &str = r#"version = 2
+[[node]]
+name = "a"
+point = "1-0-2"
+[[node.row]]
+selector = "4:0:1:4"
+prefix = "49"
+targets = [
+    { final = "2-0-1", ssn = 6 },
+    { final = "2-0-2", ssn = 6 },
+    { final = "2-0-3", ssn = 6 },
+    { final = "2-0-4", ssn = 6 },
+    { final = "2-0-5", ssn = 6 },
+    { final = "2-0-6", ssn = 6 },
+    { final = "2-0-7", ssn = 6 },
+    { final = "2-1-0", ssn = 6 },
+]
+[[cover]]
+node = "a"
+selector = "4:0:1:4"
+ssn = 6
+prefix = "49"
+least = 12
+most = 12
+allowed = []
+"#;
+
+/// Two relays, of which the first puts a 0 in place of 49 and changes the nature of address to 3.
+pub const ROAMING: &str = r#"version = 1
+[[node]]
+name = "a"
+point = "1-0-2"
+[[node.row]]
+selector = "4:0:1:4"
+prefix = "49"
+first = { relay = "b", strip = 2, put = "0", selector = "4:0:1:3" }
+[[node]]
+name = "b"
+point = "1-0-3"
+[[node.row]]
+selector = "4:0:1:3"
+prefix = "0"
+first = { final = "2-0-1" }
+[[cover]]
+node = "a"
+selector = "4:0:1:4"
+ssn = 6
+prefix = "49"
+least = 12
+most = 12
+allowed = ["2-0-1/6"]
+"#;
+
+/// Two relays without rows, and a cover of three to four digits at the first.
+pub const NO_ROWS: &str = r#"version = 1
+[[node]]
+name = "a"
+point = "1-0-2"
+[[node]]
+name = "b"
+point = "1-0-3"
+[[cover]]
+node = "a"
+selector = "4:0:1:4"
+ssn = 6
+prefix = "49"
+least = 3
+most = 4
+allowed = []
+"#;
+
+/// A relay with rows of which each prefix but the last begins another, written in no order.
+pub const NESTED_PREFIXES: &str = r#"version = 2
+[[node]]
+name = "a"
+point = "1-0-2"
+row = [
+    { selector = "4:0:1:4", prefix = "1111", targets = [{ final = "2-0-1" }] },
+    { selector = "4:0:1:4", prefix = "11", targets = [{ final = "2-0-1" }] },
+    { selector = "4:0:1:4", prefix = "", targets = [{ final = "2-0-1" }] },
+    { selector = "4:0:1:4", prefix = "111", targets = [{ final = "2-0-1" }] },
+    { selector = "4:0:1:4", prefix = "1", targets = [{ final = "2-0-1" }] },
+    { selector = "4:0:1:4", prefix = "1112", targets = [{ final = "2-0-1" }] },
+    { selector = "4:0:1:4", prefix = "11111", targets = [{ final = "2-0-1" }] },
+]
+[[cover]]
+node = "a"
+selector = "4:0:1:4"
+ssn = 6
+prefix = "1"
+least = 1
+most = 9
+allowed = []
+"#;
+
+/// A relay that sends titles of any digits to 2-0-1.
+pub const ANY_DIGITS: &str = r#"version = 1
+[[node]]
+name = "a"
+point = "1-0-2"
+subsystems = [8]
+[[node.row]]
+selector = "4:0:1:4"
+prefix = ""
+first = { final = "2-0-1", ssn = 6 }
+[[cover]]
+node = "a"
+selector = "4:0:1:4"
+ssn = 6
+prefix = ""
+least = 1
+most = 15
+allowed = ["2-0-1/6", "2-0-2/6"]
+"#;
+
+/// Two relays, of which the first puts fifteen zeros before the digits.
+pub const FIFTEEN_ZEROS: &str = r#"version = 1
+[[node]]
+name = "a"
+point = "1-0-2"
+[[node.row]]
+selector = "4:0:1:4"
+prefix = "49"
+first = { relay = "b", put = "000000000000000" }
+[[node]]
+name = "b"
+point = "1-0-3"
+[[node.row]]
+selector = "4:0:1:4"
+prefix = ""
+first = { final = "2-0-1", ssn = 6 }
+[[cover]]
+node = "a"
+selector = "4:0:1:4"
+ssn = 6
+prefix = "49"
+least = 12
+most = 12
+allowed = ["2-0-1/6"]
+"#;

@@ -1,0 +1,131 @@
+//! Worked segments.
+use sccp_address::{Address, Title};
+use sccp_base::{Octets, Reference};
+use sccp_segment::{Key, Pool, PoolFault, Segment, SplitDataFault, Taken, Why, split_data};
+use std::alloc::Global;
+use std::test::Fail;
+
+fn reference(value: u32) -> Result<Reference, Fail> {
+    Ok(Reference::new(value).ok_or("a reference")?)
+}
+
+/// The key of a reference and of subsystem 8 as the sender.
+fn key(value: u32) -> Result<Key, Fail> {
+    Ok(Key {
+        calling: Address {
+            national: false,
+            by_ssn: true,
+            pc: None,
+            ssn: Some(8),
+            title: Title::Absent,
+        },
+        reference: reference(value)?,
+    })
+}
+
+fn segment(alloc: Global, first: bool, remaining: u8, octet: u8) -> Result<Segment, Fail> {
+    Ok(Segment {
+        first,
+        in_sequence: false,
+        remaining,
+        reference: reference(9)?,
+        payload: Octets::from_vec(Vec::from_slice(alloc, &[octet])?),
+    })
+}
+
+/// A number for each answer, and the data where the message is whole.
+fn told(taken: Result<Taken, PoolFault>) -> (u8, Option<Octets>) {
+    match taken {
+        Ok(Taken::More) => (0, None),
+        Ok(Taken::Whole(octets)) => (1, Some(octets)),
+        Ok(Taken::Dropped(Why::NotFirst)) => (2, None),
+        Ok(Taken::Dropped(Why::OutOfStep)) => (3, None),
+        Ok(Taken::Dropped(Why::Restarted)) => (4, None),
+        Err(PoolFault::Full) => (5, None),
+        Err(PoolFault::OutOfMemory) => (6, None),
+    }
+}
+
+fn takes(
+    alloc: Global,
+    pool: &mut Pool,
+    value: u32,
+    first: bool,
+    remaining: u8,
+) -> Result<u8, Fail> {
+    Ok(told(pool.take(key(value)?, segment(alloc, first, remaining, remaining)?)).0)
+}
+
+fn is_whole(taken: Result<Taken, PoolFault>, octets: &[u8]) -> bool {
+    match told(taken) {
+        (1, Some(whole)) => whole.as_slice() == octets,
+        _ => false,
+    }
+}
+
+#[test]
+fn data_is_cut(rt: HostRuntime) -> Result<(), Fail> {
+    let segments = split_data(rt.alloc(), &[1, 2, 3, 4, 5], 2, reference(9)?, true)?;
+    assert_eq!(rt; segments.as_slice().len(), 3);
+    let cut: [(bool, u8, &[u8]); 3] = [(true, 2, &[1, 2]), (false, 1, &[3, 4]), (false, 0, &[5])];
+    for (segment, (first, remaining, payload)) in segments.as_slice().iter().zip(cut.iter()) {
+        assert_eq!(rt; segment.first, *first);
+        assert_eq!(rt; segment.remaining, *remaining);
+        assert_eq!(rt; segment.payload.as_slice(), *payload);
+    }
+    Ok(())
+}
+
+/// No data is one segment without octets.
+#[test]
+fn no_data_is_one_segment(rt: HostRuntime) -> Result<(), Fail> {
+    let segments = split_data(rt.alloc(), &[], 2, reference(9)?, true)?;
+    match segments.as_slice() {
+        [one] => {
+            assert!(rt; one.first && one.remaining == 0 && one.payload.as_slice().is_empty());
+        }
+        _ => panic!(rt; "one segment"),
+    }
+    Ok(())
+}
+
+#[test]
+fn cuts_are_refused(rt: HostRuntime) -> Result<(), Fail> {
+    let zero = split_data(rt.alloc(), &[1], 0, reference(9)?, true);
+    assert!(rt; matches!(&zero, Err(SplitDataFault::ZeroSize)));
+    let many = split_data(rt.alloc(), &[0; 17], 1, reference(9)?, true);
+    assert!(rt; matches!(&many, Err(SplitDataFault::TooMany)));
+    Ok(())
+}
+
+#[test]
+fn segments_become_whole(rt: HostRuntime) -> Result<(), Fail> {
+    let mut pool = Pool::new(rt.alloc());
+    assert_eq!(rt; takes(rt.alloc(), &mut pool, 1, true, 2)?, 0);
+    assert_eq!(rt; takes(rt.alloc(), &mut pool, 2, true, 1)?, 0);
+    assert_eq!(rt; takes(rt.alloc(), &mut pool, 1, false, 1)?, 0);
+    assert!(rt;
+        is_whole(
+            pool.take(key(1)?, segment(rt.alloc(), false, 0, 0)?),
+            &[2, 1, 0]
+        )
+    );
+    assert_eq!(rt; takes(rt.alloc(), &mut pool, 2, true, 1)?, 4);
+    assert_eq!(rt; takes(rt.alloc(), &mut pool, 2, false, 1)?, 3);
+    assert_eq!(rt; takes(rt.alloc(), &mut pool, 2, false, 0)?, 2);
+    assert_eq!(rt; pool.len(), 0);
+    Ok(())
+}
+
+#[test]
+fn a_full_pool_refuses(rt: HostRuntime) -> Result<(), Fail> {
+    let mut pool = Pool::new(rt.alloc());
+    for value in 0..64_u32 {
+        assert_eq!(rt; takes(rt.alloc(), &mut pool, value, true, 1)?, 0);
+    }
+    assert_eq!(rt; takes(rt.alloc(), &mut pool, 64, true, 1)?, 5);
+    assert_eq!(rt; takes(rt.alloc(), &mut pool, 64, true, 0)?, 1);
+    assert_eq!(rt; takes(rt.alloc(), &mut pool, 63, true, 1)?, 4);
+    assert_eq!(rt; pool.len(), 64);
+    Ok(())
+}

@@ -1,0 +1,190 @@
+//! Traces, fed in pieces.
+ghost use Rattle.std.specs.Prelude.{◌<◌};
+
+use std::alloc::Global;
+use std::test::Fail;
+use trace_text::{Line, LineFault, LineKind, Numbered, Reader};
+
+/// Five lines: messages of a relay that loses two points, one after the other.
+const TRACE: &[u8] = b"msg a 1-0-1 0900030E120B1206001204947101000021044301080802AABB\n\
+pause a 2-0-1\r\n\
+msg a 4103 00ff\n\
+\n\
+fence";
+
+/// A line as text for a test: its number, a letter for its kind, and what it names.
+fn same(got: &Numbered, number: u32, kind: &[u8], value: usize) -> bool {
+    got.number == number && is_kind(&got.line, kind) && value_of(&got.line) == value
+}
+
+fn is_kind(line: &Line, kind: &[u8]) -> bool {
+    let name: &[u8] = match line {
+        Line::Msg { .. } => b"msg",
+        Line::Pause(..) => b"pause",
+        Line::Resume(..) => b"resume",
+        Line::NoSccp(..) => b"no-sccp",
+        Line::Up(..) => b"up",
+        Line::Down(..) => b"down",
+        Line::Tick(..) => b"tick",
+        Line::Plan(..) => b"plan",
+        Line::Fence => b"fence",
+        Line::Skip => b"skip",
+    };
+    name == kind
+}
+
+/// The point or the subsystem of a line, or how many octets its message or its file's name has.
+fn value_of(line: &Line) -> usize {
+    match line {
+        Line::Msg { octets, .. } => octets.as_slice().len(),
+        Line::Pause(_, point) | Line::Resume(_, point) | Line::NoSccp(_, point) => {
+            usize::from(point.value())
+        }
+        Line::Up(_, ssn) | Line::Down(_, ssn) => usize::from(*ssn),
+        Line::Plan(name) => name.as_slice().len(),
+        _ => 0,
+    }
+}
+
+/// The node and the origin of a message.
+fn comes_from(line: &Line, name: &[u8], point: u16) -> bool {
+    match line {
+        Line::Msg { node, origin, .. } => node.as_slice() == name && origin.value() == point,
+        _ => false,
+    }
+}
+
+/// Feeds the text in pieces of a length.
+fn read(
+    alloc: Global,
+    text: &[u8],
+    piece: usize,
+) -> Result<(Vec<Numbered>, Option<LineFault>), Fail>
+    requires { 0 < piece }
+{
+    let mut reader = Reader::new(alloc);
+    let mut lines = Vec::new(alloc);
+    for part in text.chunks(piece) {
+        for line in reader.feed(part)?.lines.into_vec() {
+            lines.push(line)?;
+        }
+    }
+    let end = reader.finish()?;
+    for line in end.lines.into_vec() {
+        lines.push(line)?;
+    }
+    Ok((lines, end.fault))
+}
+
+#[test]
+fn any_cutting_gives_the_same_lines(rt: HostRuntime) -> Result<(), Fail> {
+    for piece in [1, 2, 7, 1000] {
+        let (lines, fault) = read(rt.alloc(), TRACE, piece)?;
+        assert!(rt; fault.is_none() && lines.len() == 5);
+        assert!(rt; same(&lines[0], 1, b"msg", 25) && same(&lines[1], 2, b"pause", 4097));
+        assert!(rt; same(&lines[2], 3, b"msg", 2) && same(&lines[3], 4, b"skip", 0));
+        assert!(rt; same(&lines[4], 5, b"fence", 0));
+        assert!(rt;
+            comes_from(&lines[0].line, b"a", 2049) && comes_from(&lines[2].line, b"a", 4103)
+        );
+    }
+    Ok(())
+}
+
+#[test]
+fn each_form_is_read(rt: HostRuntime) -> Result<(), Fail> {
+    let table: [(&[u8], &[u8], usize); 22] = [
+        (b"resume b_2-c 2-0-007", b"resume", 4103),
+        (b"no-sccp a 16383", b"no-sccp", 16383),
+        (b"up a 255", b"up", 255),
+        (b"down a 007", b"down", 7),
+        (b"tick seventeen-octet_s", b"", 0),
+        (b"tick sixteen_octets-_", b"tick", 0),
+        (b"plan q.toml", b"plan", 6),
+        (b"# plan ", b"skip", 0),
+        (b"#", b"skip", 0),
+        (b"what", b"", 0),
+        (b"fence ", b"", 0),
+        (b" fence", b"", 0),
+        (b"fence\r", b"", 0),
+        (b"up a 256", b"", 0),
+        (b"up a 0255", b"", 0),
+        (b"up  a 255", b"", 0),
+        (b"tick a b", b"", 0),
+        (b"plan a b", b"", 0),
+        (b"msg a 1-0-1 ", b"", 0),
+        (b"msg a 1-0-1 0", b"", 0),
+        (b"msg a 1-0-1 00 ", b"", 0),
+        (b"pause a 16384", b"", 0),
+    ];
+    for (text, kind, value) in table {
+        let (lines, fault) = read(rt.alloc(), text, 5)?;
+        if kind.is_empty() {
+            assert_eq!(rt;
+                fault,
+                Some(LineFault {
+                    number: 1,
+                    kind: LineKind::NotALine
+                })
+            );
+        } else {
+            assert!(rt; fault.is_none() && lines.len() == 1 && same(&lines[0], 1, kind, value));
+        }
+    }
+    Ok(())
+}
+
+#[test]
+fn a_fault_stands_from_its_octet_on(rt: HostRuntime) -> Result<(), Fail> {
+    let mut reader = Reader::new(rt.alloc());
+    let first = reader.feed(b"fence\nfence\nwhat")?;
+    assert!(rt; first.lines.as_slice().len() == 2 && first.fault.is_none());
+    let second = reader.feed(b"\nfence\n")?;
+    let fault = Some(LineFault {
+        number: 3,
+        kind: LineKind::NotALine,
+    });
+    assert!(rt; second.lines.as_slice().is_empty() && second.fault == fault);
+    assert!(rt; reader.feed(b"fence\n")?.fault == fault && reader.finish()?.fault == fault);
+    Ok(())
+}
+
+#[test]
+fn limits_stand_at_their_octet(rt: HostRuntime) -> Result<(), Fail> {
+    let line = vec![in rt.alloc(); b'#'; 8192]?;
+    let mut reader = Reader::new(rt.alloc());
+    assert!(rt; reader.feed(&line)?.fault.is_none());
+    assert!(rt; reader.feed(b"\n")?.lines.as_slice().len() == 1);
+    assert!(rt; reader.feed(&line)?.fault.is_none());
+    let fault = Some(LineFault {
+        number: 2,
+        kind: LineKind::TooLong,
+    });
+    assert!(rt; reader.feed(b"\r")?.fault == fault && reader.finish()?.fault == fault);
+    Ok(())
+}
+
+#[test]
+fn the_line_past_the_last_is_refused(rt: HostRuntime) -> Result<(), Fail> {
+    let feeds = vec![in rt.alloc(); b'\n'; 1_000_000]?;
+    let mut reader = Reader::new(rt.alloc());
+    assert!(rt; reader.feed(&feeds)?.lines.as_slice().len() == 1_000_000);
+    assert!(rt; reader.feed(b"")?.fault.is_none());
+    let fault = Some(LineFault {
+        number: 1_000_001,
+        kind: LineKind::TooMany,
+    });
+    assert!(rt; reader.feed(b"f")?.fault == fault);
+    Ok(())
+}
+
+#[test]
+fn nothing_comes_after_the_end(rt: HostRuntime) -> Result<(), Fail> {
+    let mut reader = Reader::new(rt.alloc());
+    assert!(rt; reader.feed(b"fence")?.lines.as_slice().is_empty());
+    assert!(rt; reader.finish()?.lines.as_slice().len() == 1);
+    let after = reader.feed(b"fence\n")?;
+    assert!(rt; after.lines.as_slice().is_empty() && after.fault.is_none());
+    assert!(rt; reader.finish()?.lines.as_slice().is_empty());
+    Ok(())
+}
