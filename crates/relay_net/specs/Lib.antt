@@ -1,3 +1,5 @@
 pub mod Relays
 pub mod Journeys
 pub mod Headline
+pub mod States
+pub mod Batches

@@ -8,18 +8,26 @@
 
 mod back;
 mod end;
+mod happening;
 mod holds_marking;
 mod job;
 mod laws;
+mod net;
+mod node_state;
+mod outcome;
 mod served;
 mod travelled;
 mod travelling;
 
 pub use back::Back;
 pub use end::End;
+pub use happening::Happening;
 pub use holds_marking::HoldsMarking;
 pub use job::Job;
 pub use laws::covered_messages_go_well;
+pub use net::Net;
+pub use node_state::NodeState;
+pub use outcome::Outcome;
 pub use served::Served;
 pub use travelled::Journey;
 pub use travelling::journey;
