@@ -3,6 +3,7 @@ pub mod Ending
 pub mod Limit
 pub mod LineFault
 pub mod Moment
+pub mod Opened
 pub mod Parsed
 pub mod Plans
 pub mod Reading

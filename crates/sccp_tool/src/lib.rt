@@ -9,6 +9,7 @@
 mod command;
 mod limit;
 mod line_fault;
+mod opened;
 mod plans;
 mod program;
 mod reading;

@@ -1,7 +1,10 @@
 //! A file that a command needs whole.
+ghost use Rattle.std.specs.Prelude.{◌≡◌};
 ghost use Rattle.sccp_tool.specs.Limit.{GivesWhole};
 ghost use Rattle.sccp_tool.specs.Moment.{moment};
+ghost use Rattle.sccp_tool.specs.Opened.{other};
 
+use crate::opened::Opened;
 use crate::reading::read_whole;
 use crate::status::Status;
 use crate::stop::{Stop, early};
@@ -17,15 +20,18 @@ const LONGEST_FILE: usize = 1_048_576;
 /// Reads a whole file. One that is too long is told by a line, and that is the answer of the command.
 pub fn within_limit<F: Files, K: Sink>(
     alloc: Global,
+    which: Opened,
     name: &str,
     files: &mut F,
     out: &mut K,
 ) -> Result<Vec<u8>, Stop>
-    ensures { GivesWhole name.now result
+    ensures whole { GivesWhole name.now result
         (moment F.contents F.sound F.faults K.taken K.faults files.old out.old)
         (moment F.contents F.sound F.faults K.taken K.faults files.new out.new) }
+    // What is left of the other file stays.
+    ensures other { other which (F.left files.new) (F.left_beside files.new) ≡ other which (F.left files.old) (F.left_beside files.old) }
 {
-    match read_whole(alloc, files, name, LONGEST_FILE)? {
+    match read_whole(alloc, files, which, name, LONGEST_FILE)? {
         Some(octets) => Ok(octets),
         None => Err(early(print_last(out, TOO_LONG, Status::TooLong))),
     }

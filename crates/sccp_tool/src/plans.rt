@@ -6,6 +6,7 @@ ghost use Rattle.sccp_tool.specs.Moment.{moment};
 ghost use Rattle.sccp_tool.specs.Plans.{bad_plan, GivesPlan};
 
 use crate::limit::within_limit;
+use crate::opened::Opened;
 use crate::status::Status;
 use crate::stop::{Stop, early};
 use crate::writing::print_last;
@@ -27,7 +28,7 @@ pub fn with_plan<F: Files, K: Sink>(
         (moment F.contents F.sound F.faults K.taken K.faults files.new out.new) }
     ensures sound { IfOk result IsPlan }
 {
-    let text = within_limit(alloc, name, files, out)?;
+    let text = within_limit(alloc, Opened::First, name, files, out)?;
     match plan_text::read(alloc, &text) {
         Ok(plan) => Ok(plan),
         Err(fault) => {

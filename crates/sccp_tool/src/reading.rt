@@ -1,7 +1,9 @@
 //! Reading a whole file within a limit.
 ghost use Rattle.std.specs.Prelude.{◌≡◌, ◌<◌, ◌^◌};
+ghost use Rattle.sccp_tool.specs.Opened.{other};
 ghost use Rattle.sccp_tool.specs.Reading.{ReadsFile, reading_stop};
 
+use crate::opened::{Opened, begin, take};
 use crate::stop::Stop;
 use sccp_io::{Files, IoFault};
 use std::alloc::Global;
@@ -13,20 +15,23 @@ const PIECE: usize = 4096;
 pub fn read_whole<F: Files>(
     alloc: Global,
     files: &mut F,
+    which: Opened,
     name: &str,
     limit: usize,
 ) -> Result<Option<Vec<u8>>, Stop>
     requires { limit < 2 ^ 32 }
-    ensures { ReadsFile name.now limit result (F.contents files.old) (F.contents files.new) (F.sound files.old) (F.sound files.new)
+    ensures reads { ReadsFile name.now limit result (F.contents files.old) (F.contents files.new) (F.sound files.old) (F.sound files.new)
         (F.faults files.old) (F.faults files.new) }
+    // What is left of the other file stays.
+    ensures other { other which (F.left files.new) (F.left_beside files.new) ≡ other which (F.left files.old) (F.left_beside files.old) }
 {
-    if let Err(fault) = files.begin(name) {
+    if let Err(fault) = begin(files, which, name) {
         return Err(stopped(fault));
     }
     let mut octets = Vec::new(alloc);
     let mut piece = [0u8; PIECE];
     while octets.len() <= limit {
-        let count = match files.take(&mut piece) {
+        let count = match take(files, which, &mut piece) {
             Ok(count) => count,
             Err(fault) => return Err(stopped(fault)),
         };
@@ -39,7 +44,7 @@ pub fn read_whole<F: Files>(
 }
 
 /// How a fault of the files stops the work.
-fn stopped(fault: IoFault) -> Stop
+pub fn stopped(fault: IoFault) -> Stop
     ensures { result ≡ reading_stop fault }
 {
     match fault {

@@ -11,6 +11,7 @@ ghost use Rattle.sccp_tool.specs.declared.show.ShowError.TheVariants.{Memory};
 use crate::command::Command;
 use crate::limit::within_limit;
 use crate::line_fault::bad_line;
+use crate::opened::Opened;
 use crate::status::Status;
 use crate::stop::Stop;
 use crate::writing::print_last;
@@ -71,7 +72,7 @@ pub fn show<F: Files, K: Sink>(
         (moment F.contents F.sound F.faults K.taken K.faults files.old out.old)
         (moment F.contents F.sound F.faults K.taken K.faults files.new out.new) }
 {
-    let octets = within_limit(alloc, name, files, out)?;
+    let octets = within_limit(alloc, Opened::First, name, files, out)?;
     let (status, text) = show_answer(alloc, &octets)?;
     print_last(out, &text, status)
 }

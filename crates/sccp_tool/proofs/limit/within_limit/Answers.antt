@@ -10,9 +10,9 @@ use Rattle.sccp_tool.proofs.LimitLemmas.{file_or_answer, Works-long, Works-withi
 use Rattle.sccp_tool.proofs.WorkLemmas.{Works-answered, Works-early, Works-reading}
 use Rattle.sccp_tool.proofs.limit.within_limit.Goals as goal
 
-pub returns-in_err-octets : goal.returns-in_err-octets
-returns-in_err-octets g c =
-    let e = c.in_err-octets.ensures in
+pub returns-in_err-octets-clause-whole : goal.returns-in_err-octets-clause-whole
+returns-in_err-octets-clause-whole g c =
+    let e = c.in_err-octets.ensures.reads in
     let p = err_from_is_err_and c.from_residual.result c.from_residual.ensures.1 in
     let b : Moment = moment g.F.Files.contents g.F.Files.sound g.F.Files.faults g.K.Sink.taken g.K.Sink.faults c.args.files.now c.args.out.now in
     let m : Moment = moment g.F.Files.contents g.F.Files.sound g.F.Files.faults g.K.Sink.taken g.K.Sink.faults c.read_whole.new.files c.args.out.now in
@@ -21,9 +21,9 @@ returns-in_err-octets g c =
     (record { contents = e.same; sound = e.soundness; read_faults = e.later; taken = refl; write_faults = refl })
     e.spared (λ h. e.failed (ap Err h)) (λ h. e.no_writing (ap Err h)) (λ s h. e.no_answer s (ap Err h)))
 
-pub returns-in-Some : goal.returns-in-Some
-returns-in-Some g c =
-    let e = c.in_ok-octets.ensures in
+pub returns-in-Some-clause-whole : goal.returns-in-Some-clause-whole
+returns-in-Some-clause-whole g c =
+    let e = c.in_ok-octets.ensures.reads in
     let given = subst (GivesFile (g.F.Files.contents c.args.files.now) c.args.name.now 1048576) c.in-Some.is e.gives in
     let b : Moment = moment g.F.Files.contents g.F.Files.sound g.F.Files.faults g.K.Sink.taken g.K.Sink.faults c.args.files.now c.args.out.now in
     let m : Moment = moment g.F.Files.contents g.F.Files.sound g.F.Files.faults g.K.Sink.taken g.K.Sink.faults c.read_whole.new.files c.args.out.now in
@@ -32,10 +32,10 @@ returns-in-Some g c =
     (record { contents = e.same; sound = e.soundness; read_faults = e.later; taken = refl; write_faults = refl })
     e.spared given.0 given.1 w
 
-pub returns-in-None : goal.returns-in-None
+pub returns-in-None-clause-whole : goal.returns-in-None-clause-whole
 unfolding too_long
-returns-in-None g c =
-    let e = c.in_ok-octets.ensures in
+returns-in-None-clause-whole g c =
+    let e = c.in_ok-octets.ensures.reads in
     let given = subst (GivesFile (g.F.Files.contents c.args.files.now) c.args.name.now 1048576) c.in-None.is e.gives in
     let b : Moment = moment g.F.Files.contents g.F.Files.sound g.F.Files.faults g.K.Sink.taken g.K.Sink.faults c.args.files.now c.args.out.now in
     let m : Moment = moment g.F.Files.contents g.F.Files.sound g.F.Files.faults g.K.Sink.taken g.K.Sink.faults c.read_whole.new.files c.args.out.now in

@@ -19,7 +19,7 @@ returns g c =
     let read = subst (λ b. MatchBool b ⊤ (plan_of c.deref.result.now ≡ Err c.in-Err.fault)) line.told c.in-Err.ensures.plan in
     let is = ap plan_of (sym c.deref.ensures.value) ∙ read in
     record {
-      plan = rw c.early.ensures (λ next. c.in_ok-text.ensures (λ octets. planned (plan_of octets) next) (Err (early c.print_last.result)) a
+      plan = rw c.early.ensures (λ next. c.in_ok-text.ensures.whole (λ octets. planned (plan_of octets) next) (Err (early c.print_last.result)) a
           (Works-bad_plan next c.in_ok-text.text.items c.in-Err.fault c.as_slice.result.now c.print_last.result m a is (c.as_slice.ensures ∙ line.line) w.text w.answer refl refl refl));
       sound = tt;
     }
@@ -28,4 +28,4 @@ pub returns-in_err-line-in-Err-clause-plan : goal.returns-in_err-line-in-Err-cla
 returns-in_err-line-in-Err-clause-plan g c =
     let p = err_from_is_err_and c.from_residual-in_err-line-in-Err.result c.from_residual-in_err-line-in-Err.ensures.1 in
     let m : Moment = moment g.F.Files.contents g.F.Files.sound g.F.Files.faults g.K.Sink.taken g.K.Sink.faults c.within_limit.new.files c.within_limit.new.out in
-    rw (p.1, p.2) (λ next. c.in_ok-text.ensures (λ octets. planned (plan_of octets) next) (Err Memory) m (Works-memory (planned (plan_of c.in_ok-text.text.items) next) m))
+    rw (p.1, p.2) (λ next. c.in_ok-text.ensures.whole (λ octets. planned (plan_of octets) next) (Err Memory) m (Works-memory (planned (plan_of c.in_ok-text.text.items) next) m))
