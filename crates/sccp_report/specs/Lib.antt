@@ -6,3 +6,6 @@ pub mod Hops
 pub mod PlanFaults
 pub mod Verdicts
 pub mod Told
+pub mod Roles
+pub mod Served
+pub mod Events
