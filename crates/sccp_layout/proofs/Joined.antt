@@ -21,7 +21,7 @@ whole ps = flat_map (λ p. p) ps
 
 -- ---- numbers
 
-length-number_octets : (two : Bool) (n : ℕ) → length (number_octets two n) ≡ width two
+pub length-number_octets : (two : Bool) (n : ℕ) → length (number_octets two n) ≡ width two
 length-number_octets true n = refl
 length-number_octets false n = refl
 
@@ -35,7 +35,7 @@ behind : (before after : List ℕ) (i : ℕ) → get_or (before ++ after) (lengt
 behind [] after i = ap (λ (k : ℕ). get_or after k 0) (zero-add i)
 behind (x ∷ xs) after i = let k : suc (length xs) + i ≡ suc (length xs + i) = omega arith in ap (λ (j : ℕ). get_or (x ∷ (xs ++ after)) j 0) k ∙ behind xs after i
 
-number_here : (two : Bool) (n : ℕ) (before after : List ℕ) → number_at two (before ++ (number_octets two n ++ after)) (length before) ≡ n
+pub number_here : (two : Bool) (n : ℕ) (before after : List ℕ) → number_at two (before ++ (number_octets two n ++ after)) (length before) ≡ n
 number_here true n before after =
     let low : get_or (before ++ (n % 256 ∷ n / 256 ∷ after)) (length before) 0 ≡ n % 256 = ap (λ (j : ℕ). get_or (before ++ (n % 256 ∷ n / 256 ∷ after)) j 0) (sym (add-zero (length before))) ∙ behind before (n % 256 ∷ n / 256 ∷ after) 0 in
     let high : get_or (before ++ (n % 256 ∷ n / 256 ∷ after)) (length before + 1) 0 ≡ n / 256 = behind before (n % 256 ∷ n / 256 ∷ after) 1 in
@@ -78,7 +78,7 @@ pointers_at l (f ∷ fs) i at p back =
 abbrev has_optional : Layout → ℕ
 has_optional l = cond l.optional 1 0
 
-length-spelled_parts : (l : Layout) (i : ℕ) (parts : List (List ℕ)) → length (spelled_parts l i parts) ≡ length parts
+pub length-spelled_parts : (l : Layout) (i : ℕ) (parts : List (List ℕ)) → length (spelled_parts l i parts) ≡ length parts
 length-spelled_parts l i [] = refl
 length-spelled_parts l i (x ∷ xs) = ap suc (length-spelled_parts l (i + 1) xs)
 
@@ -93,10 +93,10 @@ pointer_room : (two : Bool) (k n : ℕ) → k < n → cond two 2 1 * k + cond tw
 pointer_room true k n lt = omega arith
 pointer_room false k n lt = omega arith
 
-abbrev head : Layout → Parts → List ℕ
+abbrev pub head : Layout → Parts → List ℕ
 head l p = (p.code ∷ p.fixed) ++ flat_map (number_octets l.long) (pointers_to l 0 (after_pointers l) (pieces l p))
 
-length-head : (l : Layout) (p : Parts) → Fits l p → length (head l p) ≡ after_pointers l
+pub length-head : (l : Layout) (p : Parts) → Fits l p → length (head l p) ≡ after_pointers l
 length-head l p fits =
     let n : length (pieces l p) ≡ l.variable + has_optional l = length-pieces l p fits.variable in
     let ns : length (flat_map (number_octets l.long) (pointers_to l 0 (after_pointers l) (pieces l p))) ≡ width l.long * (l.variable + has_optional l) =
@@ -129,7 +129,7 @@ pointer_value l p front piece back fits split =
 names_if : (z a i : Bool) → z ≡ false → a ≡ true → i ≡ true → IsTrue (not z && a && i)
 names_if z a i hz ha hi = rw (hz, ha, hi) refl
 
-points_to : (l : Layout) (p : Parts) (front : List (List ℕ)) (o : ℕ) (os : List ℕ) (back : List (List ℕ)) → Fits l p → pieces l p ≡ front ++ (o ∷ os) ∷ back → PointsTo l (joined l p) (length front) ((o ∷ os) ++ whole back)
+pub points_to : (l : Layout) (p : Parts) (front : List (List ℕ)) (o : ℕ) (os : List ℕ) (back : List (List ℕ)) → Fits l p → pieces l p ≡ front ++ (o ∷ os) ∷ back → PointsTo l (joined l p) (length front) ((o ∷ os) ++ whole back)
 points_to l p front o os back fits split =
     let b = joined l p in
     let k : ℕ = length front in
@@ -180,7 +180,7 @@ width_some : (two : Bool) → 0 < width two
 width_some true = omega arith
 width_some false = omega arith
 
-number_drop : (two : Bool) (b : List ℕ) (q : ℕ) → number_at two b q ≡ number_at two (drop q b) 0
+pub number_drop : (two : Bool) (b : List ℕ) (q : ℕ) → number_at two b q ≡ number_at two (drop q b) 0
 number_drop true b q = let k : q + 0 ≡ q = add-zero q in rw (get_or-drop q b 0 0, get_or-drop q b 1 0, k) refl
 number_drop false b q = let k : q + 0 ≡ q = add-zero q in rw (get_or-drop q b 0 0, k) refl
 
@@ -205,7 +205,7 @@ fixed_here l p fits =
     let rest : drop 1 (joined l p) ≡ p.fixed ++ (ns ++ whole (pieces l p)) = append_assoc p.fixed ns (whole (pieces l p)) in
     sym (rw (n, rest) (take_at p.fixed (ns ++ whole (pieces l p)) l.fixed fits.fixed))
 
-some_octets : (two : Bool) (x more : List ℕ) → (o : ℕ) × (os : List ℕ) × (spelled_part two x ≡ o ∷ os)
+pub some_octets : (two : Bool) (x more : List ℕ) → (o : ℕ) × (os : List ℕ) × (spelled_part two x ≡ o ∷ os)
 some_octets true x more = (length x % 256, length x / 256 ∷ x, refl)
 some_octets false x more = (length x, x, refl)
 
@@ -224,7 +224,7 @@ variable_here l p fits i lt =
     let there : PointsTo l (joined l p) i ((o.0 ∷ o.1) ++ whole (d.back ++ opt)) = subst (λ (k : ℕ). PointsTo l (joined l p) k ((o.0 ∷ o.1) ++ whole (d.back ++ opt))) d.len to in
     (there.names, contents_here two (joined l p) (place l (joined l p) i) x.0 (whole (d.back ++ opt)) (there.here ∙ ap (λ (y : List ℕ). y ++ whole (d.back ++ opt)) (sym o.2)) ∙ sym x.1)
 
-with_optional : (l : Layout) (p : Parts) → l.optional ≡ true → pieces l p ≡ spelled_parts l 0 p.variable ++ spelled_list p.params ∷ []
+pub with_optional : (l : Layout) (p : Parts) → l.optional ≡ true → pieces l p ≡ spelled_parts l 0 p.variable ++ spelled_list p.params ∷ []
 with_optional l p e = ap (λ (o : Bool). spelled_parts l 0 p.variable ++ cond o (spelled_list p.params ∷ []) []) e
 
 optional_here : (l : Layout) (p : Parts) (params : List Parameter) → p.params ≡ params → Fits l p → AllByRecursion (λ q. q.name ≢ 0) params → l.optional ≡ true → ParamsAre l (joined l p) params

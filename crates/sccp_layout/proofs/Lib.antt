@@ -5,3 +5,4 @@ pub mod Lists
 pub mod Laws
 pub mod Pieces
 pub mod Joined
+pub mod Cuts

@@ -2,4 +2,5 @@ pub mod Examples
 pub mod Laws
 pub mod Made
 pub mod Octets
+pub mod Surveyed
 pub mod Writing

@@ -204,6 +204,11 @@ all_of (x ∷ xs) each =
     let first = each 0 (omega arith) in
     (subst IsAddress (let e = first.1 in cc) first.2, all_of xs (λ i lt. each (suc i) (omega arith)))
 
+pub reads_named : (b : List ℕ) (m : Message) → Reads b m → AreNamed (content m).params
+reads_named b m h =
+    let made_of = of_parts h.parts.code h.parts.fixed h.addresses _ h.parts.params m h.fields in
+    named_again m h.parts.params made_of.params_are (named_of h.has_parts.layout b h.parts.params h.has_parts.params)
+
 pub reads_kept : (b : List ℕ) (m : Message) → AreOctets b → Reads b m → IsMessage m
 reads_kept b m octets h =
     let made_of = of_parts h.parts.code h.parts.fixed h.addresses _ h.parts.params m h.fields in
@@ -212,7 +217,7 @@ reads_kept b m octets h =
     (x.0, x.1, address_kept (part_of h.parts.variable i) x.0 (octets_of b h.parts i octets h.has_parts) x.2)) in
     record {
       addresses = rw made_of.addresses_are addresses;
-      named = named_again m h.parts.params made_of.params_are (named_of h.has_parts.layout b h.parts.params h.has_parts.params);
+      named = reads_named b m h;
       sevens_fit = made_of.sevens_fit;
     }
 

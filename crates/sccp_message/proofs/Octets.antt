@@ -21,7 +21,7 @@ use Rattle.sccp_message.proofs.Writing.{typed, written_reads}
 encoding_at : (m : Message) → encoding m ≡ as_join (joining (typed m).type.layout (parts_from m))
 encoding_at m = rw (typed m).of_type refl
 
-octets_at : (m : Message) → message_octets m ≡ joined (typed m).type.layout (parts_from m)
+pub octets_at : (m : Message) → message_octets m ≡ joined (typed m).type.layout (parts_from m)
 octets_at m = rw (typed m).of_type refl
 
 -- what join answers for the parts of a message

@@ -81,7 +81,7 @@ data_at (a ∷ xs) payload zero e = absurd (omega arith)
 data_at (a ∷ xs) payload (suc n) e = data_at xs payload n (omega arith)
 
 -- the parts of a message fit the layout of its type
-fits_of : (m : Message) (t : Typed m) → Fits t.type.layout (parts_from m)
+pub fits_of : (m : Message) (t : Typed m) → Fits t.type.layout (parts_from m)
 fits_of m t = record {
   fixed = t.fixed;
   variable = length-append (map written (content m).addresses) (option_to_list (content m).payload) ∙ omega (arith, length-map (content m).addresses written, t.addresses, t.variable);

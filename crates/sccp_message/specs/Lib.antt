@@ -2,6 +2,8 @@ pub mod Causes
 pub mod Encoding
 pub mod Fields
 pub mod Reading
+pub mod Kinds
 pub mod Messages
 pub mod Reads
 pub mod Written
+pub mod Survey

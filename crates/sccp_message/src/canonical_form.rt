@@ -1,26 +1,33 @@
 ghost use Rattle.std.specs.Prelude.{◌≡◌, IsTrue, IfOk};
 ghost use Rattle.sccp_message.specs.Written.{Canonical};
-ghost use Rattle.sccp_message.specs.Encoding.{canonical as is_canonical};
+ghost use Rattle.sccp_message.specs.Encoding.{encoding, is_written, canonical as canonical_octets};
 
 use crate::decoding::decode;
 use crate::encode_fault::EncodeFault;
 use crate::encoding::encode;
 use crate::fault::DecodeFault;
+use crate::message::Message;
 use sccp_base::OutOfMemory;
 use std::alloc::Global;
 
-// Whether octets decode, and are what is written of their message.
-fn is_written(alloc: Global, octets: &[u8]) -> Result<bool, OutOfMemory>
-    ensures { IfOk result (λ is. is ≡ is_canonical octets.now) }
+// Whether octets are what is written of a message.
+fn is_written_of(alloc: Global, message: &Message, octets: &[u8]) -> Result<bool, OutOfMemory>
+    ensures { IfOk result (λ is. is ≡ is_written octets.now (encoding message.now)) }
 {
-    let message = match decode(alloc, octets) {
-        Ok(message) => message,
-        Err(DecodeFault::OutOfMemory) => return Err(OutOfMemory),
-        Err(_) => return Ok(false),
-    };
-    match encode(alloc, &message) {
+    match encode(alloc, message) {
         Ok(written) => Ok(written.as_slice() == octets),
         Err(EncodeFault::OutOfMemory) => Err(OutOfMemory),
+        Err(_) => Ok(false),
+    }
+}
+
+// Whether octets decode, and are what is written of their message.
+fn is_canonical(alloc: Global, octets: &[u8]) -> Result<bool, OutOfMemory>
+    ensures { IfOk result (λ is. is ≡ canonical_octets octets.now) }
+{
+    match decode(alloc, octets) {
+        Ok(message) => is_written_of(alloc, &message, octets),
+        Err(DecodeFault::OutOfMemory) => Err(OutOfMemory),
         Err(_) => Ok(false),
     }
 }
@@ -29,7 +36,7 @@ fn is_written(alloc: Global, octets: &[u8]) -> Result<bool, OutOfMemory>
 pub fn canonical(alloc: Global, octets: &[u8]) -> Result<bool, OutOfMemory>
     ensures yes { IfOk result (λ is. IsTrue is → Canonical octets.now) }
     ensures no { IfOk result (λ is. Canonical octets.now → IsTrue is) }
-    ensures exact { IfOk result (λ is. is ≡ is_canonical octets.now) }
+    ensures exact { IfOk result (λ is. is ≡ canonical_octets octets.now) }
 {
-    is_written(alloc, octets)
+    is_canonical(alloc, octets)
 }

@@ -1,6 +1,7 @@
 ghost use Rattle.std.specs.Prelude.{◌≡◌, Some, Ok, IfOk, IfErr, ◌⊎◌};
 ghost use Rattle.sccp_layout.specs.Parts.{FitsLayout};
 ghost use Rattle.sccp_message.specs.Reading.{Gives, message_in, reading, first_fault};
+ghost use Rattle.sccp_message.specs.Kinds.{is_connectionless, has_parameters, has_no_parameters, message_if_of};
 ghost use Rattle.sccp_message.specs.declared.message.Message.{Message};
 ghost use Rattle.sccp_message.specs.Reads.{Reads};
 ghost use Rattle.sccp_message.specs.Written.{Sound, IsMessage};
@@ -38,52 +39,117 @@ macro_rules! field {
     };
 }
 
-// The message of a code: a line for each type, with its fields in the order in which they are tested.
+// The message of a code: a line for each type of one kind, with its fields in the order in which they are tested.
 macro_rules! by_code {
-    ($code:expr, $from:tt; $($value:literal $variant:ident { $($field:ident: $kind:ident $place:tt),* })*) => {
-        match $code {
+    ($parts:expr, $alloc:ident; $($value:literal $variant:ident { $($field:ident: $kind:ident $place:tt),* })*) => {{
+        let Parts {
+            code,
+            fixed,
+            variable,
+            params,
+        } = $parts;
+        let fixed = fixed.as_slice();
+        match code {
             $($value => Ok(Message::$variant {
-                $($field: field!($from $kind $place)),*
+                $($field: field!(($alloc fixed variable params) $kind $place)),*
             }),)*
-            _ => unreachable!(),
+            _ => Err(DecodeFault::Split(SplitFault::UnknownType)),
         }
-    };
+    }};
+}
+
+// Types with a called and a calling address, and data.
+fn connectionless_code(code: u8) -> bool
+    ensures { result ≡ is_connectionless code }
+{
+    code == 0x09 || code == 0x0A || code == 0x11 || code == 0x12 || code == 0x13 || code == 0x14
 }
 
 #[tactic(auto, unfolding(crate::specs::Reading::message_in))]
-fn message(alloc: Global, parts: Parts) -> Result<Message, DecodeFault>
+fn connectionless(alloc: Global, parts: Parts) -> Result<Message, DecodeFault>
     requires { FitsLayout parts }
-    ensures { Gives (λ m. m) result (message_in parts) }
+    ensures { Gives (λ m. m) result (message_if_of is_connectionless parts) }
 {
-    let Parts {
-        code,
-        fixed,
-        variable,
-        params,
-    } = parts;
-    let fixed = fixed.as_slice();
-    by_code! { code, (alloc fixed variable params);
+    by_code! { parts, alloc;
+        0x09 Udt { class: octet(0), called: address(0), calling: address(1), payload: data() }
+        0x0A Udts { cause: octet(0), called: address(0), calling: address(1), payload: data() }
+        0x11 Xudt { class: octet(0), hops: octet(1), called: address(0), calling: address(1), payload: data(), params: known(SEGMENTATION, IMPORTANCE) }
+        0x12 Xudts { cause: octet(0), hops: octet(1), called: address(0), calling: address(1), payload: data(), params: known(SEGMENTATION, IMPORTANCE) }
+        0x13 Ludt { class: octet(0), hops: octet(1), called: address(0), calling: address(1), payload: data(), params: known(SEGMENTATION, IMPORTANCE) }
+        0x14 Ludts { cause: octet(0), hops: octet(1), called: address(0), calling: address(1), payload: data(), params: known(SEGMENTATION, IMPORTANCE) }
+    }
+}
+
+// Connection-oriented types that may have an optional part.
+fn code_with_parameters(code: u8) -> bool
+    ensures { result ≡ has_parameters code }
+{
+    code == 0x01 || code == 0x02 || code == 0x03 || code == 0x04
+}
+
+#[tactic(auto, unfolding(crate::specs::Reading::message_in))]
+fn with_parameters(alloc: Global, parts: Parts) -> Result<Message, DecodeFault>
+    requires { FitsLayout parts }
+    ensures { Gives (λ m. m) result (message_if_of has_parameters parts) }
+{
+    by_code! { parts, alloc;
         0x01 Cr { slr: reference(0), class: octet(3), called: address(0), params: known(CREDIT, CALLING, DATA, HOPS, IMPORTANCE) }
         0x02 Cc { dlr: reference(0), slr: reference(3), class: octet(6), params: known(CREDIT, CALLED, DATA, IMPORTANCE) }
         0x03 Cref { dlr: reference(0), cause: octet(3), params: known(CALLED, DATA, IMPORTANCE) }
         0x04 Rlsd { dlr: reference(0), slr: reference(3), cause: octet(6), params: known(DATA, IMPORTANCE) }
+    }
+}
+
+// Connection-oriented types of fixed fields, or of these and data.
+fn code_without_parameters(code: u8) -> bool
+    ensures { result ≡ has_no_parameters code }
+{
+    code == 0x05
+        || code == 0x06
+        || code == 0x07
+        || code == 0x08
+        || code == 0x0B
+        || code == 0x0C
+        || code == 0x0D
+        || code == 0x0E
+        || code == 0x0F
+        || code == 0x10
+}
+
+#[tactic(auto, unfolding(crate::specs::Reading::message_in))]
+fn without_parameters(parts: Parts) -> Result<Message, DecodeFault>
+    requires { FitsLayout parts }
+    ensures { Gives (λ m. m) result (message_if_of has_no_parameters parts) }
+{
+    by_code! { parts, alloc;
         0x05 Rlc { dlr: reference(0), slr: reference(3) }
         0x06 Dt1 { dlr: reference(0), more: more(3), payload: data() }
         0x07 Dt2 { dlr: reference(0), send: sequence(3), receive: sequence(4), more: more(4), payload: data() }
         0x08 Ak { dlr: reference(0), receive: sequence(3), credit: octet(4) }
-        0x09 Udt { class: octet(0), called: address(0), calling: address(1), payload: data() }
-        0x0A Udts { cause: octet(0), called: address(0), calling: address(1), payload: data() }
         0x0B Ed { dlr: reference(0), payload: data() }
         0x0C Ea { dlr: reference(0) }
         0x0D Rsr { dlr: reference(0), slr: reference(3), cause: octet(6) }
         0x0E Rsc { dlr: reference(0), slr: reference(3) }
         0x0F Err { dlr: reference(0), cause: octet(3) }
         0x10 It { dlr: reference(0), slr: reference(3), class: octet(6), send: sequence(7), receive: sequence(8), more: more(8), credit: octet(9) }
-        0x11 Xudt { class: octet(0), hops: octet(1), called: address(0), calling: address(1), payload: data(), params: known(SEGMENTATION, IMPORTANCE) }
-        0x12 Xudts { cause: octet(0), hops: octet(1), called: address(0), calling: address(1), payload: data(), params: known(SEGMENTATION, IMPORTANCE) }
-        0x13 Ludt { class: octet(0), hops: octet(1), called: address(0), calling: address(1), payload: data(), params: known(SEGMENTATION, IMPORTANCE) }
-        0x14 Ludts { cause: octet(0), hops: octet(1), called: address(0), calling: address(1), payload: data(), params: known(SEGMENTATION, IMPORTANCE) }
     }
+}
+
+// The message of parts, by the kind of its type.
+fn message(alloc: Global, parts: Parts) -> Result<Message, DecodeFault>
+    requires { FitsLayout parts }
+    ensures { Gives (λ m. m) result (message_in parts) }
+{
+    if connectionless_code(parts.code) {
+        return connectionless(alloc, parts);
+    }
+    if code_with_parameters(parts.code) {
+        return with_parameters(alloc, parts);
+    }
+    if code_without_parameters(parts.code) {
+        return without_parameters(parts);
+    }
+    Err(DecodeFault::Split(SplitFault::UnknownType))
 }
 
 fn whole(alloc: Global, octets: &[u8]) -> Result<Message, DecodeFault>

@@ -18,6 +18,7 @@ mod fields;
 mod message;
 mod params;
 mod round_trip;
+mod surveying;
 
 pub use canonical_form::canonical;
 pub use cause::{CauseTable, cause_text};
@@ -29,3 +30,4 @@ pub use fault::DecodeFault;
 pub use message::Message;
 pub use params::param;
 pub use round_trip::{equal_by_octets, written_reads};
+pub use surveying::survey;

@@ -1,6 +1,7 @@
 use sccp_address::Address;
 use sccp_base::{List, Octets, Reference, Seven};
 use sccp_layout::Param;
+use std::fmt;
 
 /// A message of SCCP, one variant for each type (Q.713 section 4).
 ///
@@ -8,7 +9,7 @@ use sccp_layout::Param;
 /// class with its options (3.6), `cause` that of the release, return, reset, error or refusal cause (3.11 to 3.15), and
 /// `hops` the hop counter (3.18). `payload` is the data (3.16, 3.20). `params` are the optional parameters in the order
 /// in which they stand, repeats and unknown ones included.
-#[derive(Debug, Drop)]
+#[derive(Drop)]
 pub enum Message {
     /// Connection request.
     Cr {
@@ -147,4 +148,11 @@ pub enum Message {
         payload: Octets,
         params: List<Param>,
     },
+}
+
+// The name alone: what a message says is printed by its own text, and a derived impl is dear to prove.
+impl fmt::Debug for Message {
+    fn fmt<W: fmt::Write>(&self, f: &mut fmt::Formatter<W>) -> fmt::Result {
+        f.write_str("Message")
+    }
 }
