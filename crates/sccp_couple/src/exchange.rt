@@ -132,6 +132,13 @@ impl Exchange {
         }
     }
 
+    /// The place of the node in the plan.
+    pub fn node(&self) -> u8
+        ensures { result ≡ self.now.node }
+    {
+        self.node
+    }
+
     /// The sections, in the order in which they were made, of a pair the near one first.
     pub fn sections(&self) -> &List<Section>
         ensures value { result.now ≡ self.now.sections }

@@ -18,6 +18,7 @@ mod requesting;
 mod section;
 mod sections;
 mod sending;
+mod short;
 mod way;
 
 pub use exchange::Exchange;
@@ -25,4 +26,5 @@ pub use laws::{
     all_is_sent, each_goes_to_one_section, each_is_of_one_pair, none_is_made_up, steps_keep,
 };
 pub use section::Section;
+pub use short::{is_connection, vouch_short};
 pub use way::Way;
