@@ -1,0 +1,10 @@
+pub mod Growing
+pub mod Crowded
+pub mod Onward
+pub mod SafeMixtures
+pub mod Starts
+pub mod Layers
+pub mod Back
+pub mod Cuts
+pub mod Walked
+pub mod Verdicts

@@ -1,0 +1,20 @@
+use sccp_base::OutOfMemory;
+
+/// Why two plans weren't compared.
+#[derive(Clone, Copy, Debug, PartialEq, Eq)]
+pub enum ChangeFault {
+    /// Names, point codes, subsystems or concerned points, in order, aren't the same.
+    OtherNodes,
+    OutOfMemory,
+}
+
+impl From<OutOfMemory> for ChangeFault {
+    ghost use Rattle.std.specs.Prelude.{◌≡◌};
+    ghost use Rattle.plan_change.specs.declared.change_fault.ChangeFault.TheVariants as faults;
+
+    ghost from_gives = { λ _ fault. fault ≡ faults.OutOfMemory };
+
+    fn from(_error: OutOfMemory) -> ChangeFault {
+        ChangeFault::OutOfMemory
+    }
+}

@@ -1,0 +1,102 @@
+//! The answer on two plans.
+ghost use Rattle.std.specs.Prelude.{◌≡◌, ◌↔◌, ◌+◌, ℕ, [], length, IfOk, Err};
+ghost use Rattle.plan_model.specs.Network.{IsPlan};
+ghost use Rattle.plan_model.specs.SameNodes.{SameNodes};
+ghost use Rattle.plan_change.specs.declared.change_fault.ChangeFault.TheVariants as faults;
+ghost use Rattle.plan_change.specs.Changes.{IsLawfulChange};
+ghost use Rattle.plan_change.specs.Walks.{AreLayers, EndsWalk, stops_at};
+
+use crate::answer::Change;
+use crate::carrying::{carry_all, stop_at};
+use crate::change_fault::ChangeFault;
+use crate::halt::Halt;
+use crate::stop::Stop;
+use crate::walking::{Walk, least_way, walk_on};
+use crate::way::Way;
+use crate::witness::broken;
+use plan_check::Accepted;
+use plan_model::{Plan, have_same_nodes};
+use sccp_base::{List, OutOfMemory};
+use std::alloc::Global;
+
+/// Whether two accepted plans may be mixed: each title that both cover takes, whichever of the two plans each relay on its route
+/// holds and whatever it has prohibited, a route to a place that all covers of both plans that have it allow, or is blocked.
+/// `Broken` shows one that doesn't. `TooWide` comes only where the two plans reach at least 262,144 classes. `OtherNodes` comes
+/// exactly where names, point codes, subsystems and concerned points, in order, aren't the same.
+pub fn change(alloc: Global, old: &Accepted, new: &Accepted) -> Result<Change, ChangeFault>
+    ensures lawful { IfOk result (IsLawfulChange old.now.plan new.now.plan) }
+    ensures same { IfOk result (λ _. SameNodes old.now.plan new.now.plan) }
+    ensures other { (result ≡ Err faults.OtherNodes) ↔ (SameNodes old.now.plan new.now.plan → ⊥) }
+{
+    let old = old.plan();
+    let new = new.plan();
+    if !have_same_nodes(old, new) {
+        return Err(ChangeFault::OtherNodes);
+    }
+    Ok(mixture(alloc, old, new)?)
+}
+
+/// The answer on two plans of the same nodes.
+fn mixture(alloc: Global, old: &Plan, new: &Plan) -> Result<Change, OutOfMemory>
+    requires same { length old.now.nodes ≡ length new.now.nodes }
+    requires old { IsPlan old.now }
+    requires new { IsPlan new.now }
+    ensures { IfOk result (IsLawfulChange old.now new.now) }
+{
+    match walk_on(alloc, old, new) {
+        Ok(Walk::Through(layers)) => kept(alloc, old, new, layers.as_slice()),
+        Ok(Walk::Bad(layers, place, way)) => {
+            break_by(alloc, old, new, layers.as_slice(), place, way)
+        }
+        Err(Halt::Wide) => Ok(Change::TooWide),
+        Err(Halt::OutOfMemory) => Err(OutOfMemory),
+    }
+}
+
+/// The answer where no hop behind the last one with stops has any.
+fn kept(alloc: Global, old: &Plan, new: &Plan, layers: &[List<Stop>]) -> Result<Change, OutOfMemory>
+    requires same { length old.now.nodes ≡ length new.now.nodes }
+    requires old { IsPlan old.now }
+    requires new { IsPlan new.now }
+    requires layers { AreLayers old.now new.now layers.now }
+    requires last { (hop : ℕ) → length layers.now ≡ hop + 1 → stops_at layers.now hop ≡ [] }
+    ensures { IfOk result (IsLawfulChange old.now new.now) }
+{
+    let bound = layers.len() - 1;
+    if bound == 0 {
+        return Ok(Change::Kept {
+            bound: 0,
+            spot: None,
+            turns: List::new(alloc),
+        });
+    }
+    let way = least_way(alloc, stop_at(layers, bound - 1, 0))?;
+    let Way { spot, turns } = carry_all(alloc, old, new, layers, bound - 1, 0, way)?;
+    Ok(Change::Kept {
+        bound: bound as u8,
+        spot: Some(spot),
+        turns,
+    })
+}
+
+/// The answer where a title of a stop of the last hop has a bad end, or that hop is the fifteenth.
+fn break_by(
+    alloc: Global,
+    old: &Plan,
+    new: &Plan,
+    layers: &[List<Stop>],
+    place: usize,
+    way: Way,
+) -> Result<Change, OutOfMemory>
+    requires same { length old.now.nodes ≡ length new.now.nodes }
+    requires old { IsPlan old.now }
+    requires new { IsPlan new.now }
+    requires layers { AreLayers old.now new.now layers.now }
+    requires ends { EndsWalk old.now new.now layers.now place way }
+    ensures { IfOk result (IsLawfulChange old.now new.now) }
+{
+    let hop = layers.len() - 1;
+    let number = stop_at(layers, hop, place).class.cover();
+    let Way { spot, turns } = carry_all(alloc, old, new, layers, hop, place, way)?;
+    broken(alloc, old, new, number, &spot, turns)
+}

@@ -1,0 +1,236 @@
+//! Where the titles of a class go on their next hop.
+ghost use Rattle.std.specs.Prelude.{◌≡◌, ◌<◌, ◌⊎◌, ℕ, IsTrue, false, length, IfSome, IfOk, OnOk, Err, None, Some, List, [], ◌∷◌};
+ghost use Rattle.sccp_base.specs.declared.mark.Mark.{Mark};
+ghost use Rattle.plan_classes.specs.declared.leads.Image.{Image};
+ghost use Rattle.plan_model.specs.Network.{IsPlan};
+ghost use Rattle.plan_classes.specs.Titles.{IsClass, IsLongest, spot_of};
+ghost use Rattle.plan_classes.specs.Classes.{Decided, class_row, Reaches, HasImage};
+ghost use Rattle.plan_classes.specs.Leading.{Takes};
+ghost use Rattle.plan_mixed.specs.Pairs.{old_of, new_of};
+ghost use Rattle.plan_mixed.specs.Mixed.{held, BothDecided, MixedReachable, MixedReachAtLeast};
+ghost use Rattle.plan_change.specs.declared.halt.Halt.TheVariants as halts;
+ghost use Rattle.plan_change.specs.Stops.{Grows, IsMet, IsPair, ImageGoesWell, LeadsUnder, LeadsInto, ComesFrom};
+ghost use Rattle.plan_change.specs.Ways.{PairAllows, Forbids, IsBadHere};
+
+use crate::entering::enter;
+use crate::halt::Halt;
+use crate::stop::{Origin, Stop};
+use crate::way::{Way, one_turn, spot_of};
+use plan_check::{Ranks, allows};
+use plan_classes::{Class, Image, class_row, image_by, opening, reaches_by, sample};
+use plan_mixed::{Which, new_of, old_of};
+use plan_model::Plan;
+use plan_rules::Row;
+use sccp_base::{Digits, List, Marking, OutOfMemory, PointCode};
+use std::alloc::Global;
+
+/// Puts the titles that a class's titles become among the stops of the next hop, or tells a title with a bad end.
+pub(crate) fn follow(
+    alloc: Global,
+    old: &Plan,
+    new: &Plan,
+    class: &Class,
+    place: usize,
+    met: &mut Ranks,
+    there: &mut List<Stop>,
+) -> Result<Option<Way>, Halt>
+    requires same { length old.now.nodes ≡ length new.now.nodes }
+    requires node { class.now.node < length old.now.nodes }
+    requires pair { IsPair old.now new.now class.now.cover }
+    requires decided { BothDecided old.now new.now class.now }
+    requires reached { (depth : ℕ) × (depth < 14) × MixedReachable old.now new.now depth class.now }
+    requires met { IsMet old.now new.now met.old there.old }
+    ensures met { OnOk result (IsMet old.now new.now met.new there.new) }
+    ensures grows { OnOk result (Grows there.old there.new (ComesFrom old.now new.now class.now place)) }
+    ensures well { IfOk result (λ way. way ≡ None → LeadsInto old.now new.now class.now there.new) }
+    ensures bad { IfOk result (λ way. IfSome way (IsBadHere old.now new.now class.now)) }
+    ensures wide { result ≡ Err halts.Wide → MixedReachAtLeast old.now new.now 262144 }
+{
+    match follow_plan(alloc, old, new, Which::Old, old, class, place, met, there)? {
+        Some(way) => Ok(Some(way)),
+        None => follow_plan(alloc, old, new, Which::New, new, class, place, met, there),
+    }
+}
+
+/// The same under one plan.
+fn follow_plan(
+    alloc: Global,
+    old: &Plan,
+    new: &Plan,
+    which: Which,
+    plan: &Plan,
+    class: &Class,
+    place: usize,
+    met: &mut Ranks,
+    there: &mut List<Stop>,
+) -> Result<Option<Way>, Halt>
+    requires plan { plan.now ≡ held old.now new.now which }
+    requires same { length old.now.nodes ≡ length new.now.nodes }
+    requires node { class.now.node < length plan.now.nodes }
+    requires pair { IsPair old.now new.now class.now.cover }
+    requires decided { BothDecided old.now new.now class.now }
+    requires reached { (depth : ℕ) × (depth < 14) × MixedReachable old.now new.now depth class.now }
+    requires met { IsMet old.now new.now met.old there.old }
+    ensures met { OnOk result (IsMet old.now new.now met.new there.new) }
+    ensures grows { OnOk result (Grows there.old there.new (ComesFrom old.now new.now class.now place)) }
+    ensures well { IfOk result (λ way. way ≡ None → LeadsUnder old.now new.now plan.now class.now there.new) }
+    ensures bad { IfOk result (λ way. IfSome way (IsBadHere old.now new.now class.now)) }
+    ensures wide { result ≡ Err halts.Wide → MixedReachAtLeast old.now new.now 262144 }
+{
+    match class_row(plan, class) {
+        Some(row) => follow_row(alloc, old, new, which, plan, class, row, place, met, there),
+        None => Ok(Some(without_row(alloc, old, new, which, plan, class)?)),
+    }
+}
+
+/// The same under a row, which is handed in.
+fn follow_row(
+    alloc: Global,
+    old: &Plan,
+    new: &Plan,
+    which: Which,
+    plan: &Plan,
+    class: &Class,
+    row: &Row,
+    place: usize,
+    met: &mut Ranks,
+    there: &mut List<Stop>,
+) -> Result<Option<Way>, Halt>
+    requires plan { plan.now ≡ held old.now new.now which }
+    requires sound { IsPlan plan.now }
+    requires class { IsClass class.now }
+    requires same { length old.now.nodes ≡ length new.now.nodes }
+    requires node { class.now.node < length plan.now.nodes }
+    requires pair { IsPair old.now new.now class.now.cover }
+    requires decided { BothDecided old.now new.now class.now }
+    requires row { class_row plan.now class.now ≡ Some row.now }
+    requires reached { (depth : ℕ) × (depth < 14) × MixedReachable old.now new.now depth class.now }
+    requires met { IsMet old.now new.now met.old there.old }
+    ensures met { OnOk result (IsMet old.now new.now met.new there.new) }
+    ensures grows { OnOk result (Grows there.old there.new (ComesFrom old.now new.now class.now place)) }
+    ensures well { IfOk result (λ way. way ≡ None → LeadsUnder old.now new.now plan.now class.now there.new) }
+    ensures bad { IfOk result (λ way. IfSome way (IsBadHere old.now new.now class.now)) }
+    ensures wide { result ≡ Err halts.Wide → MixedReachAtLeast old.now new.now 262144 }
+{
+    for target in 0..row.target_count() {
+        let origin = Origin {
+            place,
+            which,
+            target,
+        };
+        let found = follow_target(alloc, old, new, plan, class, row, origin, met, there)?;
+        if let Some(way) = found {
+            return Ok(Some(way));
+        }
+    }
+    Ok(None)
+}
+
+/// The same under the target of an origin.
+fn follow_target(
+    alloc: Global,
+    old: &Plan,
+    new: &Plan,
+    plan: &Plan,
+    class: &Class,
+    row: &Row,
+    origin: Origin,
+    met: &mut Ranks,
+    there: &mut List<Stop>,
+) -> Result<Option<Way>, Halt>
+    requires plan { plan.now ≡ held old.now new.now origin.which }
+    requires same { length old.now.nodes ≡ length new.now.nodes }
+    requires node { class.now.node < length plan.now.nodes }
+    requires pair { IsPair old.now new.now class.now.cover }
+    requires decided { BothDecided old.now new.now class.now }
+    requires row { class_row plan.now class.now ≡ Some row.now }
+    requires target { origin.target < length row.now.targets }
+    requires reached { (depth : ℕ) × (depth < 14) × MixedReachable old.now new.now depth class.now }
+    requires met { IsMet old.now new.now met.old there.old }
+    ensures met { OnOk result (IsMet old.now new.now met.new there.new) }
+    ensures grows { OnOk result (Grows there.old there.new (ComesFrom old.now new.now class.now origin.place)) }
+    ensures well { IfOk result (λ way. way ≡ None → ((image : Image) → Reaches plan.now class.now origin.target → HasImage plan.now class.now origin.target image → ImageGoesWell old.now new.now class.now.cover there.new image)) }
+    ensures bad { IfOk result (λ way. IfSome way (IsBadHere old.now new.now class.now)) }
+    ensures wide { result ≡ Err halts.Wide → MixedReachAtLeast old.now new.now 262144 }
+{
+    let Origin { which, target, .. } = origin;
+    if !reaches_by(plan, class, row, target) {
+        return Ok(None);
+    }
+    match image_by(plan, class, row, target) {
+        Image::Next(next) => {
+            enter(alloc, old, new, &next, origin, met, there)?;
+            Ok(None)
+        }
+        Image::Ends { pc, ssn } => {
+            if both_allow(old, new, class.cover(), pc, ssn) {
+                return Ok(None);
+            }
+            Ok(Some(through(alloc, which, plan, class, target, sample(class))?))
+        }
+        Image::NotEquipped => Ok(Some(through(alloc, which, plan, class, target, sample(class))?)),
+        Image::TooLong => Ok(Some(through(alloc, which, plan, class, target, longest(class))?)),
+    }
+}
+
+/// Whether both covers of a pair allow a place.
+fn both_allow(old: &Plan, new: &Plan, number: u16, pc: PointCode, ssn: u8) -> bool
+    requires pair { IsPair old.now new.now number }
+    ensures yes { IsTrue result → PairAllows old.now new.now number pc ssn }
+    ensures no { result ≡ false → Forbids old.now (old_of number) pc ssn ⊎ Forbids new.now (new_of number) pc ssn }
+{
+    if !allows(old, old_of(number), pc, ssn) {
+        return false;
+    }
+    if !allows(new, new_of(number), pc, ssn) {
+        return false;
+    }
+    true
+}
+
+/// The least title of a class for which a plan has no row.
+fn without_row(
+    alloc: Global,
+    old: &Plan,
+    new: &Plan,
+    which: Which,
+    plan: &Plan,
+    class: &Class,
+) -> Result<Way, OutOfMemory>
+    requires plan { plan.now ≡ held old.now new.now which }
+    requires row { class_row plan.now class.now ≡ None }
+    ensures { IfOk result (IsBadHere old.now new.now class.now) }
+{
+    one_turn(
+        alloc,
+        spot_of(class, sample(class)),
+        which,
+        Marking::new(alloc),
+    )
+}
+
+/// A title of a class, where a target under a plan is taken.
+fn through(
+    alloc: Global,
+    which: Which,
+    plan: &Plan,
+    class: &Class,
+    target: u8,
+    digits: Digits,
+) -> Result<Way, OutOfMemory>
+    requires node { class.now.node < length plan.now.nodes }
+    requires decided { Decided plan.now class.now }
+    requires reached { Reaches plan.now class.now target }
+    ensures spot { IfOk result (λ way. way.spot ≡ spot_of class.now digits) }
+    ensures takes { IfOk result (λ way. (marking : List Mark) × (way.turns ≡ record { which = which; marking = marking } ∷ []) × Takes plan.now class.now target marking) }
+{
+    let marking = opening(alloc, plan, class, target)?;
+    one_turn(alloc, spot_of(class, digits), which, marking)
+}
+
+/// The longest of a class's titles that have zeros alone behind the known digits.
+fn longest(class: &Class) -> Digits
+    ensures { IsLongest class.now result }
+{
+    class.known().with_zeros(class.most())
+}
