@@ -2,3 +2,5 @@ pub mod Going
 pub mod Counters
 pub mod Turns
 pub mod Told
+pub mod Sends
+pub mod Places

@@ -71,11 +71,8 @@ abbrev pub after_managed : State → Event → Happened
 after_managed s event = record { state = record s { manager = managed s.manager event }; outcomes = map outcomes.Sent (row s.manager event).sends }
 
 -- the sections alone change
-abbrev pub outcome_of : coupling.Answer → Outcome
-outcome_of answer = outcomes.Sent (written_sent answer)
-
 abbrev pub after_coupled : State → coupling.Outcome → Happened
-after_coupled s o = record { state = record s { sections = o.sections }; outcomes = map outcome_of o.sent }
+after_coupled s o = record { state = record s { sections = o.sections }; outcomes = map outcomes.Sent (map written_sent o.sent) }
 
 -- the messages that are put together alone change
 abbrev pub pool_outcome : Result Taken PoolFault → Outcome

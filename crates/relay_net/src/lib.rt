@@ -15,6 +15,7 @@ mod laws;
 mod net;
 mod node_state;
 mod outcome;
+mod sending;
 mod served;
 mod travelled;
 mod travelling;

@@ -13,7 +13,7 @@ use std::marker::Model;
 #[derive(Drop)]
 pub struct Net {
     alloc: Global,
-    states: List<NodeState>,
+    states: Vec<NodeState>,
 }
 
 impl Model for Net {
@@ -22,9 +22,9 @@ impl Model for Net {
 
     ghost Value = { List State };
 
-    ghost view = { λ n. n.states };
+    ghost view = { λ n. n.states.items };
 
-    ghost invariant = { λ n. AreInPlace n.states };
+    ghost invariant = { λ n. AreInPlace n.states.items };
 }
 
 impl Net {
@@ -33,8 +33,11 @@ impl Net {
     pub fn new(alloc: Global, plan: &Plan) -> Result<Net, OutOfMemory>
         ensures { IfOk result (λ net. net ≡ first_states plan.now) }
     {
-        let _nodes = plan.nodes();
-        Err(OutOfMemory)
+        let mut states = Vec::new(alloc);
+        for (place, node) in plan.nodes().as_slice().iter().enumerate() {
+            states.push(NodeState::new(alloc, place as u8, node)?)?;
+        }
+        Ok(Net { alloc, states })
     }
 
     /// The state of each node, in the order of the plan.
@@ -59,7 +62,7 @@ impl Net {
         ensures outcomes { IfOk result (λ outcomes. outcomes ≡ (applied plan.now self.old node what).outcomes) }
         ensures err { OnErr result (self.new ≡ self.old) }
     {
-        let _ = (plan, node, what);
-        Err(OutOfMemory)
+        let alloc = self.alloc;
+        self.states[usize::from(node)].happen(alloc, plan, what)
     }
 }
