@@ -1,0 +1,7 @@
+pub mod Fields
+pub mod Numbers
+pub mod Payloads
+pub mod Plain
+pub mod Messages
+pub mod Traces
+pub mod Loop
