@@ -5,7 +5,7 @@ use Rattle.plan_model.specs.Network.{Network}
 use Rattle.trace_text.specs.Lines.{TextLine, lines_of}
 use Rattle.trace_text.specs.declared.line_fault.LineFault.{LineFault}
 use Rattle.m3ua_trace.specs.Traces.{and_octets, octets_of_line, octets_of_lines, text_of_octets, trace_text, trace_if_read, trace_of, IsTraceOf}
-use Rattle.m3ua_trace.proofs.Traces.{ArePlanNames, ok, ok_octets, err_octets, is_trace}
+use Rattle.m3ua_trace.proofs.Traces.{ok, ok_octets, err_octets, is_trace}
 
 -- a trace behind a text, or the fault alone
 abbrev pub behind : List ℕ → Result (List ℕ) LineFault → Result (List ℕ) LineFault
@@ -37,8 +37,8 @@ at_end plan text [] number e = ap Ok (append-nil text)
 at_end plan text (octet ∷ octets) number e = absurd (omega arith)
 
 -- what the loop hands out is a trace
-pub is_traced : (plan : Network) (file text : List ℕ) → ArePlanNames plan → trace_of plan file ≡ Ok text → IsTraceOf plan file text
-is_traced plan file text names e = by (octets_of_lines 1 (lines_of file)) refl e where
+pub is_traced : (plan : Network) (file text : List ℕ) → trace_of plan file ≡ Ok text → IsTraceOf plan file text
+is_traced plan file text e = by (octets_of_lines 1 (lines_of file)) refl e where
   by : (r : Result (List (List ℕ)) LineFault) → octets_of_lines 1 (lines_of file) ≡ r → trace_if_read plan r ≡ ok text → IsTraceOf plan file text
-  by (Ok messages) read f = subst (IsTraceOf plan file) (ok_octets f) (is_trace plan file messages names read)
+  by (Ok messages) read f = subst (IsTraceOf plan file) (ok_octets f) (is_trace plan file messages read)
   by (Err fault) read f = absurd (err_octets f)

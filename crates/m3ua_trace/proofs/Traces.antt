@@ -1,11 +1,11 @@
 -- The lines that are made of messages are a trace without a fault.
 use Rattle.std.proofs.Common.{◌≡◌, ℕ, ◌+◌, ◌-◌, ◌<◌, ◌≤◌, Bool, true, false, cond, ltb, eqb, not, ◌||◌, List, [], ◌∷◌, ◌++◌, length, take, get_or, Option, Some, None, Result, Ok, Err, IfSome, refl, sym, ◌∙◌, ap, subst, length-append, length-take, arith}
-use Rattle.std.specs.Prelude.{codes, decimal, ◌==◌, find, option_map}
-use Rattle.std.specs.List.{All, AllByRecursion}
+use Rattle.std.specs.Prelude.{codes, decimal, ◌==◌, find, option_and_then, nat_le, ◌&&◌}
+use Rattle.std.specs.List.{AllByRecursion, list_all}
 use Rattle.std.specs.Result.{result_ok}
 use Rattle.std.proofs.Math.Dec.{eqb-suc-zero}
-use Rattle.std.proofs.lemmas.Bool.{le-ltb, ltb-false, or_parts}
-use Rattle.std.proofs.lemmas.List.Elements.{recursion_from_All}
+use Rattle.std.proofs.lemmas.Bool.{and_parts, leb-true, le-ltb, ltb-false, or_parts}
+use Rattle.std.proofs.lemmas.List.Sums.{AllPass-from_list_all}
 use Rattle.hex.specs.Hex.{IsBytes, decode_of}
 use Rattle.hex.specs.declared.error.FromHexError.{FromHexError}
 use Rattle.hex.proofs.HexLemmas.{decode_of-ok}
@@ -16,7 +16,7 @@ use Rattle.m3ua_data.specs.declared.fault.DataFault.TheVariants as faults
 use Rattle.m3ua_data.specs.declared.tagged.Tagged.{Tagged}
 use Rattle.plan_model.specs.Network.{Network, has_point}
 use Rattle.plan_model.specs.declared.node.Node.{Node}
-use Rattle.sccp_base.specs.Names.{IsName}
+use Rattle.sccp_base.specs.Names.{IsName, is_name_octet, name_of}
 use Rattle.trace_text.proofs.LineLemmas.{lines_of-line}
 use Rattle.trace_text.specs.Forms.{line_of}
 use Rattle.trace_text.specs.Hex.{hex_word}
@@ -45,6 +45,12 @@ all_ok messages = Ok messages
 abbrev all_failed : LineFault → Result (List (List ℕ)) LineFault
 all_failed fault = Err fault
 
+some_octets : {x y : List ℕ} → Some x ≡ Some y → x ≡ y
+some_octets e = cc
+
+none_octets : {y : List ℕ} → None ≡ Some y → ⊥
+none_octets e = cc
+
 -- a text is one short line, and is read as a line of a trace
 record IsPrinted (text : List ℕ) (line : Line) : Type 0 where
   plain : IsPlain text
@@ -60,9 +66,6 @@ HasRange (OtherService service) = service < 256
 HasRange (Message name origin octets) = IsName name × (origin < 16384) × IsBytes octets × (0 < length octets) × (length octets ≤ 4072)
 HasRange other = Unit {0}
 
-abbrev pub ArePlanNames : Network → Type 0
-ArePlanNames plan = All (λ node. IsName node.name) plan.nodes
-
 range_of_node : (name : Option (List ℕ)) (origin : ℕ) (octets : List ℕ) → IfSome name IsName → origin < 16384 → IsBytes octets → length octets ≤ 4072 → HasRange (for_node name origin octets)
 range_of_node None origin octets h small bytes short = tt
 range_of_node (Some name) origin octets h small bytes short = by octets bytes short where
@@ -70,25 +73,35 @@ range_of_node (Some name) origin octets h small bytes short = by octets bytes sh
   by [] bytes short = tt
   by (octet ∷ octets) bytes short = rw (eqb-suc-zero (length octets)) (h, small, bytes, omega arith, short)
 
--- the name of a node is one
-name_in : (pc : ℕ) (nodes : List Node) → AllByRecursion (λ node. IsName node.name) nodes → IfSome (option_map (λ node. node.name) (find (has_point pc) nodes)) IsName
-name_in pc [] h = tt
-name_in pc (node ∷ nodes) h = by (has_point pc node) (name_in pc nodes h.1) where
-  by : (is : Bool) → IfSome (option_map (λ node. node.name) (find (has_point pc) nodes)) IsName
-      → IfSome (option_map (λ node. node.name) (cond is (Some node) (find (has_point pc) nodes))) IsName
-  by true later = h.0
-  by false later = later
+-- a text that is read as a name is one
+name_is : (text name : List ℕ) → name_of text ≡ Some name → IsName name
+unfolding name_of
+name_is text name e = by (nat_le 1 (length text) && nat_le (length text) 16 && list_all is_name_octet text) refl e where
+  by : (b : Bool) → (nat_le 1 (length text) && nat_le (length text) 16 && list_all is_name_octet text) ≡ b → cond b (Some text) None ≡ Some name → IsName name
+  by true is f =
+      let p = and_parts (nat_le 1 (length text) && nat_le (length text) 16) (list_all is_name_octet text) is in
+      let q = and_parts (nat_le 1 (length text)) (nat_le (length text) 16) p.0 in
+      subst IsName (some_octets f) (record { some = leb-true 1 (length text) q.0; most = leb-true (length text) 16 q.1; each = AllPass-from_list_all is_name_octet text p.1 })
+  by false is f = absurd (none_octets f)
+
+-- a node's name is one
+is_name : (o : Option Node) → IfSome (option_and_then (λ node. name_of node.name) o) IsName
+is_name None = tt
+is_name (Some node) = named_by (name_of node.name) refl where
+  named_by : (n : Option (List ℕ)) → name_of node.name ≡ n → IfSome n IsName
+  named_by None e = tt
+  named_by (Some name) e = name_is node.name name e
 
 -- ---- what becomes of octets
 
-range_of_payload : (plan : Network) (b : List ℕ) (p : Payload) → ArePlanNames plan → length b ≤ 4096 → IsCarried b p → HasRange (from_payload plan p)
-range_of_payload plan b p names short h = by_service (eqb p.service 3) where
+range_of_payload : (plan : Network) (b : List ℕ) (p : Payload) → length b ≤ 4096 → IsCarried b p → HasRange (from_payload plan p)
+range_of_payload plan b p short h = by_service (eqb p.service 3) where
   by_point : (long : Bool) → (ltb 16383 p.origin || ltb 16383 p.destination) ≡ long → HasRange (cond long OtherPoint (for_node (name_at plan p.destination) p.origin p.payload))
   by_point true e = tt
   by_point false e =
       let q = or_parts (ltb 16383 p.origin) (ltb 16383 p.destination) e in
       let small : p.origin ≤ 16383 = ltb-false 16383 p.origin q.0 in
-      range_of_node (name_at plan p.destination) p.origin p.payload (name_in p.destination plan.nodes (recursion_from_All (λ node. IsName node.name) plan.nodes names)) (omega arith) h.payload.bytes (omega (arith, h.payload.short))
+      range_of_node (name_at plan p.destination) p.origin p.payload (is_name (find (has_point p.destination) plan.nodes)) (omega arith) h.payload.bytes (omega (arith, h.payload.short))
 
   by_service : (is : Bool) → HasRange (cond (not is) (OtherService p.service) (cond (ltb 16383 p.origin || ltb 16383 p.destination) OtherPoint (for_node (name_at plan p.destination) p.origin p.payload)))
   by_service true = by_point (ltb 16383 p.origin || ltb 16383 p.destination) refl
@@ -103,14 +116,14 @@ fault_small faults.NoData = omega arith
 fault_small (faults.BadField tag) = omega arith
 fault_small faults.OutOfMemory = omega arith
 
-range_of_carried : (plan : Network) (b : List ℕ) (o : Option Payload) → ArePlanNames plan → length b ≤ 4096 → ((p : Payload) → o ≡ Some p → IsCarried b p) → HasRange (from_carried plan o)
-range_of_carried plan b None names short h = fault_small faults.NoData
-range_of_carried plan b (Some p) names short h = range_of_payload plan b p names short (h p refl)
+range_of_carried : (plan : Network) (b : List ℕ) (o : Option Payload) → length b ≤ 4096 → ((p : Payload) → o ≡ Some p → IsCarried b p) → HasRange (from_carried plan o)
+range_of_carried plan b None short h = fault_small faults.NoData
+range_of_carried plan b (Some p) short h = range_of_payload plan b p short (h p refl)
 
-range_of_imported : (plan : Network) (b : List ℕ) → ArePlanNames plan → IsBytes b → length b ≤ 4096 → HasRange (imported plan b)
-range_of_imported plan b names bytes short = by (reading b) refl where
+range_of_imported : (plan : Network) (b : List ℕ) → IsBytes b → length b ≤ 4096 → HasRange (imported plan b)
+range_of_imported plan b bytes short = by (reading b) refl where
   by : (r : Result (List Tagged) DataFault) → reading b ≡ r → HasRange (from_reading plan r)
-  by (Ok params) e = range_of_carried plan b (carried_of params) names short (λ p is. carried_in b params p bytes e is)
+  by (Ok params) e = range_of_carried plan b (carried_of params) short (λ p is. carried_in b params p bytes e is)
   by (Err fault) e = fault_small fault
 
 -- ---- each line that is printed
@@ -136,17 +149,11 @@ record IsHeld (octets : List ℕ) : Type 0 where
   bytes : IsBytes octets
   short : length octets ≤ 4096
 
-printed_octets : (plan : Network) (octets : List ℕ) → ArePlanNames plan → IsHeld octets → IsPrinted (text_of_octets plan octets) (line_of_octets plan octets)
-printed_octets plan [] names h = empty_line
-printed_octets plan (octet ∷ octets) names h = rw (eqb-suc-zero (length octets)) (printed_line (imported plan (octet ∷ octets)) (range_of_imported plan (octet ∷ octets) names h.bytes h.short))
+printed_octets : (plan : Network) (octets : List ℕ) → IsHeld octets → IsPrinted (text_of_octets plan octets) (line_of_octets plan octets)
+printed_octets plan [] h = empty_line
+printed_octets plan (octet ∷ octets) h = rw (eqb-suc-zero (length octets)) (printed_line (imported plan (octet ∷ octets)) (range_of_imported plan (octet ∷ octets) h.bytes h.short))
 
 -- ---- the lines of the file
-
-some_octets : {x y : List ℕ} → Some x ≡ Some y → x ≡ y
-some_octets e = cc
-
-none_octets : {y : List ℕ} → None ≡ Some y → ⊥
-none_octets e = cc
 
 pub ok_octets : {x y : List ℕ} → ok x ≡ ok y → x ≡ y
 ok_octets e = cc
@@ -237,18 +244,18 @@ content_is number text plain short few = rw (le-ltb 1000000 number few, le-ltb 8
 numbered_is : (number : ℕ) (text : List ℕ) (line : Line) → IsPrinted text line → number ≤ 1000000 → numbered number (text_line text true) ≡ Ok (record { number = number; line = line })
 numbered_is number text line h few = ap (numbered_content number) (content_is number text h.plain h.short few) ∙ ap (with_number number) h.reads
 
-told_all : (plan : Network) (number : ℕ) (messages : List (List ℕ)) → ArePlanNames plan → AllByRecursion IsHeld messages → number + length messages ≤ 1000001
+told_all : (plan : Network) (number : ℕ) (messages : List (List ℕ)) → AllByRecursion IsHeld messages → number + length messages ≤ 1000001
     → told_lines true number (lines_of (trace_text plan messages)) ≡ record { lines = trace_lines plan number messages; fault = None }
 unfolding trace_text
-told_all plan number [] names h few = refl
-told_all plan number (octets ∷ messages) names h few =
-    let here : IsPrinted (text_of_octets plan octets) (line_of_octets plan octets) = printed_octets plan octets names h.0 in
+told_all plan number [] h few = refl
+told_all plan number (octets ∷ messages) h few =
+    let here : IsPrinted (text_of_octets plan octets) (line_of_octets plan octets) = printed_octets plan octets h.0 in
     ap (told_lines true number) (lines_of-line (text_of_octets plan octets) (trace_text plan messages) (one_line (text_of_octets plan octets) here.plain))
     ∙ ap (λ r. and_then r (told_lines true (number + 1) (lines_of (trace_text plan messages)))) (numbered_is number (text_of_octets plan octets) (line_of_octets plan octets) here (omega arith))
-    ∙ ap (λ told. with_front (record { number = number; line = line_of_octets plan octets } ∷ []) told) (told_all plan (number + 1) messages names h.1 (omega arith))
+    ∙ ap (λ told. with_front (record { number = number; line = line_of_octets plan octets } ∷ []) told) (told_all plan (number + 1) messages h.1 (omega arith))
 
 -- the trace of a file has no faulty line, and these lines
-pub is_trace : (plan : Network) (file : List ℕ) (messages : List (List ℕ)) → ArePlanNames plan → octets_of_lines 1 (lines_of file) ≡ Ok messages → IsTraceOf plan file (trace_text plan messages)
-is_trace plan file messages names e =
+pub is_trace : (plan : Network) (file : List ℕ) (messages : List (List ℕ)) → octets_of_lines 1 (lines_of file) ≡ Ok messages → IsTraceOf plan file (trace_text plan messages)
+is_trace plan file messages e =
     let w : AreWithin 1 messages = lines_within 1 (lines_of file) messages e in
-    record { messages = messages; read = e; lines = told_all plan 1 messages names w.each (w.few (omega arith)) }
+    record { messages = messages; read = e; lines = told_all plan 1 messages w.each (w.few (omega arith)) }

@@ -1,5 +1,5 @@
 -- What becomes of a DATA message in a trace: a line with the message of SCCP that it carries, or a line that says why there is none.
-use Rattle.std.specs.Prelude.{ℕ, not, ◌||◌, ◌==◌, nat_lt, if◌then◌else◌, List, [], ◌++◌, length, codes, decimal, Option, Some, None, Result, Ok, Err, option_map}
+use Rattle.std.specs.Prelude.{ℕ, not, ◌||◌, ◌==◌, nat_lt, if◌then◌else◌, List, [], ◌++◌, length, codes, decimal, Option, Some, None, Result, Ok, Err, option_and_then}
 use Rattle.std.specs.List.{find}
 use Rattle.hex.specs.Hex.{encode_upper}
 use Rattle.m3ua_data.specs.Carried.{Payload, carried_of}
@@ -10,6 +10,7 @@ use Rattle.m3ua_data.specs.declared.fault.DataFault.TheVariants.{Short, BadHeade
 use Rattle.m3ua_data.specs.declared.tagged.Tagged.{Tagged}
 use Rattle.plan_model.specs.Network.{Network, has_point}
 use Rattle.plan_model.specs.declared.node.Node.{Node}
+use Rattle.sccp_base.specs.Names.{name_of}
 use Rattle.sccp_report.specs.Values.{point_code_text}
 use Rattle.trace_text.specs.declared.line.Line.{Line}
 use Rattle.trace_text.specs.declared.line.Line.TheVariants as lines
@@ -51,9 +52,9 @@ payload_in c = record { origin = c.origin; destination = c.destination; service 
 abbrev pub sccp : ℕ
 sccp = 3
 
--- the name of the node with this point code
+-- the name of the node with this point code; every node of a plan has one
 abbrev pub name_at : Network → ℕ → Option (List ℕ)
-name_at plan pc = option_map (λ node. node.name) (find (has_point pc) plan.nodes)
+name_at plan pc = option_and_then (λ node. name_of node.name) (find (has_point pc) plan.nodes)
 
 abbrev pub for_node : Option (List ℕ) → ℕ → List ℕ → Imported
 for_node None origin octets = UnknownNode

@@ -1,14 +1,16 @@
 //! The line of a trace for a DATA message.
-ghost use Rattle.std.specs.Prelude.{◌≡◌, ◌++◌, decimal, false, OnOk};
+ghost use Rattle.std.specs.Prelude.{◌≡◌, ◌++◌, decimal, false, find, OnOk, Some};
 ghost use Rattle.std.specs.Option.{option_copied};
 ghost use Rattle.hex.specs.Hex.{encode_upper};
 ghost use Rattle.m3ua_data.specs.Carried.{carried_of};
 ghost use Rattle.m3ua_data.specs.Reading.{is_memory};
+ghost use Rattle.plan_model.specs.Network.{has_point};
+ghost use Rattle.sccp_base.specs.Names.{name_of};
 ghost use Rattle.sccp_report.specs.Values.{point_code_text};
 ghost use Rattle.m3ua_trace.specs.Imported.{Refused, fault_number, number_unless_memory, name_at, for_node, payload_in, from_payload, from_carried, imported, message_line, imported_text};
 
 use m3ua_data::{Carried, Data, DataFault, carried, decode};
-use plan_model::Plan;
+use plan_model::{Node, Plan};
 use sccp_base::OutOfMemory;
 use std::alloc::Global;
 
@@ -65,15 +67,31 @@ fn put_message(
     put(text, digits.as_bytes())
 }
 
-/// The name of the node with a point code.
-fn name_at(plan: &Plan, pc: u32) -> Option<&[u8]>
-    ensures { option_copied result ≡ name_at plan.now pc }
+/// The name of a node.
+fn name(node: &Node) -> &[u8]
+    ensures { name_of node.now.name ≡ Some result.now }
+{
+    node.name.as_slice()
+}
+
+/// The node with a point code.
+fn node_at(plan: &Plan, pc: u32) -> Option<&Node>
+    ensures { option_copied result ≡ find (has_point pc) plan.now.nodes }
 {
     plan.nodes()
         .as_slice()
         .iter()
         .find(|node| u32::from(node.pc.value()) == pc)
-        .map(|node| node.name.as_slice())
+}
+
+/// The name of the node with a point code.
+fn name_at(plan: &Plan, pc: u32) -> Option<&[u8]>
+    ensures { option_copied result ≡ name_at plan.now pc }
+{
+    match node_at(plan, pc) {
+        Some(node) => Some(name(node)),
+        None => None,
+    }
 }
 
 /// Appends the line of octets for the node with a point code.

@@ -1,13 +1,11 @@
 //! A file of DATA messages, one a line in hexadecimal digits.
 ghost use Rattle.std.specs.Prelude.{◌≡◌, ◌≤◌, ◌++◌, ◌∷◌, [], IfOk, OnOk, MatchResult, Ok, Err};
-ghost use Rattle.std.specs.List.{All};
-ghost use Rattle.sccp_base.specs.Names.{IsName};
 ghost use Rattle.trace_text.specs.Lines.{lines_of, text_line};
 ghost use Rattle.m3ua_trace.specs.Traces.{held_octets, octets_of_line, text_of_octets, trace_of, IsTraceOf, Gives, GivesOctets};
 
 use crate::import_error::ImportError;
 use crate::importing::put_imported;
-use plan_model::{Node, Plan};
+use plan_model::Plan;
 use sccp_base::{Octets, OutOfMemory};
 use std::alloc::Global;
 use trace_text::{LineFault, LineKind, content, first_line, octets_of};
@@ -60,15 +58,6 @@ fn put_line(
     Ok(())
 }
 
-/// Tells of each node what its name keeps. It changes nothing.
-fn vouch_for_names(nodes: &[Node])
-    ensures { All (λ node. IsName node.name) nodes.now }
-{
-    for node in nodes {
-        let _name = node.name.as_slice();
-    }
-}
-
 /// The trace of a file: for each of its lines one line, with the message of SCCP that the DATA message carries to a node of the
 /// plan, or a line that is skipped: an empty one for an empty line, and else the first of `# refused F` with the number of the
 /// fault, `# service N`, `# point`, `# unknown node` and `# empty` that holds. A line of the file that is no word of hexadecimal
@@ -77,7 +66,6 @@ pub fn import(alloc: Global, plan: &Plan, file: &[u8]) -> Result<Vec<u8>, Import
     ensures exact { Gives result (trace_of plan.now file.now) }
     ensures trace { IfOk result (λ text. IsTraceOf plan.now file.now text.items) }
 {
-    vouch_for_names(plan.nodes().as_slice());
     let mut text = Vec::new(alloc);
     let mut rest = file;
     let mut number = 1;

@@ -1,7 +1,5 @@
-use Rattle.std.proofs.Common.{◌≡◌, ◌+◌, ◌++◌, ◌∷◌, [], length, arith, sym, ◌∙◌, ap, subst}
+use Rattle.std.proofs.Common.{◌≡◌, ◌+◌, ◌++◌, ◌∷◌, [], length, arith, sym, ◌∙◌, ap}
 use Rattle.std.proofs.lemmas.Bool.{eqb-true}
-use Rattle.std.specs.List.{All}
-use Rattle.sccp_base.specs.Names.{IsName}
 use Rattle.trace_text.specs.Lines.{lines_of, text_line}
 use Rattle.m3ua_trace.specs.Traces.{octets_of_lines, text_of_octets, trace_if_read, trace_of}
 use Rattle.m3ua_trace.proofs.Loop.{behind, one_more, at_end, is_traced}
@@ -29,5 +27,5 @@ returns-clause-exact c =
 
 pub returns-clause-trace : goal.returns-clause-trace
 returns-clause-trace c =
-    is_traced c.args.plan.now c.args.file.now c.loop-rest.text.items (subst (All (λ node. IsName node.name)) (c.as_slice.ensures ∙ c.nodes.ensures.value) c.vouch_for_names.ensures)
+    is_traced c.args.plan.now c.args.file.now c.loop-rest.text.items
     (sym c.loop-rest.invariant.0 ∙ at_end c.args.plan.now c.loop-rest.text.items c.loop-rest.rest.now c.loop-rest.number (eqb-true (length c.loop-rest.rest.now) 0 (sym c.is_empty.ensures ∙ c.loop-rest-test.false)))
