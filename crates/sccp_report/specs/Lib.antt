@@ -2,6 +2,7 @@ pub mod Values
 pub mod Fields
 pub mod Faults
 pub mod MessageText
+pub mod CutsText
 pub mod Hops
 pub mod PlanFaults
 pub mod Verdicts

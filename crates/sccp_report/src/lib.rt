@@ -2,7 +2,8 @@
 //!
 //! `message_text` gives the lines of the message that octets are: its type, a line for each field in the order of the message type (ITU-T Q.713 section 4),
 //! and a line for each optional parameter. Octets that are no message give one line that says why. The crate above may rely on the whole text being exactly
-//! that of `specs/MessageText`, which is built from a text for each field (`specs/Fields`) and for each value (`specs/Values`).
+//! that of `specs/MessageText`, which is built from a text for each field (`specs/Fields`) and for each value (`specs/Values`). `cuts_text` gives a line for each
+//! cut of octets, whether it is a message or why it is none (`specs/CutsText`).
 //!
 //! `hops_text` gives a line for each hop of a route: the title, what was held prohibited, and what the relay did with it (Q.714 section 2).
 //! `plan_fault_text` says why a text is no plan, and where. `verdict_text` gives the verdict on a plan and the route that shows it, `accepted_text` the one line
@@ -11,6 +12,7 @@
 #![tactic(auto)]
 
 mod address;
+mod cuts;
 mod fault;
 mod fields;
 mod hop;
@@ -24,6 +26,7 @@ mod text;
 mod values;
 mod verdict;
 
+pub use cuts::cuts_text;
 pub use hop::hops_text;
 pub use laws::{text_tells_point_code, text_tells_route};
 pub use plan_fault::plan_fault_text;

@@ -10,7 +10,7 @@ use std::alloc::Global;
 
 // The line on octets that are no message.
 #[tactic(auto, unfolding(crate::specs::MessageText::undecodable_line))]
-fn put_undecodable(text: &mut Text, fault: DecodeFault) -> Result<(), OutOfMemory>
+pub fn put_undecodable(text: &mut Text, fault: DecodeFault) -> Result<(), OutOfMemory>
     ensures { OnOk result (text.new ≡ text.old ++ undecodable_line fault) }
 {
     text.put(b"undecodable ")?;

@@ -52,6 +52,13 @@ impl Text {
         self.put(itoa::Buffer::new().format(number).as_bytes())
     }
 
+    /// Appends a place or a count in decimal.
+    pub fn put_count(&mut self, count: usize) -> Result<(), OutOfMemory>
+        ensures { OnOk result (self.new ≡ self.old ++ decimal count) }
+    {
+        self.put(itoa::Buffer::new().format(count).as_bytes())
+    }
+
     /// Appends a name and a number behind it.
     #[tactic(auto, unfolding(crate::specs::Values::numbered))]
     pub fn put_numbered(&mut self, name: &[u8], number: u32) -> Result<(), OutOfMemory>
@@ -67,7 +74,7 @@ impl Text {
         ensures { OnOk result (self.new ≡ self.old ++ numbered name.now count) }
     {
         self.put(name)?;
-        self.put(itoa::Buffer::new().format(count).as_bytes())
+        self.put_count(count)
     }
 
     // The hexadecimal digits of octets, two for each.
