@@ -2,6 +2,7 @@ pub mod DigitTexts
 pub mod HopLines
 pub mod InPlan
 pub mod InVerdict
+pub mod InMixture
 pub mod Parted
 pub mod MarkTexts
 pub mod SpotTexts

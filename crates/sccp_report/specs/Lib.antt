@@ -6,6 +6,7 @@ pub mod CutsText
 pub mod Hops
 pub mod PlanFaults
 pub mod Verdicts
+pub mod Changes
 pub mod Told
 pub mod Roles
 pub mod Served

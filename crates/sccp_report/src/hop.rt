@@ -65,9 +65,14 @@ fn put_step(text: &mut Text, plan: &Plan, step: &Step) -> Result<(), OutOfMemory
     }
 }
 
-// A hop under a marking.
+/// Appends a hop under a marking.
 #[tactic(auto, unfolding(crate::specs::Hops::hop_line))]
-fn put_hop(text: &mut Text, plan: &Plan, hop: &Hop, marking: &Marking) -> Result<(), OutOfMemory>
+pub fn put_hop(
+    text: &mut Text,
+    plan: &Plan,
+    hop: &Hop,
+    marking: &Marking,
+) -> Result<(), OutOfMemory>
     requires { IsHopIn plan.now hop.now }
     ensures { OnOk result (text.new ≡ text.old ++ hop_line plan.now hop.now marking.now) }
 {

@@ -8,10 +8,12 @@
 //! `hops_text` gives a line for each hop of a route: the title, what was held prohibited, and what the relay did with it (Q.714 section 2).
 //! `plan_fault_text` says why a text is no plan, and where. `verdict_text` gives the verdict on a plan and the route that shows it, `accepted_text` the one line
 //! that a plan is accepted. These texts are exactly those of `specs/Hops`, `specs/PlanFaults` and `specs/Verdicts`. The text of a route's hops
-//! tells the hops (`text_tells_route`), and that of a point code the number (`text_tells_point_code`).
+//! tells the hops (`text_tells_route`), and that of a point code the number (`text_tells_point_code`). `change_text` tells whether relays may hold
+//! either of two plans, and the mixed route that shows it, exactly as `specs/Changes` says.
 #![tactic(auto)]
 
 mod address;
+mod change;
 mod cuts;
 mod fault;
 mod fields;
@@ -26,6 +28,7 @@ mod text;
 mod values;
 mod verdict;
 
+pub use change::change_text;
 pub use cuts::cuts_text;
 pub use hop::hops_text;
 pub use laws::{text_tells_point_code, text_tells_route};

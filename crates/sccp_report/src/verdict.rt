@@ -15,7 +15,7 @@ use std::alloc::Global;
 
 /// Appends why a route is bad.
 #[tactic(auto, unfolding(crate::specs::Verdicts::kind_words))]
-fn put_kind(text: &mut Text, kind: Kind) -> Result<(), OutOfMemory>
+pub fn put_kind(text: &mut Text, kind: Kind) -> Result<(), OutOfMemory>
     ensures { OnOk result (text.new ≡ text.old ++ kind_words kind) }
 {
     match kind {

@@ -1,0 +1,7 @@
+use Rattle.std.proofs.Common.{◌≡◌, ◌++◌, drop}
+use Rattle.sccp_report.specs.Changes.{mixed_hops_text}
+use Rattle.sccp_report.proofs.change.put_mixed_hops.Given as goal
+
+-- the lines so far and those of the hops that are left
+abbrev pub invariant-loop-i : goal.invariant-loop-i
+invariant-loop-i l = l.text ++ mixed_hops_text l.plan (drop l.i l.hops) (drop l.i l.turns) ≡ l.initial.text ++ mixed_hops_text l.plan l.hops l.turns
