@@ -4,10 +4,10 @@ use Rattle.std.proofs.lemmas.Bool.{le-ltb, ltb-true, ltb-false}
 use Rattle.std.proofs.lemmas.Bool.Decides.{Decides-ltb}
 use Rattle.sccp_io.specs.Files.{Contents, Reads, lacks}
 use Rattle.sccp_tool.specs.Ending.{Works}
-use Rattle.sccp_tool.specs.Limit.{within_limit, HasFile, HasLongFile}
+use Rattle.sccp_tool.specs.Limit.{within_limit, IsThere, HasFile, HasLongFile}
 use Rattle.sccp_tool.specs.Moment.{Moment}
 use Rattle.sccp_tool.specs.Texts.{too_long}
-use Rattle.sccp_tool.specs.Work.{Work, answered, Ends}
+use Rattle.sccp_tool.specs.Work.{Work, answered, Ends, HasFiles}
 use Rattle.sccp_tool.specs.declared.status.Status.{Status}
 use Rattle.sccp_tool.specs.declared.status.Status.TheVariants.{TooLong}
 use Rattle.sccp_tool.specs.declared.stop.Stop.{Stop}
@@ -55,3 +55,11 @@ pub not_long : (c : Contents) (name : List ℕ) (P : List ℕ → Type 0) → Ha
 not_long c name P h has =
     let few : length has.0 ≤ 1048576 = subst (λ o. length o ≤ 1048576) (same_octets (c name) h.0 has.0 h.1 has.1) h.2 in
     absurd (omega (arith, few, has.2))
+
+-- ---- the files of a command over such a file
+
+pub limit_files : (c : Contents) (name : List ℕ) (next : List ℕ → Work) → ((octets : List ℕ) → HasFiles c (next octets)) → IsThere c name → HasFiles c (within_limit name next)
+limit_files c name next go there = (there.0, there.1, by (ltb 1048576 (length there.0))) where
+  by : (b : Bool) → HasFiles c (cond b (answered (TooLong, too_long)) (next there.0))
+  by true = tt
+  by false = go there.0

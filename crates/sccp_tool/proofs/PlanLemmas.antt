@@ -6,15 +6,15 @@ use Rattle.plan_model.specs.declared.plan_fault.PlanFault.{PlanFault}
 use Rattle.plan_text.specs.PlanText.{plan_of}
 use Rattle.sccp_io.specs.Files.{Contents, Reads}
 use Rattle.sccp_tool.specs.Ending.{Works, early}
-use Rattle.sccp_tool.specs.Limit.{HasFile, HasLongFile}
+use Rattle.sccp_tool.specs.Limit.{IsThere, HasFile, HasLongFile}
 use Rattle.sccp_tool.specs.Moment.{Moment}
 use Rattle.sccp_tool.specs.Plans.{bad_plan, planned, with_plan, HasPlan, HasBadPlan}
-use Rattle.sccp_tool.specs.Work.{Work, answered, Ends}
+use Rattle.sccp_tool.specs.Work.{Work, answered, Ends, HasFiles}
 use Rattle.sccp_tool.specs.Writing.{Writes}
 use Rattle.sccp_tool.specs.declared.status.Status.{Status}
 use Rattle.sccp_tool.specs.declared.status.Status.TheVariants.{BadPlan, TooLong}
 use Rattle.sccp_tool.specs.declared.stop.Stop.{Stop}
-use Rattle.sccp_tool.proofs.LimitLemmas.{FileEnds, Ends-within_limit, at_file, not_long}
+use Rattle.sccp_tool.proofs.LimitLemmas.{FileEnds, Ends-within_limit, at_file, not_long, limit_files}
 use Rattle.sccp_tool.proofs.LimitLemmas as file
 use Rattle.sccp_tool.proofs.WorkLemmas.{Works-answered, Works-early}
 
@@ -79,10 +79,18 @@ if_plan c name on BadPlan (bad h) has =
     absurd (not_both (plan_of has.0) has.3 (at_file c name (λ octets. IsErr (plan_of octets)) (λ octets. IsOk (plan_of octets)) h has))
 if_plan c name on s (good h) has = at_file c name (λ octets. (plan : Network) × (plan_of octets ≡ Ok plan) × on plan s) (λ octets. IsOk (plan_of octets)) h has
 
-same_plan : {E : Type 0} (r : Result Network E) (p q : Network) → r ≡ Ok p → r ≡ Ok q → p ≡ q
+pub same_plan : {E : Type 0} (r : Result Network E) (p q : Network) → r ≡ Ok p → r ≡ Ok q → p ≡ q
 same_plan r p q e f = cc
 
 pub at_plan : (c : Contents) (name : List ℕ) (on : Network → Status → Type 0) (P : Network → Type 0) (s : Status) → PlanEnds (Some c) name on s → (has : HasPlan (Some c) name P) → on has.3.0 s
 at_plan c name on P s ends has =
     let g = if_plan c name on s ends (has.0, has.1, has.2, ap is_ok has.3.1) in
     subst (λ plan. on plan s) (same_plan (plan_of has.0) g.0 has.3.0 g.1 has.3.1) g.2
+
+-- ---- the files of a command over a plan
+
+pub plan_files : (c : Contents) (name : List ℕ) (next : Network → Work) → ((plan : Network) → HasFiles c (next plan)) → IsThere c name → HasFiles c (with_plan name next)
+plan_files c name next go there = limit_files c name (λ octets. planned (plan_of octets) next) (λ octets. by (plan_of octets)) there where
+  by : (r : Result Network PlanFault) → HasFiles c (planned r next)
+  by (Ok plan) = go plan
+  by (Err fault) = tt

@@ -79,7 +79,7 @@ only contents name s text (good h) =
 -- ---- what each answer follows from
 
 -- no safe plan has a bad route
-safe_or_bad : (plan : Network) → IsSafe plan → (w : Witness) → IsWitness plan w → ⊥
+pub safe_or_bad : (plan : Network) → IsSafe plan → (w : Witness) → IsWitness plan w → ⊥
 safe_or_bad plan safe w is = safe_not_bad plan safe.0 w.cover w.spot w.markings w.hops w.kind safe.1.few safe.1.safe is.bad
 
 done_if_safe : (plan : Network) (v : Verdict) (s : Status) → IsLawful plan v → s ≡ status_of v → IsSafe plan → (IsWide plan → ⊥) → s ≡ Done

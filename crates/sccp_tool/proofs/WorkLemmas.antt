@@ -9,9 +9,10 @@ use Rattle.sccp_io.specs.Faults.{Rose}
 use Rattle.sccp_io.specs.Files.{Contents, Reads, lacks}
 use Rattle.sccp_tool.specs.Ending.{Goes, IsCut, IsSpared, Stops, Works, Answers, Outcome, Closes, answer_of, early}
 use Rattle.sccp_tool.specs.Moment.{Moment}
+use Rattle.sccp_tool.specs.Numbers.{Batch, AreNumbers}
 use Rattle.sccp_tool.specs.Texts.{read_fault}
 use Rattle.sccp_tool.specs.Writing.{Writes}
-use Rattle.sccp_tool.specs.Work.{Work, finish, print, read, judge, answered, IsJudged, Ends, ComesToReading, BeginsWith, HasFiles}
+use Rattle.sccp_tool.specs.Work.{Work, finish, print, read, read_on, judge, serve, answered, IsJudged, Ends, ComesToReading, BeginsWith, HasFiles}
 use Rattle.sccp_tool.specs.declared.status.Status.{Status}
 use Rattle.sccp_tool.specs.declared.status.Status.TheVariants.{NoMemory, ReadFault, WriteFault}
 use Rattle.sccp_tool.specs.declared.stop.Stop.{Stop}
@@ -57,6 +58,8 @@ BeginsWith-nil contents (finish s) = refl
 BeginsWith-nil contents (print t w) = inl refl
 BeginsWith-nil contents (read name f) = inl refl
 BeginsWith-nil contents (judge plan f) = inl refl
+BeginsWith-nil contents (read_on w) = BeginsWith-nil contents w
+BeginsWith-nil contents (serve batch f) = inl refl
 
 -- ---- want of memory before anything else
 
@@ -176,6 +179,152 @@ Works-judge plan f verdict result b a judged w = record {
   at : (k : Option Contents) → IfSome k (λ c. HasFiles c (f verdict) → a.read_faults ≡ b.read_faults) → IfSome k (λ c. HasFiles c (judge plan f) → a.read_faults ≡ b.read_faults)
   at None h = tt
   at (Some c) h = λ has. h (has verdict judged)
+
+-- ---- an open file is read on
+
+stops_read_on : (w : Work) (result : Result Status Stop) (text : List ℕ) (b m a : Moment) → Moved b m → Stops w result text m a → Stops (read_on w) result text b a
+stops_read_on w (Ok s) text b m a p e = (e.0, subst (λ c. Ends c w s text) p.contents e.1)
+stops_read_on w (Err (Answered s)) text b m a p e = (e.0, subst (λ c. Ends c w s text) p.contents e.1)
+stops_read_on w (Err Read) text b m a p e = (Rose-before b.read_faults m.read_faults a.read_faults p.read_faults e.0, inr (subst (λ c. ComesToReading c w text) p.contents e.1))
+stops_read_on w (Err Write) text b m a p e = (Rose-before b.write_faults m.write_faults a.write_faults (omega (arith, p.write_faults)) e.0, subst (λ c. BeginsWith c w text) p.contents e.1)
+stops_read_on w (Err Memory) text b m a p e = subst (λ c. BeginsWith c w text) p.contents e
+
+-- a piece was taken, and the work goes on
+pub Works-read_on : (w : Work) (result : Result Status Stop) (b m a : Moment) → Moved b m → (IsTrue b.sound → m.read_faults ≡ b.read_faults) → Works w result m a → Works (read_on w) result b a
+Works-read_on w result b m a p spared h = record {
+  text = h.text;
+  goes = Goes-append b m a [] h.text (Goes-moved b m p) h.goes;
+  stops = stops_read_on w result h.text b m a p h.stops;
+  spared = λ sound. at b.contents refl sound;
+} where
+  at : (k : Option Contents) → b.contents ≡ k → IsTrue b.sound → IfSome k (λ c. HasFiles c (read_on w) → a.read_faults ≡ b.read_faults)
+  at None e sound = tt
+  at (Some c) e sound = λ has.
+      let more : IfSome m.contents (λ d. HasFiles d w → a.read_faults ≡ m.read_faults) = h.spared (p.sound ∙ sound) in
+      let more' : IfSome (Some c) (λ d. HasFiles d w → a.read_faults ≡ m.read_faults) = subst (λ k. IfSome k (λ d. HasFiles d w → a.read_faults ≡ m.read_faults)) (p.contents ∙ e) more in
+      more' has ∙ spared sound
+
+-- the file that is open failed, or memory ran out at it; a sound file doesn't fail there
+pub Works-read_on-stopped : (w : Work) (stop : Stop) (b m : Moment) → Moved b m → (IsTrue b.sound → m.read_faults ≡ b.read_faults) → (stop ≡ Read → Rose b.read_faults m.read_faults) → (stop ≡ Write → ⊥)
+    → ((s : Status) → stop ≡ Answered s → ⊥) → Works (read_on w) (Err stop) b m
+Works-read_on-stopped w stop b m p spared failed no_writing no_answer = record {
+  text = [];
+  goes = Goes-moved b m p;
+  stops = stopped stop failed no_writing no_answer;
+  spared = λ sound. at b.contents sound;
+} where
+  stopped : (s : Stop) → (s ≡ Read → Rose b.read_faults m.read_faults) → (s ≡ Write → ⊥) → ((t : Status) → s ≡ Answered t → ⊥) → Stops (read_on w) (Err s) [] b m
+  stopped (Answered t) failed never own = absurd (own t refl)
+  stopped Read failed never own = (failed refl, inl refl)
+  stopped Write failed never own = absurd (never refl)
+  stopped Memory failed never own = BeginsWith-nil b.contents w
+
+  at : (k : Option Contents) → IsTrue b.sound → IfSome k (λ c. HasFiles c (read_on w) → m.read_faults ≡ b.read_faults)
+  at None sound = tt
+  at (Some c) sound = λ has. spared sound
+
+-- a piece of an open file was taken, and the work is as before
+pub Works-moved : (w : Work) (result : Result Status Stop) (b m a : Moment) → Moved b m → (IsTrue b.sound → m.read_faults ≡ b.read_faults) → Works w result m a → Works w result b a
+Works-moved w result b m a p spared h = record {
+  text = h.text;
+  goes = Goes-append b m a [] h.text (Goes-moved b m p) h.goes;
+  stops = moved result h.stops;
+  spared = λ sound. at b.contents refl sound;
+} where
+  moved : (r : Result Status Stop) → Stops w r h.text m a → Stops w r h.text b a
+  moved (Ok s) e = (e.0, subst (λ c. Ends c w s h.text) p.contents e.1)
+  moved (Err (Answered s)) e = (e.0, subst (λ c. Ends c w s h.text) p.contents e.1)
+  moved (Err Read) e = (Rose-before b.read_faults m.read_faults a.read_faults p.read_faults e.0, subst (λ c. ComesToReading c w h.text) p.contents e.1)
+  moved (Err Write) e = (Rose-before b.write_faults m.write_faults a.write_faults (omega (arith, p.write_faults)) e.0, subst (λ c. BeginsWith c w h.text) p.contents e.1)
+  moved (Err Memory) e = subst (λ c. BeginsWith c w h.text) p.contents e
+
+  at : (k : Option Contents) → b.contents ≡ k → IsTrue b.sound → IfSome k (λ c. HasFiles c w → a.read_faults ≡ b.read_faults)
+  at None e sound = tt
+  at (Some c) e sound = λ has.
+      let more : IfSome m.contents (λ d. HasFiles d w → a.read_faults ≡ m.read_faults) = h.spared (p.sound ∙ sound) in
+      let more' : IfSome (Some c) (λ d. HasFiles d w → a.read_faults ≡ m.read_faults) = subst (λ k. IfSome k (λ d. HasFiles d w → a.read_faults ≡ m.read_faults)) (p.contents ∙ e) more in
+      more' has ∙ spared sound
+
+-- an open file failed before anything more was written, and the work comes to a reading so
+pub Works-failed : (w : Work) (stop : Stop) (b m : Moment) → Moved b m → (IsTrue b.sound → m.read_faults ≡ b.read_faults) → ComesToReading b.contents w [] → (stop ≡ Read → Rose b.read_faults m.read_faults) → (stop ≡ Write → ⊥)
+    → ((s : Status) → stop ≡ Answered s → ⊥) → Works w (Err stop) b m
+Works-failed w stop b m p spared comes failed no_writing no_answer = record {
+  text = [];
+  goes = Goes-moved b m p;
+  stops = stopped stop failed no_writing no_answer;
+  spared = λ sound. at b.contents sound;
+} where
+  stopped : (s : Stop) → (s ≡ Read → Rose b.read_faults m.read_faults) → (s ≡ Write → ⊥) → ((t : Status) → s ≡ Answered t → ⊥) → Stops w (Err s) [] b m
+  stopped (Answered t) failed never own = absurd (own t refl)
+  stopped Read failed never own = (failed refl, comes)
+  stopped Write failed never own = absurd (never refl)
+  stopped Memory failed never own = BeginsWith-nil b.contents w
+
+  at : (k : Option Contents) → IsTrue b.sound → IfSome k (λ c. HasFiles c w → m.read_faults ≡ b.read_faults)
+  at None sound = tt
+  at (Some c) sound = λ has. spared sound
+
+-- ---- the numbers of a batch
+
+pub Works-serve : (batch : Batch) (f : List ℕ → Work) (numbers : List ℕ) (result : Result Status Stop) (b a : Moment) → AreNumbers batch numbers → Works (f numbers) result b a → Works (serve batch f) result b a
+Works-serve batch f numbers result b a are w = record {
+  text = w.text;
+  goes = w.goes;
+  stops = stops_serve result w.stops;
+  spared = λ h. at b.contents (w.spared h);
+} where
+  stops_serve : (r : Result Status Stop) → Stops (f numbers) r w.text b a → Stops (serve batch f) r w.text b a
+  stops_serve (Ok s) e = (e.0, (numbers, are, e.1))
+  stops_serve (Err (Answered s)) e = (e.0, (numbers, are, e.1))
+  stops_serve (Err Read) e = (e.0, (numbers, are, e.1))
+  stops_serve (Err Write) e = (e.0, inr (numbers, are, e.1))
+  stops_serve (Err Memory) e = inr (numbers, are, e)
+
+  at : (k : Option Contents) → IfSome k (λ c. HasFiles c (f numbers) → a.read_faults ≡ b.read_faults) → IfSome k (λ c. HasFiles c (serve batch f) → a.read_faults ≡ b.read_faults)
+  at None h = tt
+  at (Some c) h = λ has. h (has numbers are)
+
+-- ---- a text is written, and the work goes on
+
+stops_print : (t : List ℕ) (w : Work) (result : Result Status Stop) (text : List ℕ) (b m a : Moment) → Goes b m t → Stops w result text m a → Stops (print t w) result (t ++ text) b a
+stops_print t w (Ok s) text b m a p e = (e.0, (text, refl, subst (λ c. Ends c w s text) p.contents e.1))
+stops_print t w (Err (Answered s)) text b m a p e = (e.0, (text, refl, subst (λ c. Ends c w s text) p.contents e.1))
+stops_print t w (Err Read) text b m a p e = (Rose-before b.read_faults m.read_faults a.read_faults p.read_faults e.0, (text, refl, subst (λ c. ComesToReading c w text) p.contents e.1))
+stops_print t w (Err Write) text b m a p e = (Rose-before b.write_faults m.write_faults a.write_faults p.write_faults e.0, inr (text, refl, subst (λ c. BeginsWith c w text) p.contents e.1))
+stops_print t w (Err Memory) text b m a p e = inr (text, refl, subst (λ c. BeginsWith c w text) p.contents e)
+
+pub Works-print : (t : List ℕ) (w : Work) (result : Result Status Stop) (b m a : Moment) → Goes b m t → m.read_faults ≡ b.read_faults → Works w result m a → Works (print t w) result b a
+Works-print t w result b m a p same h = record {
+  text = t ++ h.text;
+  goes = Goes-append b m a t h.text p h.goes;
+  stops = stops_print t w result h.text b m a p h.stops;
+  spared = λ sound. at b.contents refl sound;
+} where
+  at : (k : Option Contents) → b.contents ≡ k → IsTrue b.sound → IfSome k (λ c. HasFiles c (print t w) → a.read_faults ≡ b.read_faults)
+  at None e sound = tt
+  at (Some c) e sound = λ has.
+      let more : IfSome m.contents (λ d. HasFiles d w → a.read_faults ≡ m.read_faults) = h.spared (p.sound ∙ sound) in
+      let more' : IfSome (Some c) (λ d. HasFiles d w → a.read_faults ≡ m.read_faults) = subst (λ k. IfSome k (λ d. HasFiles d w → a.read_faults ≡ m.read_faults)) (p.contents ∙ e) more in
+      more' has ∙ same
+
+-- the sink failed at a text, or memory was wanting
+pub Works-print-stopped : (t : List ℕ) (w : Work) (front : List ℕ) (stop : Stop) (b m : Moment) → StartsWith t front → Goes b m front → m.read_faults ≡ b.read_faults → (stop ≡ Write → Rose b.write_faults m.write_faults)
+    → (stop ≡ Read → ⊥) → ((s : Status) → stop ≡ Answered s → ⊥) → Works (print t w) (Err stop) b m
+Works-print-stopped t w front stop b m starts p kept failed no_reading no_answer = record {
+  text = front;
+  goes = p;
+  stops = stopped stop failed no_reading no_answer;
+  spared = λ sound. at b.contents;
+} where
+  stopped : (s : Stop) → (s ≡ Write → Rose b.write_faults m.write_faults) → (s ≡ Read → ⊥) → ((t : Status) → s ≡ Answered t → ⊥) → Stops (print t w) (Err s) front b m
+  stopped (Answered t) failed never own = absurd (own t refl)
+  stopped Read failed never own = absurd (never refl)
+  stopped Write failed never own = (failed refl, inl starts)
+  stopped Memory failed never own = inl starts
+
+  at : (k : Option Contents) → IfSome k (λ c. HasFiles c (print t w) → m.read_faults ≡ b.read_faults)
+  at None = tt
+  at (Some c) = λ has. kept
 
 -- ---- the end of the call
 

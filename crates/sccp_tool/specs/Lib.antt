@@ -1,12 +1,18 @@
+pub mod Account
 pub mod Commands
 pub mod Ending
+pub mod LaterPlans
 pub mod Limit
 pub mod LineFault
 pub mod Moment
+pub mod Numbers
 pub mod Opened
 pub mod Parsed
 pub mod Plans
 pub mod Reading
+pub mod Replay
+pub mod ReplayEnds
+pub mod Replaying
 pub mod Route
 pub mod Run
 pub mod Show
@@ -15,6 +21,7 @@ pub mod Starts
 pub mod Status
 pub mod Task
 pub mod Texts
+pub mod Trace
 pub mod Verify
 pub mod Work
 pub mod Writing

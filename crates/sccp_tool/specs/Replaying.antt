@@ -1,0 +1,45 @@
+-- What the code of a replay gives, whatever the replay goes on with.
+use Rattle.std.specs.Prelude.{◌≡◌, ℕ, ◌+◌, true, List, [], ◌++◌, length, Option, Some, None, Result}
+use Rattle.trace_text.specs.Told.{ahead}
+use Rattle.trace_text.specs.Told as reading
+use Rattle.trace_text.specs.declared.fed.Fed.{Fed}
+use Rattle.trace_text.specs.declared.line.Numbered.{Numbered}
+use Rattle.sccp_tool.specs.Ending.{Works}
+use Rattle.sccp_tool.specs.Moment.{Moment}
+use Rattle.sccp_tool.specs.Replay.{Standing, Settled, settle, batch_work, closing_of, lines_work}
+use Rattle.sccp_tool.specs.Work.{Work}
+use Rattle.sccp_tool.specs.declared.status.Status.{Status}
+use Rattle.sccp_tool.specs.declared.stop.Stop.{Stop}
+
+-- From here on the whole work ends as what is left of it does.
+abbrev pub EndsAs : Work → Work → Moment → Moment → Type 0
+EndsAs whole left first now = (result : Result Status Stop) (after : Moment) → Works left result now after → Works whole result first after
+
+-- the plan lines of a batch were settled, up to these lines
+abbrev pub SettlesTo : Standing → List Numbered → Standing → List Settled → List Numbered → Moment → Moment → Type 0
+SettlesTo at lines at' settled left first now = (next : Standing → List Settled → Work) → EndsAs (settle at [] lines next) (settle at' settled left next) first now
+
+-- a batch is done: its text, and where the replay stands behind it
+abbrev pub BatchGives : Standing → List Numbered → Standing → List ℕ → Moment → Moment → Type 0
+BatchGives at lines at' text first now = (next : Standing → List ℕ → Work) → EndsAs (batch_work at lines next) (next at' text) first now
+
+-- a later plan was too long, or the work stopped: there is nothing to go on with
+abbrev pub BatchStops : Standing → List Numbered → Result Status Stop → Moment → Moment → Type 0
+BatchStops at lines result first now = (next : Standing → List ℕ → Work) → Works (batch_work at lines next) result first now
+
+-- what may still come of a file: what is left of it, where that is told
+abbrev pub MayCome : Option (List ℕ) → List ℕ → Type 0
+MayCome None rest = Unit {0}
+MayCome (Some octets) rest = octets ≡ rest
+
+abbrev pub work_behind : ℕ → Standing → List Numbered → List Numbered → Fed → Work
+work_behind count at batch waiting fed = lines_work (closing_of (count + length fed.lines) fed.fault) at batch (waiting ++ fed.lines)
+
+-- So many lines were read. Those of a batch that has begun are gathered, others wait; the reader has the rest of the trace to come.
+abbrev pub rest_work : ℕ → Standing → List Numbered → List Numbered → reading.Standing → List ℕ → Work
+rest_work count at batch waiting reader rest = work_behind count at batch waiting (ahead reader true rest)
+
+-- the loop over the pieces of a trace: whatever may still come of it
+abbrev pub GoesOn : Work → ℕ → Standing → List Numbered → List Numbered → reading.Standing → Option (List ℕ) → Moment → Moment → Type 0
+GoesOn whole count at batch waiting reader left first now =
+    (rest : List ℕ) → MayCome left rest → EndsAs whole (rest_work count at batch waiting reader rest) first now
