@@ -8,13 +8,13 @@ ghost use Rattle.sccp_message.specs.Fields.{param as param_of, reads_if};
 ghost use Rattle.sccp_segment.specs.Segments.{segmentation_octets};
 ghost use Rattle.long_segments.specs.Sending.{FirstTells, Gives, class_for, is_one_segment, params_for, reference_of, segment_message, sending, sending_message, written_all};
 
-use crate::copies::{copied_address, copied_param};
+use crate::copies::copied_param;
 use crate::long_fault::LongFault;
 use sccp_address::Address;
 use sccp_base::{List, Octets, OutOfMemory, Reference};
 use sccp_layout::Param;
 use sccp_message::{DecodeFault, EncodeFault, Message, decode, encode, param};
-use sccp_segment::{Segment, SplitDataFault, split_data};
+use sccp_segment::{Segment, SplitDataFault, copied_address, split_data};
 use std::alloc::Global;
 
 // The name of the segmentation parameter (Q.713 section 3.17).

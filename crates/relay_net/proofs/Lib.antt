@@ -4,3 +4,5 @@ pub mod Turns
 pub mod Told
 pub mod Sends
 pub mod Places
+pub mod Delivering
+pub mod Rows

@@ -1,5 +1,5 @@
 -- What the ends of journeys leave to be done at the nodes.
-use Rattle.std.specs.Prelude.{ℕ, ◌==◌, if◌then◌else◌, List, Option, Some, None, Result, Ok, Err}
+use Rattle.std.specs.Prelude.{ℕ, ◌<◌, ◌==◌, if◌then◌else◌, List, Option, Some, None, Result, Ok, Err}
 use Rattle.std.specs.Option.{option_map, option_and_then}
 use Rattle.sccp_address.specs.declared.address.Address.{Address}
 use Rattle.sccp_manage.specs.declared.event.Event.TheVariants.{Knock}
@@ -14,13 +14,16 @@ use Rattle.relay_net.specs.declared.end.End.{End}
 use Rattle.relay_net.specs.declared.end.End.TheVariants.{Local, Returned}
 use Rattle.relay_net.specs.declared.travelled.Journey.{Journey}
 use Rattle.relay_net.specs.Journeys.{last_node}
-use Rattle.relay_net.specs.States.{State, Applied, applied, nothing_at}
+use Rattle.relay_net.specs.States.{State, Applied, CanHappen, applied, nothing_at}
 
 -- a message that is to be routed: the node that it comes to, the point that it comes from, and its octets
 pub record Incoming : Type 0 where
   pub entry : ℕ
   pub origin : ℕ
   pub octets : List ℕ
+
+abbrev pub incoming : ℕ → ℕ → List ℕ → Incoming
+incoming entry origin octets = record { entry = entry; origin = origin; octets = octets }
 
 -- what is to happen, and at which node
 pub record Due : Type 0 where
@@ -45,6 +48,11 @@ due_after x path (Local ssn m) = Some (due (last_node x.entry path) (Delivered m
 due_after x path (Returned cause marks) =
     if cause == 3 then option_map (λ ssn. due x.entry (Managed (Knock x.origin ssn))) (ssn_in (reading x.octets)) else None
 due_after x path end = None
+
+-- it can happen at one of so many nodes
+abbrev pub CanBeDone : ℕ → Option Due → Type 0
+CanBeDone nodes None = Unit {0}
+CanBeDone nodes (Some d) = (d.node < nodes) × CanHappen d.what
 
 abbrev pub applied_if_due : Network → List State → Option Due → Applied
 applied_if_due plan states None = nothing_at states

@@ -8,6 +8,7 @@
 
 mod back;
 mod end;
+mod ends;
 mod happening;
 mod holds_marking;
 mod job;

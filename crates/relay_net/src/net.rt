@@ -1,11 +1,24 @@
 ghost use Rattle.std.specs.Prelude.{◌≡◌, ◌<◌, length, IfOk, OnOk, OnErr};
+ghost use Rattle.std.specs.Prelude.{◌==◌, if◌then◌else◌, None, Some};
+ghost use Rattle.std.specs.Option.{option_map};
+ghost use Rattle.plan_model.specs.Network.{Network};
+ghost use Rattle.sccp_message.specs.Reading.{reading};
+ghost use Rattle.sccp_message.specs.Written.{Sound};
+ghost use Rattle.sccp_manage.specs.declared.event.Event.TheVariants.{Knock};
+ghost use Rattle.relay_net.specs.declared.happening.Happening.TheVariants as happenings;
 ghost use Rattle.relay_net.specs.States.{first_states, applied, CanHappen};
+ghost use Rattle.relay_net.specs.Batches.{CanBeDone, applied_after, applied_if_due, due, due_after, incoming, ssn_in};
 
+use crate::end::End;
+use crate::ends::{last_node, ssn_in};
 use crate::happening::Happening;
 use crate::node_state::NodeState;
 use crate::outcome::Outcome;
+use crate::travelled::Journey;
 use plan_model::Plan;
-use sccp_base::{List, OutOfMemory};
+use sccp_base::{List, OutOfMemory, PointCode};
+use sccp_manage::Event;
+use sccp_message::Message;
 use std::alloc::Global;
 use std::marker::Model;
 
@@ -64,5 +77,70 @@ impl Net {
     {
         let alloc = self.alloc;
         self.states[usize::from(node)].happen(alloc, plan, what)
+    }
+
+    /// What the end of a journey leaves to be done is done, for a message that came from the point `origin` to the node at
+    /// the place `entry`.
+    ///
+    /// A message for a subsystem of the last node is delivered there. One that routes on SSN and was returned with cause 3,
+    /// subsystem failure, was for a prohibited subsystem of the entry node, whose management tells the origin so. Nothing
+    /// else is done, and nothing for the end of a service message. Where memory is wanting all stays.
+    pub fn apply_after(
+        &mut self,
+        plan: &Plan,
+        entry: u8,
+        origin: PointCode,
+        octets: &[u8],
+        journey: &Journey,
+    ) -> Result<List<Outcome>, OutOfMemory>
+        requires nodes { length plan.now.nodes ≡ length self.old }
+        requires due { CanBeDone (length self.old) (due_after (incoming entry origin octets.now) journey.now.path journey.now.end) }
+        ensures states { OnOk result (self.new ≡ (applied_after plan.now self.old (incoming entry origin octets.now) journey.now).states) }
+        ensures outcomes { IfOk result (λ outcomes. outcomes ≡ (applied_after plan.now self.old (incoming entry origin octets.now) journey.now).outcomes) }
+        ensures err { OnErr result (self.new ≡ self.old) }
+    {
+        match &journey.end {
+            End::Local { message, .. } => {
+                let node = last_node(entry, journey.path.as_slice());
+                self.deliver(node, message)
+            }
+            End::Returned { cause, .. } if *cause == 3 => self.knock(plan, entry, origin, octets),
+            _ => Ok(List::new(self.alloc)),
+        }
+    }
+
+    // A message that stays with its owner is delivered at a node.
+    fn deliver(&mut self, node: u8, message: &Message) -> Result<List<Outcome>, OutOfMemory>
+        requires node { node < length self.old }
+        requires message { Sound message.now }
+        ensures states { (plan : Network) → OnOk result (self.new ≡ (applied plan self.old node (happenings.Delivered message.now)).states) }
+        ensures outcomes { (plan : Network) → IfOk result (λ outcomes. outcomes ≡ (applied plan self.old node (happenings.Delivered message.now)).outcomes) }
+        ensures err { OnErr result (self.new ≡ self.old) }
+    {
+        let alloc = self.alloc;
+        self.states[usize::from(node)].receive(alloc, message)
+    }
+
+    // The origin of a message that routes on SSN is told that its subsystem is prohibited.
+    fn knock(
+        &mut self,
+        plan: &Plan,
+        entry: u8,
+        origin: PointCode,
+        octets: &[u8],
+    ) -> Result<List<Outcome>, OutOfMemory>
+        requires nodes { length plan.now.nodes ≡ length self.old }
+        requires due { CanBeDone (length self.old) (option_map (λ ssn. due entry (happenings.Managed (Knock origin ssn))) (ssn_in (reading octets.now))) }
+        ensures states { OnOk result (self.new ≡ (applied_if_due plan.now self.old (option_map (λ ssn. due entry (happenings.Managed (Knock origin ssn))) (ssn_in (reading octets.now)))).states) }
+        ensures outcomes { IfOk result (λ outcomes. outcomes ≡ (applied_if_due plan.now self.old (option_map (λ ssn. due entry (happenings.Managed (Knock origin ssn))) (ssn_in (reading octets.now)))).outcomes) }
+        ensures err { OnErr result (self.new ≡ self.old) }
+    {
+        match ssn_in(self.alloc, octets)? {
+            Some(ssn) => {
+                let knock = Event::Knock { from: origin, ssn };
+                self.apply(plan, entry, Happening::Managed(knock))
+            }
+            None => Ok(List::new(self.alloc)),
+        }
     }
 }

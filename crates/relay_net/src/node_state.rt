@@ -145,6 +145,23 @@ impl NodeState {
         }
     }
 
+    /// The same of a message that stays with its owner.
+    pub(crate) fn receive(
+        &mut self,
+        alloc: Global,
+        message: &Message,
+    ) -> Result<List<Outcome>, OutOfMemory>
+        requires { Sound message.now }
+        ensures state { OnOk result (self.new ≡ (after_delivered self.old (arrival_of message.now)).state) }
+        ensures outcomes { IfOk result (λ outcomes. outcomes ≡ (after_delivered self.old (arrival_of message.now)).outcomes) }
+        ensures err { OnErr result (self.new ≡ self.old) }
+    {
+        match Arrival::copied(alloc, message)? {
+            None => Ok(List::new(alloc)),
+            Some(Arrival { key, segment }) => self.put(alloc, key, segment),
+        }
+    }
+
     // A segment is put into the pool.
     fn put(
         &mut self,

@@ -125,7 +125,9 @@ fn trip<S: HoldsMarking>(
     requires states { length states.now ≡ length plan.now.nodes }
     ensures path { IfOk result (λ t. t.0 ≡ (trip_of plan.now (map S.held states.now) entry origin octets.now).path) }
     ensures last { IfOk result (λ t. t.1 ≡ (trip_of plan.now (map S.held states.now) entry origin octets.now).last) }
+    ensures within { IfOk result (λ t. last_node 0 t.0 < length plan.now.nodes) }
 {
+    let _nodes = plan.nodes();
     let left = most_arrivals(alloc, octets)?;
     let mut path = List::new(alloc);
     let last = travel(alloc, plan, states, left, entry, origin, octets, &mut path)?;
@@ -241,7 +243,6 @@ fn whole<S: HoldsMarking>(
     requires states { length states.now ≡ length plan.now.nodes }
     ensures { IfOk result (λ j. j ≡ journey plan.now (map S.held states.now) entry origin octets.now) }
 {
-    let _nodes = plan.nodes();
     let (path, last) = trip(alloc, plan, states, entry, origin, octets)?;
     let node = last_node(path.as_slice());
     let (end, service) = ended(last);

@@ -1,14 +1,16 @@
-ghost use Rattle.std.specs.Prelude.{◌≡◌, ◌+◌, ◌*◌, true};
+ghost use Rattle.std.specs.Prelude.{◌≡◌, ◌+◌, ◌*◌, true, IfOk};
 ghost use Rattle.sccp_layout.specs.Table.{segmentation};
 ghost use Rattle.sccp_message.specs.Fields.{param, reads_if};
 ghost use Rattle.sccp_segment.specs.Segments.{arrival_by};
 
+use crate::copies::copied_address;
 use crate::key::Key;
 use crate::segment::Segment;
 use sccp_address::Address;
-use sccp_base::{List, Octets, Reference};
+use sccp_base::{List, Octets, OutOfMemory, Reference};
 use sccp_layout::Param;
 use sccp_message::{Message, param};
+use std::alloc::Global;
 
 // The name of the segmentation parameter (Q.713 section 3.17).
 const SEGMENTATION: u8 = 0x10;
@@ -59,6 +61,58 @@ impl Arrival {
             _ => None,
         }
     }
+
+    /// The same of a message that stays with its owner: calling address and data are copied, where it is a segment.
+    pub fn copied(alloc: Global, message: &Message) -> Result<Option<Arrival>, OutOfMemory>
+        requires { Sound message.now }
+        ensures { IfOk result (λ arrival. arrival ≡ arrival_of message.now) }
+    {
+        match message {
+            Message::Xudt {
+                calling,
+                payload,
+                params,
+                ..
+            } => copied_by(alloc, calling, payload, params),
+            Message::Xudts {
+                calling,
+                payload,
+                params,
+                ..
+            } => copied_by(alloc, calling, payload, params),
+            Message::Ludt {
+                calling,
+                payload,
+                params,
+                ..
+            } => copied_by(alloc, calling, payload, params),
+            Message::Ludts {
+                calling,
+                payload,
+                params,
+                ..
+            } => copied_by(alloc, calling, payload, params),
+            _ => Ok(None),
+        }
+    }
+}
+
+// The segment of copies of a calling address and of data.
+fn copied_by(
+    alloc: Global,
+    calling: &Address,
+    payload: &Octets,
+    params: &List<Param>,
+) -> Result<Option<Arrival>, OutOfMemory>
+    requires { reads_if segmentation (param params.now segmentation) ≡ true }
+    ensures { IfOk result (λ arrival. arrival ≡ arrival_by calling.now payload.now (param params.now segmentation)) }
+{
+    if param(params, SEGMENTATION).is_none() {
+        return Ok(None);
+    }
+    let calling = copied_address(alloc, calling)?;
+    let payload = payload.try_clone(alloc)?;
+    Ok(by(calling, payload, params))
 }
 
 // The segment of a calling address, data and parameters.
