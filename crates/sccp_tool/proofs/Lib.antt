@@ -1,6 +1,7 @@
 mod Accounting
 mod Causes
 mod Finishing
+mod CutsLemmas
 mod LimitLemmas
 mod PlanLemmas
 mod ReadingLemmas

@@ -17,6 +17,7 @@ pub mod Route
 pub mod Run
 pub mod Show
 pub mod ShowHex
+pub mod Cuts
 pub mod Starts
 pub mod Status
 pub mod Task

@@ -1,11 +1,12 @@
 -- The work of the words, and the cause of each answer.
 use Rattle.std.specs.Prelude.{◌≡◌, ◌⊎◌, ℕ, List, Option, Some, None}
 use Rattle.sccp_io.specs.Files.{Contents}
+use Rattle.sccp_tool.specs.Cuts.{cuts_work, CutsCause}
 use Rattle.sccp_tool.specs.Ending.{IsCut}
 use Rattle.sccp_tool.specs.Route.{route_work, RouteCause}
 use Rattle.sccp_tool.specs.Show.{show_work, ShowCause}
 use Rattle.sccp_tool.specs.ShowHex.{show_hex_work, ShowHexCause}
-use Rattle.sccp_tool.specs.Task.{Task, ShowHex, Show, Verify, Route}
+use Rattle.sccp_tool.specs.Task.{Task, ShowHex, Show, Verify, Route, Cuts}
 use Rattle.sccp_tool.specs.Texts.{usage}
 use Rattle.sccp_tool.specs.Verify.{verify_work, VerifyCause, VerifySure, VerifyTells}
 use Rattle.sccp_tool.specs.Work.{Work, answered}
@@ -18,6 +19,7 @@ work_of (Some (ShowHex octets)) = show_hex_work octets
 work_of (Some (Show name)) = show_work name
 work_of (Some (Verify name)) = verify_work name
 work_of (Some (Route name start)) = route_work name start
+work_of (Some (Cuts octets)) = cuts_work octets
 
 -- words of no shape
 abbrev pub UsageCause : Status → Type 0
@@ -31,6 +33,7 @@ Cause contents (Some (ShowHex octets)) answer = ShowHexCause answer
 Cause contents (Some (Show name)) answer = ShowCause contents name answer
 Cause contents (Some (Verify name)) answer = VerifyCause contents name answer
 Cause contents (Some (Route name start)) answer = RouteCause contents name answer
+Cause contents (Some (Cuts octets)) answer = CutsCause answer
 
 -- where this holds, the answer comes, but for a fault or want of memory before it
 abbrev pub SureCause : Option Contents → Option Task → Status → Type 0

@@ -11,3 +11,5 @@ pub data Task : Type 0 where
   Verify : List ℕ → Task
   -- follows a title from its start, under the plan of the file of this name
   Route : List ℕ → Start → Task
+  -- shows every cut of the message of these octets
+  Cuts : List ℕ → Task

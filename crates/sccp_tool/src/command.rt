@@ -3,6 +3,7 @@ ghost use Rattle.std.specs.Prelude.{◌≡◌, IfOk};
 ghost use Rattle.sccp_tool.specs.Commands.{command_of, task_of, texts};
 ghost use Rattle.sccp_tool.specs.Parsed.{task_in};
 
+use crate::cuts::cuts_words;
 use crate::route::route_words;
 use crate::show::show_words;
 use crate::show_hex::show_hex_words;
@@ -22,6 +23,8 @@ pub enum Command<'a> {
     Verify(&'a str),
     /// To follow a title under the plan of the file of this name.
     Route(&'a str, Start),
+    /// To show every cut of the message of these octets.
+    Cuts(Octets),
 }
 
 /// What the words ask for, or none where they have none of the shapes.
@@ -51,6 +54,8 @@ fn command_of<'a>(
         Ok(verify_words(words))
     } else if name == "route" {
         Ok(route_words(words))
+    } else if name == "cuts" {
+        cuts_words(alloc, words)
     } else {
         Ok(None)
     }

@@ -7,6 +7,7 @@
 #![tactic(auto)]
 
 mod command;
+mod cuts;
 mod limit;
 mod line_fault;
 mod opened;

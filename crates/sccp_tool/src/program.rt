@@ -9,6 +9,7 @@ ghost use Rattle.sccp_tool.specs.Run.{work_of, Cause, SureCause, TellsVerdict, E
 ghost use Rattle.sccp_tool.specs.Work.{HasFiles};
 
 use crate::command::{Command, parse};
+use crate::cuts::cuts;
 use crate::route::route;
 use crate::show::show;
 use crate::show_hex::show_hex;
@@ -21,7 +22,7 @@ use sccp_io::{Files, Sink};
 use std::alloc::Global;
 
 const USAGE: &[u8] =
-    b"usage: show-hex HEX | show FILE | verify PLAN | route PLAN NODE SELECTOR SSN DIGITS\n";
+    b"usage: show-hex HEX | show FILE | verify PLAN | route PLAN NODE SELECTOR SSN DIGITS | cuts HEX\n";
 
 const READ_FAULT: &[u8] = b"read fault\n";
 
@@ -94,6 +95,7 @@ fn obey<F: Files, K: Sink>(
         Command::Show(name) => show(alloc, name, files, out),
         Command::Verify(name) => verify(alloc, name, files, out),
         Command::Route(name, start) => route(alloc, name, start, files, out),
+        Command::Cuts(octets) => cuts(alloc, octets.as_slice(), out),
     }
 }
 
