@@ -2,6 +2,7 @@ mod Accounting
 mod Causes
 mod Finishing
 mod CutsLemmas
+mod ImportLemmas
 mod LimitLemmas
 mod PlanLemmas
 mod ReadingLemmas

@@ -5,13 +5,14 @@ use Rattle.sccp_io.specs.Files.{Contents}
 use Rattle.sccp_tool.specs.Ending.{IsCut, Answers, Outcome}
 use Rattle.sccp_tool.specs.Moment.{Moment}
 use Rattle.sccp_tool.specs.Run.{work_of, Cause, SureCause, TellsVerdict, UsageCause, ExactlyWhere, ComesWhere, RefusedWhere}
-use Rattle.sccp_tool.specs.Task.{Task, ShowHex, Show, Verify, Route, Cuts}
+use Rattle.sccp_tool.specs.Task.{Task, ShowHex, Show, Verify, Route, Cuts, Import}
 use Rattle.sccp_tool.specs.Verify.{IsOnVerdict}
 use Rattle.sccp_tool.specs.Work.{Work, Ends, HasFiles}
 use Rattle.sccp_tool.specs.declared.status.Status.{Status}
 use Rattle.sccp_tool.specs.declared.status.Status.TheVariants.{Done, Refused, Usage, BadPlan, BadTrace, TooWide, TooLong, NoMemory, ReadFault, WriteFault}
 use Rattle.sccp_tool.proofs.Causes.{Causes}
 use Rattle.sccp_tool.proofs.CutsLemmas.{cuts_causes}
+use Rattle.sccp_tool.proofs.ImportLemmas.{import_causes}
 use Rattle.sccp_tool.proofs.RouteLemmas.{route_causes}
 use Rattle.sccp_tool.proofs.ShowHexLemmas.{show_hex_causes}
 use Rattle.sccp_tool.proofs.ShowLemmas.{show_causes}
@@ -40,6 +41,7 @@ causes (Some (Show name)) = show_causes name
 causes (Some (Verify name)) = verify_causes name
 causes (Some (Route name start)) = route_causes name start
 causes (Some (Cuts octets)) = cuts_causes octets
+causes (Some (Import plan file)) = import_causes plan file
 
 if_some : {C : Type 0} (o : Option C) (P : C → Type 0) → ((c : C) → o ≡ Some c → P c) → IfSome o P
 if_some None P f = tt

@@ -2,6 +2,7 @@ pub mod Account
 pub mod Commands
 pub mod Ending
 pub mod LaterPlans
+pub mod Import
 pub mod Limit
 pub mod LineFault
 pub mod Moment
@@ -26,3 +27,4 @@ pub mod Trace
 pub mod Verify
 pub mod Work
 pub mod Writing
+pub mod Import

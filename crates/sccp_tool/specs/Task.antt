@@ -13,3 +13,5 @@ pub data Task : Type 0 where
   Route : List ℕ → Start → Task
   -- shows every cut of the message of these octets
   Cuts : List ℕ → Task
+  -- makes a trace of the DATA messages of the second file, for the nodes of the plan of the first one
+  Import : List ℕ → List ℕ → Task

@@ -4,6 +4,7 @@ ghost use Rattle.sccp_tool.specs.Commands.{command_of, task_of, texts};
 ghost use Rattle.sccp_tool.specs.Parsed.{task_in};
 
 use crate::cuts::cuts_words;
+use crate::import::import_words;
 use crate::route::route_words;
 use crate::show::show_words;
 use crate::show_hex::show_hex_words;
@@ -25,6 +26,8 @@ pub enum Command<'a> {
     Route(&'a str, Start),
     /// To show every cut of the message of these octets.
     Cuts(Octets),
+    /// To make a trace of the second file under the plan of the first one.
+    Import(&'a str, &'a str),
 }
 
 /// What the words ask for, or none where they have none of the shapes.
@@ -56,6 +59,8 @@ fn command_of<'a>(
         Ok(route_words(words))
     } else if name == "cuts" {
         cuts_words(alloc, words)
+    } else if name == "import" {
+        Ok(import_words(words))
     } else {
         Ok(None)
     }

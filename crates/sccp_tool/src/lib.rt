@@ -8,6 +8,7 @@
 
 mod command;
 mod cuts;
+mod import;
 mod limit;
 mod line_fault;
 mod opened;

@@ -10,6 +10,7 @@ ghost use Rattle.sccp_tool.specs.Work.{HasFiles};
 
 use crate::command::{Command, parse};
 use crate::cuts::cuts;
+use crate::import::import;
 use crate::route::route;
 use crate::show::show;
 use crate::show_hex::show_hex;
@@ -22,7 +23,7 @@ use sccp_io::{Files, Sink};
 use std::alloc::Global;
 
 const USAGE: &[u8] =
-    b"usage: show-hex HEX | show FILE | verify PLAN | route PLAN NODE SELECTOR SSN DIGITS | cuts HEX\n";
+    b"usage: show-hex HEX | show FILE | verify PLAN | route PLAN NODE SELECTOR SSN DIGITS | cuts HEX | import PLAN FILE\n";
 
 const READ_FAULT: &[u8] = b"read fault\n";
 
@@ -96,6 +97,7 @@ fn obey<F: Files, K: Sink>(
         Command::Verify(name) => verify(alloc, name, files, out),
         Command::Route(name, start) => route(alloc, name, start, files, out),
         Command::Cuts(octets) => cuts(alloc, octets.as_slice(), out),
+        Command::Import(plan, file) => import(alloc, plan, file, files, out),
     }
 }
 
