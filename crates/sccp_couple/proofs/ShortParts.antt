@@ -49,6 +49,7 @@ listed_short (p ∷ params) more h =
     append_again : (xs ys zs : List ℕ) → (xs ++ ys) ++ zs ≡ xs ++ (ys ++ zs)
     append_again [] ys zs = refl
     append_again (x ∷ xs) ys zs = ap (λ (t : List ℕ). x ∷ t) (append_again xs ys zs)
+
     regrouped : (octets : List ℕ) → (p.name ∷ length p.octets ∷ (octets ++ flat_map spelled_parameter params)) ++ more ≡ p.name ∷ length p.octets ∷ (octets ++ (flat_map spelled_parameter params ++ more))
     regrouped octets = ap (λ (t : List ℕ). p.name ∷ length p.octets ∷ t) (append_again octets (flat_map spelled_parameter params) more)
 
