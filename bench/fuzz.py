@@ -15,7 +15,7 @@ Of each kind N inputs are made (100,000 if not given) and handed over through fi
   0, 65, 66, 67, 68 or 74 (a plan line may name an absent file), and the last line has to fit it.
 
 A kind whose command the program hasn't is left out, and said so. Nothing may come on standard error, no call may end by a
-signal or take more than a minute. The first ten faults are printed with the file that shows each, which is kept; the last
+signal or take more than a minute, twice. The first ten faults are printed with the file that shows each, which is kept; the last
 line counts, and the status is 0 where no fault came.
 
 It builds nothing: run ./sccp once before.
@@ -170,7 +170,7 @@ def drawn_message(draw):
 
 
 def drawn_text(draw, whole):
-    """A text: drawn, or this one with changes of octets, words and lines."""
+    """A text: drawn, or this one with changes of digits, octets, words and lines."""
     kind = draw.randrange(10)
     if kind == 0:
         return bytes(draw.randrange(256) for _ in range(draw.choice([0, 1, 10, 100])))
@@ -180,7 +180,12 @@ def drawn_text(draw, whole):
     for _ in range(draw.choice([1, 1, 1, 2, 3])):
         lines = text.split(b"\n")
         at = draw.randrange(len(lines))
-        what = draw.randrange(7)
+        what = draw.randrange(10)
+        digits = [i for i, octet in enumerate(text) if 48 <= octet <= 57]
+        if what > 6 and digits:
+            place = draw.choice(digits)
+            text = text[:place] + str(draw.randrange(10)).encode() + text[place + 1:]
+            continue
         if what == 0:
             del lines[at]
         elif what == 1:
@@ -234,11 +239,15 @@ class Faults:
 
 
 def call(program, folder, *words):
-    """The status, the output, and a word for what may not come of any call."""
-    try:
-        done = subprocess.run([program, *words], cwd=folder, capture_output=True, timeout=60)
-    except subprocess.TimeoutExpired:
-        return None, b"", "it took more than a minute"
+    """The status, the output, and a word for what may not come of any call. One that took a minute is made once more, for a
+    machine may stand still."""
+    for again in (True, False):
+        try:
+            done = subprocess.run([program, *words], cwd=folder, capture_output=True, timeout=60)
+            break
+        except subprocess.TimeoutExpired:
+            if not again:
+                return None, b"", "it took more than a minute, twice"
     if done.returncode < 0:
         return done.returncode, done.stdout, f"signal {-done.returncode}"
     return done.returncode, done.stdout, "words on standard error" if done.stderr else None
