@@ -7,3 +7,4 @@ pub mod Parted
 pub mod MarkTexts
 pub mod SpotTexts
 pub mod HopsTold
+pub mod Named

@@ -1,7 +1,6 @@
 -- The printed text of a line of a trace that is neither a later plan nor a message that is routed.
-use Rattle.std.specs.Prelude.{ℕ, List, [], ◌++◌, codes, decimal, Option, Some, None, Result, Ok, Err}
+use Rattle.std.specs.Prelude.{ℕ, List, [], ◌++◌, codes, decimal, if◌then◌else◌, Option, Some, None, is_some, Result, Ok, Err}
 use Rattle.std.specs.Option.{option_and_then}
-use Rattle.sccp_address.specs.declared.address.Address.{Address}
 use Rattle.sccp_message.specs.Reading.{reading}
 use Rattle.sccp_message.specs.declared.fault.DecodeFault.{DecodeFault}
 use Rattle.sccp_message.specs.declared.message.Message.{Message}
@@ -22,22 +21,22 @@ use Rattle.sccp_report.specs.Roles.{named, management_data}
 use Rattle.sccp_report.specs.Served.{sent_lines}
 use Rattle.sccp_report.specs.Values.{numbered, point_code_text}
 
--- the names of the types of connection-oriented messages
+-- the types of connection-oriented messages, behind a blank
 unfoldable pub connection_words : Message → List ℕ
-connection_words (messages.Cr slr class called params) = codes "CR"
-connection_words (messages.Cc dlr slr class params) = codes "CC"
-connection_words (messages.Cref dlr cause params) = codes "CREF"
-connection_words (messages.Rlsd dlr slr cause params) = codes "RLSD"
-connection_words (messages.Rlc dlr slr) = codes "RLC"
-connection_words (messages.Dt1 dlr more payload) = codes "DT1"
-connection_words (messages.Dt2 dlr send receive more payload) = codes "DT2"
-connection_words (messages.Ak dlr receive credit) = codes "AK"
-connection_words (messages.Ed dlr payload) = codes "ED"
-connection_words (messages.Ea dlr) = codes "EA"
-connection_words (messages.Rsr dlr slr cause) = codes "RSR"
-connection_words (messages.Rsc dlr slr) = codes "RSC"
-connection_words (messages.Err dlr cause) = codes "ERR"
-connection_words (messages.It dlr slr class send receive more credit) = codes "IT"
+connection_words (messages.Cr slr class called params) = codes " CR"
+connection_words (messages.Cc dlr slr class params) = codes " CC"
+connection_words (messages.Cref dlr cause params) = codes " CREF"
+connection_words (messages.Rlsd dlr slr cause params) = codes " RLSD"
+connection_words (messages.Rlc dlr slr) = codes " RLC"
+connection_words (messages.Dt1 dlr more payload) = codes " DT1"
+connection_words (messages.Dt2 dlr send receive more payload) = codes " DT2"
+connection_words (messages.Ak dlr receive credit) = codes " AK"
+connection_words (messages.Ed dlr payload) = codes " ED"
+connection_words (messages.Ea dlr) = codes " EA"
+connection_words (messages.Rsr dlr slr cause) = codes " RSR"
+connection_words (messages.Rsc dlr slr) = codes " RSC"
+connection_words (messages.Err dlr cause) = codes " ERR"
+connection_words (messages.It dlr slr class send receive more credit) = codes " IT"
 connection_words m = []
 
 -- the names of the kinds of status message
@@ -51,16 +50,23 @@ kind_word Congested = codes "ssc"
 
 -- what a message for management says of which subsystem
 unfoldable pub status_words : Option StatusMessage → List ℕ
-status_words None = codes "unknown"
-status_words (Some s) = kind_word s.kind ++ codes " " ++ destination_text s.pc s.ssn
+status_words None = codes " unknown"
+status_words (Some s) = codes " " ++ kind_word s.kind ++ codes " " ++ destination_text s.pc s.ssn
+
+-- what a message for management says
+unfoldable pub management_words : Message → List ℕ
+management_words m = codes "management" ++ status_words (option_and_then status_of (management_data m))
+
+-- the type of a connection-oriented message
+unfoldable pub coupling_words : Message → List ℕ
+coupling_words m = codes "connection" ++ connection_words m
 
 -- a message that isn't routed: a connectionless one is for management
-unfoldable pub message_words : Message → Option Address → List ℕ
-message_words m (Some called) = codes " management " ++ status_words (option_and_then status_of (management_data m))
-message_words m None = codes " connection " ++ connection_words m
+unfoldable pub message_words : Message → List ℕ
+message_words m = if is_some (called_of m) then management_words m else coupling_words m
 
 unfoldable pub message_line : Result Message DecodeFault → List ℕ
-message_line (Ok m) = message_words m (called_of m) ++ codes "\n"
+message_line (Ok m) = codes " " ++ message_words m ++ codes "\n"
 message_line (Err fault) = codes " " ++ undecodable_line fault
 
 -- the number of a line and its own words, or that no node has the name

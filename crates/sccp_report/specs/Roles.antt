@@ -1,5 +1,5 @@
 -- What a line of a trace is to a replay.
-use Rattle.std.specs.Prelude.{ℕ, Bool, false, ◌&&◌, ◌==◌, if◌then◌else◌, List, Option, Some, None, Result, Ok, Err}
+use Rattle.std.specs.Prelude.{ℕ, ◌<◌, Bool, false, ◌&&◌, ◌==◌, if◌then◌else◌, List, length, Option, Some, None, Result, Ok, Err}
 use Rattle.std.specs.List.{position}
 use Rattle.std.specs.Option.{option_map, option_map_or}
 use Rattle.sccp_address.specs.declared.address.Address.{Address}
@@ -12,6 +12,7 @@ use Rattle.sccp_manage.specs.declared.event.Event.TheVariants as events
 use Rattle.sccp_scrc.specs.Unitdata.{called_of}
 use Rattle.plan_model.specs.Network.{Network, has_name}
 use Rattle.relay_net.specs.Batches.{Incoming, Due, due}
+use Rattle.relay_net.specs.States.{CanHappen}
 use Rattle.relay_net.specs.declared.happening.Happening.TheVariants.{Managed, Connected}
 use Rattle.trace_text.specs.declared.line.Line.{Line}
 use Rattle.trace_text.specs.declared.line.Line.TheVariants.{Msg, Pause, Resume, NoSccp, Up, Down, Tick, Plan, Fence, Skip}
@@ -39,8 +40,12 @@ management_data m = None
 abbrev pub is_for_management : Address → Bool
 is_for_management a = a.by_ssn && option_map_or (λ ssn. ssn == 1) a.ssn false
 
+-- a message for management comes to a node from a point
+abbrev pub status_at : ℕ → ℕ → List ℕ → Due
+status_at entry origin payload = due entry (Managed (events.Status origin payload))
+
 abbrev pub status_due : Incoming → List ℕ → Due
-status_due x payload = due x.entry (Managed (events.Status x.origin payload))
+status_due x = status_at x.entry x.origin
 
 -- by the called address, which connectionless messages alone have to be routed on
 abbrev pub role_by_called : Incoming → Message → Option Address → Role
@@ -77,6 +82,14 @@ role_of plan (Tick node) = event_role plan node events.Tick
 role_of plan (Plan file) = later file
 role_of plan Fence = alone None
 role_of plan Skip = aside
+
+-- The nodes are those of the plan, and what is to happen at them can.
+abbrev pub StandsIn : Network → Role → Type 0
+StandsIn plan (routed x) = x.entry < length plan.nodes
+StandsIn plan (later file) = Unit {0}
+StandsIn plan aside = Unit {0}
+StandsIn plan (alone None) = Unit {0}
+StandsIn plan (alone (Some d)) = (d.node < length plan.nodes) × CanHappen d.what
 
 -- what the code answers, in these words
 abbrev pub as_due : answers.Due.Due → Due

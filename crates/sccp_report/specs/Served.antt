@@ -36,13 +36,13 @@ why_number Restarted = 3
 
 -- what became of a segment
 unfoldable pub taken_words : Taken → List ℕ
-taken_words More = codes " segment more"
-taken_words (Whole octets) = codes " segment whole " ++ octets_text octets
-taken_words (Dropped why) = numbered (codes " segment dropped ") (why_number why)
+taken_words More = codes "more"
+taken_words (Whole octets) = codes "whole " ++ octets_text octets
+taken_words (Dropped why) = numbered (codes "dropped ") (why_number why)
 
 unfoldable pub segment_words : Outcome → List ℕ
 segment_words (Sent sent) = []
-segment_words (Segment taken) = taken_words taken
+segment_words (Segment taken) = codes " segment " ++ taken_words taken
 segment_words PoolFull = codes " segment full"
 
 -- octets that go to a subsystem at a point

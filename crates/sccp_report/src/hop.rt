@@ -1,23 +1,14 @@
 ghost use Rattle.std.specs.Prelude.{◌≡◌, ◌<◌, ◌≤◌, ◌++◌, length, All, OnOk, IfOk};
 ghost use Rattle.plan_model.specs.Routes.{StaysIn};
-ghost use Rattle.sccp_report.specs.Hops.{node_text, spot_text, target_text, step_text, hop_line, hops_text, IsHopIn};
+ghost use Rattle.sccp_report.specs.Hops.{spot_text, target_text, step_text, hop_line, hops_text, IsHopIn};
 
 use crate::mark::{put_destination, put_marks};
+use crate::node::put_node;
 use crate::text::Text;
 use crate::values::{put_digits, put_selector};
 use plan_model::{Hop, Plan, Spot, Step};
 use sccp_base::{List, Marking, Octets, OutOfMemory};
 use std::alloc::Global;
-
-// The name of a node.
-#[tactic(auto, unfolding(crate::specs::Hops::node_text))]
-fn put_node(text: &mut Text, plan: &Plan, node: u8) -> Result<(), OutOfMemory>
-    requires { node < length plan.now.nodes }
-    ensures { OnOk result (text.new ≡ text.old ++ node_text plan.now node) }
-{
-    let relay = &plan.nodes().as_slice()[usize::from(node)];
-    text.put(relay.name.as_slice())
-}
 
 // A title at a node.
 #[tactic(auto, unfolding(crate::specs::Hops::spot_text))]

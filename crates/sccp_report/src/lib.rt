@@ -1,4 +1,4 @@
-//! The printed text of SCCP messages, of the routes that titles take through a plan, and of the verdicts on plans.
+//! The printed text of SCCP messages, of the routes that titles take through a plan, of the verdicts on plans, and of a replay.
 //!
 //! `message_text` gives the lines of the message that octets are: its type, a line for each field in the order of the message type (ITU-T Q.713 section 4),
 //! and a line for each optional parameter. Octets that are no message give one line that says why. The crate above may rely on the whole text being exactly
@@ -10,30 +10,43 @@
 //! that a plan is accepted. These texts are exactly those of `specs/Hops`, `specs/PlanFaults` and `specs/Verdicts`. The text of a route's hops
 //! tells the hops (`text_tells_route`), and that of a point code the number (`text_tells_point_code`). `change_text` tells whether relays may hold
 //! either of two plans, and the mixed route that shows it, exactly as `specs/Changes` says.
+//!
+//! `role_of` says what a line of a trace is to a replay (`specs/Roles`). `served_text` gives the text of a message that was routed (`specs/Served`), and
+//! `event_text` that of any other line but a later plan (`specs/Events`); `put_served` and `put_event` append the same to a `Text` that the caller keeps, so
+//! that the texts of many lines are put together without a copy of each.
 #![tactic(auto)]
 
 mod address;
+mod back;
 mod change;
 mod cuts;
+mod event;
 mod fault;
 mod fields;
 mod hop;
 mod laws;
 mod mark;
 mod message;
+mod message_parts;
+mod node;
 mod plan_fault;
 mod report;
 mod role;
+mod segment;
+mod sent;
+mod served;
 mod text;
 mod values;
 mod verdict;
 
 pub use change::change_text;
 pub use cuts::cuts_text;
+pub use event::{event_text, put_event};
 pub use hop::hops_text;
 pub use laws::{text_tells_point_code, text_tells_route};
 pub use plan_fault::plan_fault_text;
 pub use report::message_text;
-pub use role::{Due, Role};
+pub use role::{Due, Role, role_of};
+pub use served::{put_served, served_text};
 pub use text::Text;
 pub use verdict::{accepted_text, verdict_text};

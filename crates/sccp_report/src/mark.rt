@@ -16,9 +16,9 @@ pub fn put_destination(text: &mut Text, pc: PointCode, ssn: u8) -> Result<(), Ou
     text.put_number(u32::from(ssn))
 }
 
-// What is prohibited, and where.
+/// Appends what is prohibited, and where.
 #[tactic(auto, unfolding(crate::specs::Hops::mark_text))]
-fn put_mark(text: &mut Text, mark: &Mark) -> Result<(), OutOfMemory>
+pub fn put_mark(text: &mut Text, mark: &Mark) -> Result<(), OutOfMemory>
     ensures { OnOk result (text.new ≡ text.old ++ mark_text mark.now) }
 {
     match mark {

@@ -8,7 +8,7 @@ use sccp_base::{Octets, OutOfMemory};
 use sccp_message::{DecodeFault, canonical, decode};
 use std::alloc::Global;
 
-// The line on octets that are no message.
+/// Appends the line on octets that are no message.
 #[tactic(auto, unfolding(crate::specs::MessageText::undecodable_line))]
 pub fn put_undecodable(text: &mut Text, fault: DecodeFault) -> Result<(), OutOfMemory>
     ensures { OnOk result (text.new ≡ text.old ++ undecodable_line fault) }
