@@ -27,4 +27,3 @@ pub mod Trace
 pub mod Verify
 pub mod Work
 pub mod Writing
-pub mod Import
