@@ -16,8 +16,6 @@ pub record Causes (task : Option Task) : Type 0 where
   pub usage : (contents : Option Contents) → Cause contents task Usage → task ≡ None
   -- where a cause brings an answer for sure, the work ends with no other
   pub always : (c : Contents) (t s : Status) (text : List ℕ) → SureCause (Some c) task t → Ends (Some c) (work_of task) s text → s ≡ t
-  -- all causes do but those of a verdict
-  pub sure : (contents : Option Contents) (t : Status) → (IsOnVerdict t → ⊥) → Cause contents task t → SureCause contents task t
   pub refused : (c : Contents) (s : Status) (text : List ℕ) → Cause (Some c) task Refused → Ends (Some c) (work_of task) s text → (s ≡ Refused) ⊎ (s ≡ TooWide)
   -- what is written on a verdict tells it
   pub tells : (c : Contents) (s : Status) (text : List ℕ) (taken taken' : Option (List ℕ)) → taken' ≡ append_known taken text

@@ -112,7 +112,6 @@ import_causes plan name = record {
   only = λ contents s text h. only contents plan name text s (ends contents plan name s text h);
   usage = λ contents cause. absurd cause;
   always = λ c t s text cause h. always c plan name text t s cause (ends (Some c) plan name s text h);
-  sure = λ contents t other cause. cause;
   refused = λ c s text cause h. absurd cause;
   tells = λ c s text taken taken' is own done. told c plan name text taken taken' s is done (ends (Some c) plan name s text (own (subst IsOnVerdict (sym done) tt)));
 }

@@ -1,5 +1,6 @@
 mod Accounting
 mod Causes
+mod ChangeLemmas
 mod Finishing
 mod CutsLemmas
 mod ImportLemmas

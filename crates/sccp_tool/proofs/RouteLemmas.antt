@@ -34,7 +34,6 @@ route_causes name start = record {
   only = λ contents s text h. only contents name s (plan_ends contents name start s text h);
   usage = λ contents cause. absurd cause;
   always = λ c t s text cause h. always c name t s cause (plan_ends (Some c) name start s text h);
-  sure = λ contents t other cause. cause;
   refused = λ c s text cause h. absurd cause;
   tells = λ c s text taken taken' is ends. tt;
 }

@@ -5,14 +5,15 @@ use Rattle.sccp_io.specs.Files.{Contents}
 use Rattle.sccp_tool.specs.Ending.{IsCut, Answers, Outcome}
 use Rattle.sccp_tool.specs.Moment.{Moment}
 use Rattle.sccp_tool.specs.Run.{work_of, Cause, SureCause, TellsVerdict, UsageCause, ExactlyWhere, ComesWhere, RefusedWhere}
-use Rattle.sccp_tool.specs.Task.{Task, ShowHex, Show, Verify, Route, Cuts, Import}
+use Rattle.sccp_tool.specs.Task.{Task, ShowHex, Show, Verify, Route, Cuts, Import, Change}
 use Rattle.sccp_tool.specs.Verify.{IsOnVerdict}
 use Rattle.sccp_tool.specs.Work.{Work, Ends, HasFiles}
 use Rattle.sccp_tool.specs.declared.status.Status.{Status}
-use Rattle.sccp_tool.specs.declared.status.Status.TheVariants.{Done, Refused, Usage, BadPlan, BadTrace, TooWide, TooLong, NoMemory, ReadFault, WriteFault}
+use Rattle.sccp_tool.specs.declared.status.Status.TheVariants.{Done, Refused, Usage, BadPlan, BadTrace, TooWide, TooLong, OtherNodes, NoMemory, ReadFault, WriteFault}
 use Rattle.sccp_tool.proofs.Causes.{Causes}
 use Rattle.sccp_tool.proofs.CutsLemmas.{cuts_causes}
 use Rattle.sccp_tool.proofs.ImportLemmas.{import_causes}
+use Rattle.sccp_tool.proofs.ChangeLemmas.{change_causes}
 use Rattle.sccp_tool.proofs.RouteLemmas.{route_causes}
 use Rattle.sccp_tool.proofs.ShowHexLemmas.{show_hex_causes}
 use Rattle.sccp_tool.proofs.ShowLemmas.{show_causes}
@@ -29,7 +30,6 @@ usage_causes = record {
   only = λ contents s text h. subst UsageCause (sym h.2.0) tt;
   usage = λ contents cause. refl;
   always = λ c t s text cause h. is_usage t s cause h.2.0;
-  sure = λ contents t other cause. cause;
   refused = λ c s text cause h. absurd cause;
   tells = λ c s text taken taken' is ends. tt;
 }
@@ -42,6 +42,7 @@ causes (Some (Verify name)) = verify_causes name
 causes (Some (Route name start)) = route_causes name start
 causes (Some (Cuts octets)) = cuts_causes octets
 causes (Some (Import plan file)) = import_causes plan file
+causes (Some (Change old new)) = change_causes old new
 
 if_some : {C : Type 0} (o : Option C) (P : C → Type 0) → ((c : C) → o ≡ Some c → P c) → IfSome o P
 if_some None P f = tt
@@ -85,11 +86,11 @@ module _ (task : Option Task) (s : Status) (b a : Moment) (o : Outcome (work_of 
   always_where : (c : Contents) (Q : Type 0) → b.contents ≡ Some c → (Ends (Some c) (work_of task) s o.text → Q) → Q ⊎ IsCut s
   always_where c Q told always = unless_cut s (work_of task) o.text b a o.answers (λ e. always (subst (λ k. Ends k (work_of task) s o.text) told e))
 
-  -- an answer of the work's own that no verdict gives comes exactly where its cause holds
-  exactly : (t : Status) (c : Contents) → b.contents ≡ Some c → (Answers (work_of task) t o.text b a → Ends b.contents (work_of task) t o.text) → (IsOnVerdict t → ⊥) → ExactlyWhere t s (Cause (Some c) task t)
-  exactly t c told own other = record {
+  -- an answer of the work's own comes only where its cause holds, and always where what brings it for sure does
+  comes : (t : Status) (c : Contents) → b.contents ≡ Some c → (Answers (work_of task) t o.text b a → Ends b.contents (work_of task) t o.text) → ComesWhere t s (Cause (Some c) task t) (SureCause (Some c) task t)
+  comes t c told own = record {
     only = only_where t c told own;
-    always = λ cause. always_where c (s ≡ t) told ((causes task).always c t s o.text ((causes task).sure (Some c) t other cause));
+    always = λ cause. always_where c (s ≡ t) told ((causes task).always c t s o.text cause);
   }
 
   pub verdict_told : IfSome b.contents (λ c. TellsVerdict (Some c) task s b.taken a.taken)
@@ -97,10 +98,7 @@ module _ (task : Option Task) (s : Status) (b a : Moment) (o : Outcome (work_of 
       (λ given. subst (λ k. Ends k (work_of task) s o.text) told (own_verdict s (work_of task) o.text b a o.answers given)))
 
   pub done_cause : IfSome b.contents (λ c. ComesWhere Done s (Cause (Some c) task Done) (SureCause (Some c) task Done))
-  done_cause = if_some b.contents _ (λ c told. record {
-    only = only_where Done c told (λ e. e);
-    always = λ cause. always_where c (s ≡ Done) told ((causes task).always c Done s o.text cause);
-  })
+  done_cause = if_some b.contents _ (λ c told. comes Done c told (λ e. e))
 
   pub refused_cause : IfSome b.contents (λ c. RefusedWhere s (Cause (Some c) task Refused))
   refused_cause = if_some b.contents _ (λ c told. record {
@@ -117,14 +115,17 @@ module _ (task : Option Task) (s : Status) (b a : Moment) (o : Outcome (work_of 
     always = λ none. unless_cut s (work_of task) o.text b a o.answers (λ e. without_task b.contents task s o.text none e);
   }
 
-  pub bad_plan_cause : IfSome b.contents (λ c. ExactlyWhere BadPlan s (Cause (Some c) task BadPlan))
-  bad_plan_cause = if_some b.contents _ (λ c told. exactly BadPlan c told (λ e. e) (λ given. given))
+  pub bad_plan_cause : IfSome b.contents (λ c. ComesWhere BadPlan s (Cause (Some c) task BadPlan) (SureCause (Some c) task BadPlan))
+  bad_plan_cause = if_some b.contents _ (λ c told. comes BadPlan c told (λ e. e))
 
-  pub bad_line_cause : IfSome b.contents (λ c. ExactlyWhere BadTrace s (Cause (Some c) task BadTrace))
-  bad_line_cause = if_some b.contents _ (λ c told. exactly BadTrace c told (λ e. e) (λ given. given))
+  pub bad_line_cause : IfSome b.contents (λ c. ComesWhere BadTrace s (Cause (Some c) task BadTrace) (SureCause (Some c) task BadTrace))
+  bad_line_cause = if_some b.contents _ (λ c told. comes BadTrace c told (λ e. e))
 
-  pub long_cause : IfSome b.contents (λ c. ExactlyWhere TooLong s (Cause (Some c) task TooLong))
-  long_cause = if_some b.contents _ (λ c told. exactly TooLong c told (λ e. e) (λ given. given))
+  pub long_cause : IfSome b.contents (λ c. ComesWhere TooLong s (Cause (Some c) task TooLong) (SureCause (Some c) task TooLong))
+  long_cause = if_some b.contents _ (λ c told. comes TooLong c told (λ e. e))
+
+  pub other_nodes_cause : IfSome b.contents (λ c. ComesWhere OtherNodes s (Cause (Some c) task OtherNodes) (SureCause (Some c) task OtherNodes))
+  other_nodes_cause = if_some b.contents _ (λ c told. comes OtherNodes c told (λ e. e))
 
   pub read_cause : s ≡ ReadFault → Rose b.read_faults a.read_faults
   read_cause e = (answers ReadFault e).0

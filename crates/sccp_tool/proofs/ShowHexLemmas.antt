@@ -15,7 +15,6 @@ show_hex_causes octets = record {
   only = λ contents s text h. subst ShowHexCause (sym h.2.0) tt;
   usage = λ contents cause. absurd cause;
   always = λ c t s text cause h. is_done t s cause h.2.0;
-  sure = λ contents t other cause. cause;
   refused = λ c s text cause h. absurd cause;
   tells = λ c s text taken taken' is ends. tt;
 }

@@ -65,7 +65,6 @@ show_causes name = record {
   only = λ contents s text h. only contents name s (file_ends contents name s text h);
   usage = λ contents cause. absurd cause;
   always = λ c t s text cause h. always c name t s cause (file_ends (Some c) name s text h);
-  sure = λ contents t other cause. cause;
   refused = λ c s text cause h. absurd cause;
   tells = λ c s text taken taken' is ends. tt;
 }

@@ -100,12 +100,6 @@ always c name BadPlan s text has ends = if_bad c name (Judged text) s ends has
 always c name TooLong s text has ends = if_long c name (Judged text) s ends has
 always c name t s text has ends = absurd has
 
-sure : (contents : Option Contents) (name : List ℕ) (t : Status) → (IsOnVerdict t → ⊥) → VerifyCause contents name t → VerifySure contents name t
-sure contents name Done other cause = absurd (other tt)
-sure contents name Refused other cause = absurd (other tt)
-sure contents name TooWide other cause = absurd (other tt)
-sure contents name t other cause = cause
-
 refused : (c : Contents) (name : List ℕ) (s : Status) (text : List ℕ) → HasPlan (Some c) name IsBad → PlanEnds (Some c) name (Judged text) s → (s ≡ Refused) ⊎ (s ≡ TooWide)
 refused c name s text has ends =
     let j = at_plan c name (Judged text) IsBad s ends has in
@@ -124,7 +118,6 @@ verify_causes name = record {
   only = λ contents s text h. only contents name s text (plan_ends contents name s text h);
   usage = λ contents cause. absurd cause;
   always = λ c t s text cause h. always c name t s text cause (plan_ends (Some c) name s text h);
-  sure = λ contents t other cause. sure contents name t other cause;
   refused = λ c s text cause h. refused c name s text cause (plan_ends (Some c) name s text h);
   tells = λ c s text taken taken' is ends. λ given. tells (Some c) name s text taken taken' is (plan_ends (Some c) name s text (ends given)) given;
 }

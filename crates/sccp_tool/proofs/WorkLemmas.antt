@@ -12,7 +12,7 @@ use Rattle.sccp_tool.specs.Moment.{Moment}
 use Rattle.sccp_tool.specs.Numbers.{Batch, AreNumbers}
 use Rattle.sccp_tool.specs.Texts.{read_fault}
 use Rattle.sccp_tool.specs.Writing.{Writes}
-use Rattle.sccp_tool.specs.Work.{Work, finish, print, read, read_on, judge, serve, answered, IsJudged, Ends, ComesToReading, BeginsWith, HasFiles}
+use Rattle.sccp_tool.specs.Work.{Work, finish, print, read, read_on, judge, mix, serve, answered, IsJudged, Ends, ComesToReading, BeginsWith, HasFiles}
 use Rattle.sccp_tool.specs.declared.status.Status.{Status}
 use Rattle.sccp_tool.specs.declared.status.Status.TheVariants.{NoMemory, ReadFault, WriteFault}
 use Rattle.sccp_tool.specs.declared.stop.Stop.{Stop}
@@ -58,6 +58,7 @@ BeginsWith-nil contents (finish s) = refl
 BeginsWith-nil contents (print t w) = inl refl
 BeginsWith-nil contents (read name f) = inl refl
 BeginsWith-nil contents (judge plan f) = inl refl
+BeginsWith-nil contents (mix old new f) = inl refl
 BeginsWith-nil contents (read_on w) = BeginsWith-nil contents w
 BeginsWith-nil contents (serve batch f) = inl refl
 

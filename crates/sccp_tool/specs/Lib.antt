@@ -1,4 +1,5 @@
 pub mod Account
+pub mod Change
 pub mod Commands
 pub mod Ending
 pub mod LaterPlans

@@ -2,12 +2,13 @@
 use Rattle.std.specs.Prelude.{◌≡◌, ◌⊎◌, ℕ, List, Option, Some, None}
 use Rattle.sccp_io.specs.Files.{Contents}
 use Rattle.sccp_tool.specs.Cuts.{cuts_work, CutsCause}
+use Rattle.sccp_tool.specs.Change.{change_work, ChangeCause, ChangeSure}
 use Rattle.sccp_tool.specs.Ending.{IsCut}
 use Rattle.sccp_tool.specs.Import.{import_work, ImportCause, ImportTells}
 use Rattle.sccp_tool.specs.Route.{route_work, RouteCause}
 use Rattle.sccp_tool.specs.Show.{show_work, ShowCause}
 use Rattle.sccp_tool.specs.ShowHex.{show_hex_work, ShowHexCause}
-use Rattle.sccp_tool.specs.Task.{Task, ShowHex, Show, Verify, Route, Cuts, Import}
+use Rattle.sccp_tool.specs.Task.{Task, ShowHex, Show, Verify, Route, Cuts, Import, Change}
 use Rattle.sccp_tool.specs.Texts.{usage}
 use Rattle.sccp_tool.specs.Verify.{verify_work, VerifyCause, VerifySure, VerifyTells}
 use Rattle.sccp_tool.specs.Work.{Work, answered}
@@ -22,6 +23,7 @@ work_of (Some (Verify name)) = verify_work name
 work_of (Some (Route name start)) = route_work name start
 work_of (Some (Cuts octets)) = cuts_work octets
 work_of (Some (Import plan file)) = import_work plan file
+work_of (Some (Change old new)) = change_work old new
 
 -- words of no shape
 abbrev pub UsageCause : Status → Type 0
@@ -37,10 +39,12 @@ Cause contents (Some (Verify name)) answer = VerifyCause contents name answer
 Cause contents (Some (Route name start)) answer = RouteCause contents name answer
 Cause contents (Some (Cuts octets)) answer = CutsCause answer
 Cause contents (Some (Import plan file)) answer = ImportCause contents plan file answer
+Cause contents (Some (Change old new)) answer = ChangeCause contents old new answer
 
 -- where this holds, the answer comes, but for a fault or want of memory before it
 abbrev pub SureCause : Option Contents → Option Task → Status → Type 0
 SureCause contents (Some (Verify name)) answer = VerifySure contents name answer
+SureCause contents (Some (Change old new)) answer = ChangeSure contents old new answer
 SureCause contents task answer = Cause contents task answer
 
 -- what the sink took tells a verdict or, of DATA messages, a trace without a faulty line

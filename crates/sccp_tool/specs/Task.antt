@@ -15,3 +15,5 @@ pub data Task : Type 0 where
   Cuts : List ℕ → Task
   -- makes a trace of the DATA messages of the second file, for the nodes of the plan of the first one
   Import : List ℕ → List ℕ → Task
+  -- tells whether relays may hold either of the plans of the files of these names, the old one and the new one
+  Change : List ℕ → List ℕ → Task

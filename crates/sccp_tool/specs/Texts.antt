@@ -2,7 +2,7 @@
 use Rattle.std.specs.Prelude.{ℕ, List, codes}
 
 unfoldable pub usage : List ℕ
-usage = codes "usage: show-hex HEX | show FILE | verify PLAN | route PLAN NODE SELECTOR SSN DIGITS | cuts HEX | import PLAN FILE\n"
+usage = codes "usage: show-hex HEX | show FILE | verify PLAN | route PLAN NODE SELECTOR SSN DIGITS | cuts HEX | import PLAN FILE | change OLD NEW\n"
 
 unfoldable pub too_long : List ℕ
 too_long = codes "too long\n"
@@ -12,3 +12,6 @@ read_fault = codes "read fault\n"
 
 unfoldable pub unknown_node : List ℕ
 unknown_node = codes "unknown node\n"
+
+unfoldable pub other_nodes : List ℕ
+other_nodes = codes "other nodes\n"

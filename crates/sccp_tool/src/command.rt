@@ -3,6 +3,7 @@ ghost use Rattle.std.specs.Prelude.{◌≡◌, IfOk};
 ghost use Rattle.sccp_tool.specs.Commands.{command_of, task_of, texts};
 ghost use Rattle.sccp_tool.specs.Parsed.{task_in};
 
+use crate::change::change_words;
 use crate::cuts::cuts_words;
 use crate::import::import_words;
 use crate::route::route_words;
@@ -28,6 +29,8 @@ pub enum Command<'a> {
     Cuts(Octets),
     /// To make a trace of the second file under the plan of the first one.
     Import(&'a str, &'a str),
+    /// To tell whether relays may hold either of the plans of the files of these names, the old one and the new one.
+    Change(&'a str, &'a str),
 }
 
 /// What the words ask for, or none where they have none of the shapes.
@@ -61,6 +64,8 @@ fn command_of<'a>(
         cuts_words(alloc, words)
     } else if name == "import" {
         Ok(import_words(words))
+    } else if name == "change" {
+        Ok(change_words(words))
     } else {
         Ok(None)
     }

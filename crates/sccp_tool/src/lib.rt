@@ -1,11 +1,13 @@
 //! The commands of the program: SCCP messages (ITU-T Q.713) that are shown, given in hexadecimal digits as a word or in a
-//! file with one a line, a plan of relays that is verified, and a title that is followed through them (Q.714 section 2).
+//! file with one a line, a plan of relays that is verified, a title that is followed through them (Q.714 section 2), and two
+//! plans of which it is told whether relays may hold either.
 //!
 //! The contract of `run` is what the program promises: the text that it writes and the status that it ends with, for any
 //! words, files and sink, with the cause of each status. The crate above only makes the real files and the real sink and
 //! passes on the words.
 #![tactic(auto)]
 
+mod change;
 mod command;
 mod cuts;
 mod import;

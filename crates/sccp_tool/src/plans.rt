@@ -40,7 +40,7 @@ pub fn with_plan<F: Files, K: Sink>(
 
 /// The line on a text that is no plan. Want of memory while it was read says nothing of the text, and has no line.
 #[tactic(auto, unfolding(crate::specs::Plans::bad_plan))]
-fn bad_plan(alloc: Global, fault: &PlanFault) -> Result<Octets, OutOfMemory>
+pub fn bad_plan(alloc: Global, fault: &PlanFault) -> Result<Octets, OutOfMemory>
     ensures line { IfOk result (λ line. line ≡ bad_plan fault.now) }
     ensures told { OnOk result (is_memory fault.now ≡ false) }
 {

@@ -8,6 +8,7 @@ ghost use Rattle.sccp_tool.specs.Parsed.{task_in};
 ghost use Rattle.sccp_tool.specs.Run.{work_of, Cause, SureCause, TellsVerdict, ExactlyWhere, ComesWhere, RefusedWhere};
 ghost use Rattle.sccp_tool.specs.Work.{HasFiles};
 
+use crate::change::change;
 use crate::command::{Command, parse};
 use crate::cuts::cuts;
 use crate::import::import;
@@ -23,7 +24,7 @@ use sccp_io::{Files, Sink};
 use std::alloc::Global;
 
 const USAGE: &[u8] =
-    b"usage: show-hex HEX | show FILE | verify PLAN | route PLAN NODE SELECTOR SSN DIGITS | cuts HEX | import PLAN FILE\n";
+    b"usage: show-hex HEX | show FILE | verify PLAN | route PLAN NODE SELECTOR SSN DIGITS | cuts HEX | import PLAN FILE | change OLD NEW\n";
 
 const READ_FAULT: &[u8] = b"read fault\n";
 
@@ -47,11 +48,13 @@ pub fn run<F: Files, K: Sink>(alloc: Global, words: &[String], files: &mut F, ou
         (λ c. result ≡ Status.TooWide → Cause (Some c) (task_of (texts words.now)) Status.TooWide) }
     ensures usage { ExactlyWhere Status.Usage result (task_of (texts words.now) ≡ None) }
     ensures bad_plan { IfSome (F.contents files.old)
-        (λ c. ExactlyWhere Status.BadPlan result (Cause (Some c) (task_of (texts words.now)) Status.BadPlan)) }
+        (λ c. ComesWhere Status.BadPlan result (Cause (Some c) (task_of (texts words.now)) Status.BadPlan) (SureCause (Some c) (task_of (texts words.now)) Status.BadPlan)) }
     ensures bad_trace { IfSome (F.contents files.old)
-        (λ c. ExactlyWhere Status.BadTrace result (Cause (Some c) (task_of (texts words.now)) Status.BadTrace)) }
+        (λ c. ComesWhere Status.BadTrace result (Cause (Some c) (task_of (texts words.now)) Status.BadTrace) (SureCause (Some c) (task_of (texts words.now)) Status.BadTrace)) }
     ensures too_long { IfSome (F.contents files.old)
-        (λ c. ExactlyWhere Status.TooLong result (Cause (Some c) (task_of (texts words.now)) Status.TooLong)) }
+        (λ c. ComesWhere Status.TooLong result (Cause (Some c) (task_of (texts words.now)) Status.TooLong) (SureCause (Some c) (task_of (texts words.now)) Status.TooLong)) }
+    ensures other_nodes { IfSome (F.contents files.old)
+        (λ c. ComesWhere Status.OtherNodes result (Cause (Some c) (task_of (texts words.now)) Status.OtherNodes) (SureCause (Some c) (task_of (texts words.now)) Status.OtherNodes)) }
     ensures read_fault { result ≡ Status.ReadFault → Rose (F.faults files.old) (F.faults files.new) }
     ensures write_fault { result ≡ Status.WriteFault → Rose (K.faults out.old) (K.faults out.new) }
     // Sound files that have each file which the work comes to don't fail.
@@ -98,6 +101,7 @@ fn obey<F: Files, K: Sink>(
         Command::Route(name, start) => route(alloc, name, start, files, out),
         Command::Cuts(octets) => cuts(alloc, octets.as_slice(), out),
         Command::Import(plan, file) => import(alloc, plan, file, files, out),
+        Command::Change(old, new) => change(alloc, old, new, files, out),
     }
 }
 

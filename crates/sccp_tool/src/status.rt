@@ -19,6 +19,8 @@ pub enum Status {
     TooWide = 67,
     /// A file has more octets than the limit.
     TooLong = 68,
+    /// The two plans haven't the same relays.
+    OtherNodes = 69,
     /// Memory was wanting.
     NoMemory = 71,
     /// The files failed.

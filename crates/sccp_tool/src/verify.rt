@@ -57,7 +57,7 @@ pub fn verify<F: Files, K: Sink>(
 }
 
 /// The text of a lawful verdict, whose route stays in the plan.
-fn lawful_text(alloc: Global, plan: &Plan, verdict: &Verdict) -> Result<Octets, OutOfMemory>
+pub fn lawful_text(alloc: Global, plan: &Plan, verdict: &Verdict) -> Result<Octets, OutOfMemory>
     requires plan { IsPlan plan.now }
     requires same { plan_of verdict.now ≡ plan.now }
     requires lawful { IsLawful plan.now verdict.now }
@@ -67,7 +67,7 @@ fn lawful_text(alloc: Global, plan: &Plan, verdict: &Verdict) -> Result<Octets, 
 }
 
 /// The plan that the verdict is on.
-fn plan_of(verdict: &Verdict) -> &Plan
+pub fn plan_of(verdict: &Verdict) -> &Plan
     ensures { result.now ≡ plan_of verdict.now }
 {
     match verdict {

@@ -1,0 +1,137 @@
+-- The command that tells whether relays may hold either of two plans.
+use Rattle.std.specs.Prelude.{◌≡◌, ◌⊎◌, ℕ, List, [], ◌∷◌, ◌++◌, Option, None, Result, Ok, Err, if◌then◌else◌, codes, option_and_then, option_map}
+use Rattle.plan_check.specs.Verified.{Verified}
+use Rattle.plan_model.specs.declared.kind.Kind.{Kind}
+use Rattle.plan_model.specs.declared.plan_fault.PlanFault.{PlanFault}
+use Rattle.plan_model.specs.declared.spot.Spot.{Spot}
+use Rattle.plan_model.specs.Network.{Network}
+use Rattle.plan_model.specs.SameNodes.{SameNodes, same_nodes}
+use Rattle.plan_mixed.specs.Mixed.{MixedReachAtLeast}
+use Rattle.plan_change.specs.Changes.{IsMixedSafeFor}
+use Rattle.plan_change.specs.Mixture.{BothBad}
+use Rattle.plan_change.specs.declared.answer.Change.{Change}
+use Rattle.plan_change.specs.declared.answer.Change.TheVariants as changes
+use Rattle.plan_change.specs.declared.mixed_hop.MixedHop.{MixedHop}
+use Rattle.plan_change.specs.declared.turn.Turn.{Turn}
+use Rattle.plan_text.specs.PlanText.{plan_of}
+use Rattle.plan_verify.specs.declared.verdict.Verdict.{Verdict}
+use Rattle.plan_verify.specs.declared.verdict.Verdict.TheVariants as verdicts
+use Rattle.sccp_io.specs.Files.{Contents}
+use Rattle.sccp_report.specs.Changes.{change_text}
+use Rattle.sccp_report.specs.Verdicts.{accepted_line, verdict_text}
+use Rattle.trace_text.specs.Forms.{file_name}
+use Rattle.sccp_tool.specs.Ending.{Works}
+use Rattle.sccp_tool.specs.Limit.{within_limit, HasLongFile}
+use Rattle.sccp_tool.specs.Moment.{Moment}
+use Rattle.sccp_tool.specs.Plans.{bad_plan, HasPlan, HasBadPlan}
+use Rattle.sccp_tool.specs.Task.{Task, Change as asked}
+use Rattle.sccp_tool.specs.Texts.{other_nodes}
+use Rattle.sccp_tool.specs.Verify.{IsSafe, IsBad, IsWide}
+use Rattle.sccp_tool.specs.Work.{Work, print, judge, mix, answered, IsCompared}
+use Rattle.sccp_tool.specs.declared.status.Status.{Status}
+use Rattle.sccp_tool.specs.declared.status.Status.TheVariants.{Done, Refused, BadPlan, TooWide, TooLong, OtherNodes}
+use Rattle.sccp_tool.specs.declared.stop.Stop.{Stop}
+
+unfoldable pub change_of : List ℕ → List ℕ → Option Task
+change_of old new = option_and_then (λ name. option_map (asked name) (file_name new)) (file_name old)
+
+-- OLD NEW
+unfoldable pub change_words : List (List ℕ) → Option Task
+change_words (old ∷ new ∷ []) = change_of old new
+change_words words = None
+
+-- the word before each line on the old plan, and on the new one
+unfoldable pub old_word : List ℕ
+old_word = codes "old "
+
+unfoldable pub new_word : List ℕ
+new_word = codes "new "
+
+-- what is told of a plan: of an accepted one its bound, and of another the whole text of the verdict
+abbrev pub plan_told : Network → Verdict → List ℕ
+plan_told plan (verdicts.Accepted accepted) = accepted_line accepted.bound
+plan_told plan (verdicts.Refused same witness) = verdict_text plan (verdicts.Refused same witness)
+plan_told plan (verdicts.TooWide same) = verdict_text plan (verdicts.TooWide same)
+
+-- an accepted plan is told, and the work goes on; any other verdict is the answer
+abbrev pub accepted_on : List ℕ → (Network → Work) → Network → Verdict → Work
+accepted_on word next plan (verdicts.Accepted accepted) = print (word ++ plan_told plan (verdicts.Accepted accepted)) (next plan)
+accepted_on word next plan (verdicts.Refused same witness) = answered (Refused, word ++ plan_told plan (verdicts.Refused same witness))
+accepted_on word next plan (verdicts.TooWide same) = answered (TooWide, word ++ plan_told plan (verdicts.TooWide same))
+
+abbrev pub read_on_plan : List ℕ → (Network → Work) → Result Network PlanFault → Work
+read_on_plan word next (Ok plan) = judge plan (accepted_on word next plan)
+read_on_plan word next (Err fault) = answered (BadPlan, word ++ bad_plan fault)
+
+-- the plan of a file, where it is accepted; what is told of it stands behind this word
+abbrev pub with_accepted : List ℕ → List ℕ → (Network → Work) → Work
+with_accepted word name next = within_limit name (λ octets. read_on_plan word next (plan_of octets))
+
+abbrev pub change_status : Change → Status
+change_status (changes.Kept bound spot turns) = Done
+change_status (changes.Broken old_cover new_cover spot turns hops kind) = Refused
+change_status changes.TooWide = TooWide
+
+-- the two plans side by side
+abbrev pub mixed_work : Network → Network → Work
+mixed_work old new = if same_nodes old new then mix old new (λ change. answered (change_status change, change_text old new change)) else answered (OtherNodes, other_nodes)
+
+abbrev pub change_work : List ℕ → List ℕ → Work
+change_work old new = with_accepted old_word old (λ p. with_accepted new_word new (λ q. mixed_work p q))
+
+-- ---- what the code hands on while the work is done
+
+-- Whatever the work that needs the plan goes on with: from an accepted plan it goes on, and else it has ended or stopped.
+abbrev pub GivesAccepted : List ℕ → List ℕ → Result Verified Stop → Moment → Moment → Type 0
+GivesAccepted word name (Ok accepted) first now =
+    (next : Network → Work) (result : Result Status Stop) (after : Moment) → Works (next accepted.plan) result now after → Works (with_accepted word name next) result first after
+GivesAccepted word name (Err stop) first now = (next : Network → Work) → Works (with_accepted word name next) (Err stop) first now
+
+-- the answer on two plans and its text, as the work has them
+abbrev pub IsAnswered : Network → Network → Status → List ℕ → Type 0
+IsAnswered old new status text =
+    ((SameNodes old new → ⊥) × (status ≡ OtherNodes) × (text ≡ other_nodes))
+    ⊎ ((change : Change) × IsCompared old new change × (status ≡ change_status change) × (text ≡ change_text old new change))
+
+-- ---- the causes
+
+-- a safe plan is accepted for sure where it reaches fewer than 262,144 classes
+abbrev pub IsSurelySafe : Network → Type 0
+IsSurelySafe plan = IsSafe plan × (IsWide plan → ⊥)
+
+-- each mixed route of a title that both plans cover ends well within some bound up to 14, or a bad one is there, or the plans reach too many classes together
+abbrev pub IsMixable : Network → Network → Type 0
+IsMixable old new = (bound : ℕ) × IsMixedSafeFor old new bound
+
+abbrev pub IsUnmixable : Network → Network → Type 0
+IsUnmixable old new =
+    (old_cover : ℕ) × (new_cover : ℕ) × (spot : Spot) × (turns : List Turn) × (hops : List MixedHop) × (kind : Kind) × BothBad old new old_cover new_cover spot turns hops kind
+
+abbrev pub IsWideMixture : Network → Network → Type 0
+IsWideMixture old new = MixedReachAtLeast old new 262144
+
+-- both files have plans that are safe in this sense, and this holds of the two
+abbrev pub HavePlans : Option Contents → List ℕ → List ℕ → (Network → Type 0) → (Network → Network → Type 0) → Type 0
+HavePlans contents old new safe holds = HasPlan contents old (λ p. safe p × HasPlan contents new (λ q. safe q × holds p q))
+
+-- a plan of one of the files holds this, the new one's behind an old one that is safe in this sense
+abbrev pub HasEither : Option Contents → List ℕ → List ℕ → (Network → Type 0) → (List ℕ → Type 0) → Type 0
+HasEither contents old new safe holds = holds old ⊎ HasPlan contents old (λ p. safe p × holds new)
+
+-- the cause of each answer
+abbrev pub ChangeCause : Option Contents → List ℕ → List ℕ → Status → Type 0
+ChangeCause contents old new Done = HavePlans contents old new IsSafe (λ p q. SameNodes p q × IsMixable p q)
+ChangeCause contents old new Refused = HasEither contents old new IsSafe (λ name. HasPlan contents name IsBad) ⊎ HavePlans contents old new IsSafe (λ p q. SameNodes p q × IsUnmixable p q)
+ChangeCause contents old new TooWide = HasEither contents old new IsSafe (λ name. HasPlan contents name IsWide) ⊎ HavePlans contents old new IsSafe (λ p q. SameNodes p q × IsWideMixture p q)
+ChangeCause contents old new OtherNodes = HavePlans contents old new IsSafe (λ p q. SameNodes p q → ⊥)
+ChangeCause contents old new BadPlan = HasEither contents old new IsSafe (HasBadPlan contents)
+ChangeCause contents old new TooLong = HasEither contents old new IsSafe (HasLongFile contents)
+ChangeCause contents old new answer = ⊥
+
+-- what brings an answer for sure: what is safe and wide may be told to be too wide as well
+abbrev pub ChangeSure : Option Contents → List ℕ → List ℕ → Status → Type 0
+ChangeSure contents old new Done = HavePlans contents old new IsSurelySafe (λ p q. SameNodes p q × IsMixable p q × (IsWideMixture p q → ⊥))
+ChangeSure contents old new OtherNodes = HavePlans contents old new IsSurelySafe (λ p q. SameNodes p q → ⊥)
+ChangeSure contents old new BadPlan = HasEither contents old new IsSurelySafe (HasBadPlan contents)
+ChangeSure contents old new TooLong = HasEither contents old new IsSurelySafe (HasLongFile contents)
+ChangeSure contents old new answer = ⊥

@@ -1,0 +1,203 @@
+//! The command that tells whether relays may hold either of two plans.
+ghost use Rattle.std.specs.Prelude.{◌≡◌, ◌++◌, false, IfOk, OnOk};
+ghost use Rattle.plan_model.specs.Network.{IsPlan};
+ghost use Rattle.plan_text.specs.Faults.{is_memory};
+ghost use Rattle.plan_verify.specs.Lawful.{IsLawful, plan_of};
+ghost use Rattle.sccp_tool.specs.Change.{change_of, change_words, change_work, change_status, old_word, new_word, plan_told, GivesAccepted, IsAnswered};
+ghost use Rattle.sccp_tool.specs.Commands.{texts};
+ghost use Rattle.sccp_tool.specs.Ending.{Works};
+ghost use Rattle.sccp_tool.specs.Moment.{moment};
+ghost use Rattle.sccp_tool.specs.Parsed.{task_in};
+ghost use Rattle.sccp_tool.specs.Plans.{bad_plan};
+
+use crate::command::Command;
+use crate::limit::within_limit;
+use crate::opened::Opened;
+use crate::plans::bad_plan;
+use crate::status::Status;
+use crate::stop::{Stop, early};
+use crate::verify::lawful_text;
+use crate::writing::{print_last, put_all};
+use plan_change::{Change, ChangeFault};
+use plan_check::Accepted;
+use plan_model::{Plan, PlanFault};
+use plan_verify::Verdict;
+use sccp_base::{Octets, OutOfMemory};
+use sccp_io::{Files, Sink};
+use sccp_report::{accepted_text, change_text};
+use std::alloc::Global;
+use trace_text::is_file_name;
+
+const OLD: &[u8] = b"old ";
+
+const NEW: &[u8] = b"new ";
+
+const OTHER_NODES: &[u8] = b"other nodes\n";
+
+/// Its words: `OLD NEW`.
+#[tactic(auto, unfolding(crate::specs::Change::change_words))]
+pub fn change_words(words: &[String]) -> Option<Command<'_>>
+    ensures { task_in result ≡ change_words (texts words.now) }
+{
+    match words {
+        [old, new] => change_of(old.as_str(), new.as_str()),
+        _ => None,
+    }
+}
+
+/// The command of these two words.
+#[tactic(auto, unfolding(crate::specs::Change::change_of))]
+fn change_of<'a>(old: &'a str, new: &'a str) -> Option<Command<'a>>
+    ensures { task_in result ≡ change_of old.now new.now }
+{
+    if !is_file_name(old.as_bytes()) {
+        return None;
+    }
+    if !is_file_name(new.as_bytes()) {
+        return None;
+    }
+    Some(Command::Change(old, new))
+}
+
+/// Tells whether relays may hold either of the plans of two files.
+#[tactic(auto, unfolding(crate::specs::Change::old_word, crate::specs::Change::new_word))]
+pub fn change<F: Files, K: Sink>(
+    alloc: Global,
+    old: &str,
+    new: &str,
+    files: &mut F,
+    out: &mut K,
+) -> Result<Status, Stop>
+    ensures { Works (change_work old.now new.now) result
+        (moment F.contents F.sound F.faults K.taken K.faults files.old out.old)
+        (moment F.contents F.sound F.faults K.taken K.faults files.new out.new) }
+{
+    let first = with_accepted(alloc, OLD, old, files, out)?;
+    let second = with_accepted(alloc, NEW, new, files, out)?;
+    let answer = answer_on(alloc, &first, &second)?;
+    print_last(out, answer.text.as_slice(), answer.status)
+}
+
+/// The plan of a file, where it is accepted, which a line behind this word tells. What else comes of the file is told behind the
+/// word, and is the answer of the command.
+fn with_accepted<F: Files, K: Sink>(
+    alloc: Global,
+    word: &[u8],
+    name: &str,
+    files: &mut F,
+    out: &mut K,
+) -> Result<Accepted, Stop>
+    ensures { GivesAccepted word.now name.now result
+        (moment F.contents F.sound F.faults K.taken K.faults files.old out.old)
+        (moment F.contents F.sound F.faults K.taken K.faults files.new out.new) }
+{
+    let text = within_limit(alloc, Opened::First, name, files, out)?;
+    match plan_text::read(alloc, &text) {
+        Ok(plan) => {
+            let Judged { verdict, line } = verdict_behind(alloc, word, plan)?;
+            match verdict {
+                Verdict::Accepted(accepted) => {
+                    put_all(out, line.as_slice())?;
+                    Ok(accepted)
+                }
+                Verdict::Refused(_, _) => {
+                    Err(early(print_last(out, line.as_slice(), Status::Refused)))
+                }
+                Verdict::TooWide(_) => {
+                    Err(early(print_last(out, line.as_slice(), Status::TooWide)))
+                }
+            }
+        }
+        Err(fault) => {
+            let line = bad_plan_behind(alloc, word, &fault)?;
+            Err(early(print_last(out, line.as_slice(), Status::BadPlan)))
+        }
+    }
+}
+
+/// The verdict on a plan, and what is told of it.
+#[derive(Drop)]
+struct Judged {
+    verdict: Verdict,
+    line: Octets,
+}
+
+/// The verdict on a plan, and what is told of it behind a word.
+fn verdict_behind(alloc: Global, word: &[u8], plan: Plan) -> Result<Judged, OutOfMemory>
+    requires { IsPlan plan }
+    ensures lawful { IfOk result (λ j. IsLawful plan j.verdict) }
+    ensures same { IfOk result (λ j. plan_of j.verdict ≡ plan) }
+    ensures line { IfOk result (λ j. j.line ≡ word.now ++ plan_told plan j.verdict) }
+{
+    let verdict = plan_verify::verify(alloc, plan)?;
+    let text = told(alloc, &verdict)?;
+    let line = behind(alloc, word, text.as_slice())?;
+    Ok(Judged { verdict, line })
+}
+
+/// The line on a text that is no plan, behind a word.
+fn bad_plan_behind(alloc: Global, word: &[u8], fault: &PlanFault) -> Result<Octets, OutOfMemory>
+    ensures line { IfOk result (λ line. line ≡ word.now ++ bad_plan fault.now) }
+    ensures told { OnOk result (is_memory fault.now ≡ false) }
+{
+    let text = bad_plan(alloc, fault)?;
+    behind(alloc, word, text.as_slice())
+}
+
+/// A text behind a word.
+fn behind(alloc: Global, word: &[u8], text: &[u8]) -> Result<Octets, OutOfMemory>
+    ensures { IfOk result (λ all. all ≡ word.now ++ text.now) }
+{
+    let mut all = Vec::from_slice(alloc, word)?;
+    all.extend_from_slice(text)?;
+    Ok(Octets::from_vec(all))
+}
+
+/// What is told of a plan: of an accepted one its bound, and of another the whole text of the verdict.
+fn told(alloc: Global, verdict: &Verdict) -> Result<Octets, OutOfMemory>
+    requires plan { IsPlan (plan_of verdict.now) }
+    requires lawful { IsLawful (plan_of verdict.now) verdict.now }
+    ensures { IfOk result (λ text. text ≡ plan_told (plan_of verdict.now) verdict.now) }
+{
+    match verdict {
+        Verdict::Accepted(accepted) => accepted_text(alloc, accepted),
+        Verdict::Refused(plan, _) => lawful_text(alloc, plan, verdict),
+        Verdict::TooWide(plan) => lawful_text(alloc, plan, verdict),
+    }
+}
+
+/// The answer on two plans, and its text.
+#[derive(Drop)]
+struct Answer {
+    status: Status,
+    text: Octets,
+}
+
+/// The answer on two accepted plans.
+#[tactic(auto, unfolding(crate::specs::Texts::other_nodes))]
+fn answer_on(alloc: Global, old: &Accepted, new: &Accepted) -> Result<Answer, OutOfMemory>
+    ensures { IfOk result (λ answer. IsAnswered old.now.plan new.now.plan answer.status answer.text) }
+{
+    match plan_change::change(alloc, old, new) {
+        Ok(change) => Ok(Answer {
+            status: status_of_change(&change),
+            text: change_text(alloc, old.plan(), new.plan(), &change)?,
+        }),
+        Err(ChangeFault::OtherNodes) => Ok(Answer {
+            status: Status::OtherNodes,
+            text: Octets::from_vec(Vec::from_slice(alloc, OTHER_NODES)?),
+        }),
+        Err(ChangeFault::OutOfMemory) => Err(OutOfMemory),
+    }
+}
+
+/// The status of an answer on two plans.
+fn status_of_change(change: &Change) -> Status
+    ensures { result ≡ change_status change.now }
+{
+    match change {
+        Change::Kept { .. } => Status::Done,
+        Change::Broken { .. } => Status::Refused,
+        Change::TooWide => Status::TooWide,
+    }
+}
