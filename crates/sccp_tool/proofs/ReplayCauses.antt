@@ -10,7 +10,7 @@ use Rattle.sccp_tool.specs.ReplayEnds.{ReplayCause, ReplaySure, LaterPlansFit, S
 use Rattle.sccp_tool.specs.Trace.{lines_in, fault_in}
 use Rattle.sccp_tool.specs.Verify.{IsSafe, IsBad, IsWide}
 use Rattle.sccp_tool.specs.declared.status.Status.{Status}
-use Rattle.sccp_tool.specs.declared.status.Status.TheVariants.{Done, Refused, Usage, BadPlan, BadTrace, TooWide, TooLong, NoMemory, ReadFault, WriteFault}
+use Rattle.sccp_tool.specs.declared.status.Status.TheVariants.{Done, Refused, Usage, BadPlan, BadTrace, TooWide, TooLong, OtherNodes, NoMemory, ReadFault, WriteFault}
 use Rattle.sccp_tool.proofs.LimitLemmas.{not_long}
 use Rattle.sccp_tool.proofs.PlanLemmas.{not_both, same_plan}
 use Rattle.sccp_tool.proofs.VerifyLemmas.{safe_or_bad}
@@ -70,6 +70,7 @@ done_must c plan trace BadPlan h e = absurd (bad_or c plan IsSurelySafe h.0 e)
 done_must c plan trace Refused h e = absurd (both c plan IsSurelySafe IsBad surely_or_bad h.0 e)
 done_must c plan trace TooWide h e = absurd (both c plan IsSurelySafe IsWide surely_or_wide h.0 e)
 done_must c plan trace Usage h e = absurd e
+done_must c plan trace OtherNodes h e = absurd e
 done_must c plan trace NoMemory h e = absurd e
 done_must c plan trace ReadFault h e = absurd e
 done_must c plan trace WriteFault h e = absurd e
@@ -83,6 +84,7 @@ bad_trace_must c plan trace BadPlan h e = absurd (bad_or c plan IsSurelySafe h.0
 bad_trace_must c plan trace Refused h e = absurd (both c plan IsSurelySafe IsBad surely_or_bad h.0 e)
 bad_trace_must c plan trace TooWide h e = absurd (both c plan IsSurelySafe IsWide surely_or_wide h.0 e)
 bad_trace_must c plan trace Usage h e = absurd e
+bad_trace_must c plan trace OtherNodes h e = absurd e
 bad_trace_must c plan trace NoMemory h e = absurd e
 bad_trace_must c plan trace ReadFault h e = absurd e
 bad_trace_must c plan trace WriteFault h e = absurd e
@@ -100,6 +102,7 @@ too_long_must c plan trace Refused (inr h) e = absurd (both c plan IsSurelySafe 
 too_long_must c plan trace TooWide (inl h) e = absurd (long_or c plan IsWide e h)
 too_long_must c plan trace TooWide (inr h) e = absurd (both c plan IsSurelySafe IsWide surely_or_wide h.0 e)
 too_long_must c plan trace Usage h e = absurd e
+too_long_must c plan trace OtherNodes h e = absurd e
 too_long_must c plan trace NoMemory h e = absurd e
 too_long_must c plan trace ReadFault h e = absurd e
 too_long_must c plan trace WriteFault h e = absurd e
@@ -113,6 +116,7 @@ bad_plan_must c plan trace TooLong h (inr e) = absurd (bad_or c plan IsSafe e.0 
 bad_plan_must c plan trace Refused h e = absurd (bad_or c plan IsBad e h)
 bad_plan_must c plan trace TooWide h e = absurd (bad_or c plan IsWide e h)
 bad_plan_must c plan trace Usage h e = absurd e
+bad_plan_must c plan trace OtherNodes h e = absurd e
 bad_plan_must c plan trace NoMemory h e = absurd e
 bad_plan_must c plan trace ReadFault h e = absurd e
 bad_plan_must c plan trace WriteFault h e = absurd e
@@ -126,6 +130,7 @@ refused_must c plan trace TooLong h (inl e) = absurd (long_or c plan IsBad h e)
 refused_must c plan trace TooLong h (inr e) = absurd (both c plan IsSafe IsBad unsafe e.0 h)
 refused_must c plan trace BadPlan h e = absurd (bad_or c plan IsBad h e)
 refused_must c plan trace Usage h e = absurd e
+refused_must c plan trace OtherNodes h e = absurd e
 refused_must c plan trace NoMemory h e = absurd e
 refused_must c plan trace ReadFault h e = absurd e
 refused_must c plan trace WriteFault h e = absurd e

@@ -26,9 +26,9 @@ use Rattle.sccp_tool.specs.Replay.{start, closing_of, lines_work, trace_work, re
 use Rattle.sccp_tool.specs.ReplayEnds.{ReplayCause, ReplayTells, IsOnRefusal}
 use Rattle.sccp_tool.specs.Texts.{too_long, read_fault}
 use Rattle.sccp_tool.specs.Verify.{status_of, IsSafe, Tells}
-use Rattle.sccp_tool.specs.Work.{Work, finish, print, read, read_on, judge, serve, answered, IsJudged, Ends, ComesToReading, BeginsWith}
+use Rattle.sccp_tool.specs.Work.{Work, finish, print, read, read_on, judge, mix, serve, answered, IsJudged, Ends, ComesToReading, BeginsWith}
 use Rattle.sccp_tool.specs.declared.status.Status.{Status}
-use Rattle.sccp_tool.specs.declared.status.Status.TheVariants.{Done, Refused, Usage, BadPlan, BadTrace, TooWide, TooLong, NoMemory, ReadFault, WriteFault}
+use Rattle.sccp_tool.specs.declared.status.Status.TheVariants.{Done, Refused, Usage, BadPlan, BadTrace, TooWide, TooLong, OtherNodes, NoMemory, ReadFault, WriteFault}
 use Rattle.sccp_tool.proofs.Accounting.{SoFar, texts, lines_through, starts_behind}
 use Rattle.sccp_tool.proofs.Accounting as accounts
 use Rattle.sccp_tool.proofs.Settling.{Scene}
@@ -45,6 +45,7 @@ Through-map ends ends' reads reads' fronts fronts' k e r f (finish s) acc h = e 
 Through-map ends ends' reads reads' fronts fronts' k e r f (print t w) acc h = ((λ front starts. f (acc ++ front) (h.0 front starts)), Through-map ends ends' reads reads' fronts fronts' k e r f w (acc ++ t) h.1)
 Through-map ends ends' reads reads' fronts fronts' k e r f (read name g) acc h = (r acc h.0, λ octets there. Through-map ends ends' reads reads' fronts fronts' k e r f (g octets) acc (h.1 octets there))
 Through-map ends ends' reads reads' fronts fronts' k e r f (judge plan g) acc h = λ v j. Through-map ends ends' reads reads' fronts fronts' k e r f (g v) acc (h v j)
+Through-map ends ends' reads reads' fronts fronts' k e r f (mix old new g) acc h = λ c is. Through-map ends ends' reads reads' fronts fronts' k e r f (g c) acc (h c is)
 Through-map ends ends' reads reads' fronts fronts' k e r f (read_on w) acc h = (r acc h.0, Through-map ends ends' reads reads' fronts fronts' k e r f w acc h.1)
 Through-map ends ends' reads reads' fronts fronts' k e r f (serve b g) acc h = λ ns are. Through-map ends ends' reads reads' fronts fronts' k e r f (g ns) acc (h ns are)
 
@@ -149,6 +150,8 @@ begins_so z s acc told e = by s e told.so where
   by TooWide (inr e) so = cc
   by TooLong (inl e) so = cc
   by TooLong (inr e) so = cc
+  by OtherNodes (inl e) so = cc
+  by OtherNodes (inr e) so = cc
   by NoMemory (inl e) so = cc
   by NoMemory (inr e) so = cc
   by ReadFault (inl e) so = cc
@@ -165,6 +168,7 @@ why z workers octets there BadTrace h = (accepted_plan z, h.0, h.1)
 why z workers octets there TooLong h = inr (accepted_plan z, h)
 why z workers octets there Refused h = absurd h
 why z workers octets there Usage h = absurd h
+why z workers octets there OtherNodes h = absurd h
 why z workers octets there BadPlan h = absurd h
 why z workers octets there TooWide h = absurd h
 why z workers octets there NoMemory h = absurd h
@@ -178,6 +182,7 @@ none_refused z Done h on = on
 none_refused z BadTrace h on = on
 none_refused z TooLong h on = on
 none_refused z Usage h on = on
+none_refused z OtherNodes h on = on
 none_refused z BadPlan h on = on
 none_refused z NoMemory h on = on
 none_refused z ReadFault h on = on

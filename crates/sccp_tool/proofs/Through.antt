@@ -1,6 +1,7 @@
 -- What holds of all that a work may write.
 use Rattle.std.proofs.Common.{◌≡◌, ℕ, List, [], ◌++◌, length, Option, sym, ◌∙◌, ap, subst, append-nil, append_assoc, take_all, inl, inr, arith}
 use Rattle.std.specs.Io.{StartsWith}
+use Rattle.plan_change.specs.declared.answer.Change.{Change}
 use Rattle.plan_verify.specs.declared.verdict.Verdict.{Verdict}
 use Rattle.sccp_io.specs.Files.{Contents, Reads}
 use Rattle.sccp_tool.specs.Numbers.{AreNumbers}
