@@ -1,7 +1,7 @@
-//! Tests of calls that no command over real files shows: `run` over files and sinks in memory, failing ones among them, files
-//! and plans at their limits, and calls of the libraries with values that no command hands them.
+//! Tests of `run` that no command over real files shows: calls over files and sinks in memory, failing ones among them, and
+//! files and plans at their limits.
 //!
-//! What a command shows is a case of the program `worked_cases`. Plans are given as texts, messages as octets.
+//! What a command shows is a case of the program `worked_cases`.
 #![tactic(auto)]
 
 #[cfg(test)]

@@ -1,16 +1,6 @@
 //! Calls that no command over real files shows.
 mod calls;
-mod checks;
-mod journeys;
 mod limits;
-mod lookups;
-mod management;
 mod memory_io;
-mod messages;
-mod plan_texts;
-mod plans;
-mod routes;
-mod segments;
-mod traces;
-mod values;
+mod replays;
 mod wide_plans;

@@ -12,6 +12,7 @@ mod bookmark;
 mod count;
 mod fault;
 mod files;
+mod in_pieces;
 mod memory_files;
 mod memory_sink;
 mod real_files;
@@ -23,6 +24,7 @@ mod sound_sink;
 
 pub use fault::IoFault;
 pub use files::Files;
+pub use in_pieces::InPieces;
 pub use memory_files::MemoryFiles;
 pub use memory_sink::MemorySink;
 pub use real_files::RealFiles;

@@ -2,10 +2,9 @@
 ghost use Rattle.std.specs.Prelude.{◌≢◌};
 ghost use Rattle.sccp_io.specs.Memory.{file_named, files_in};
 ghost use Rattle.sccp_tool.specs.Commands.{task_of, texts};
-ghost use Rattle.sccp_tool.specs.Run.{work_of};
-ghost use Rattle.sccp_tool.specs.Work.{HasFiles};
+ghost use Rattle.sccp_tool.specs.Run.{HasNamedFiles};
 
-use super::plan_texts::BACKED;
+use sample_plans::BACKED;
 use sccp_base::Octets;
 use sccp_io::{Files, MemoryFiles, MemorySink, Sink, SoundFiles, SoundSink};
 use sccp_tool::{Status, run};
@@ -13,7 +12,7 @@ use std::alloc::{AllocError, Global};
 use std::test::Fail;
 
 /// The words between the blanks of a line.
-fn words_of(alloc: Global, line: &str) -> Result<Vec<String>, AllocError> {
+pub fn words_of(alloc: Global, line: &str) -> Result<Vec<String>, AllocError> {
     let mut words = Vec::new(alloc);
     for word in line.split(' ') {
         words.push(word.to_string(alloc)?)?;
@@ -47,7 +46,7 @@ fn run_over_sound_files<K: Sink>(
     files: Vec<(String, Vec<u8>)>,
     out: &mut K,
 ) -> Status
-    requires { HasFiles (file_named (files_in files.items)) (work_of (task_of (texts words.now))) }
+    requires { HasNamedFiles (file_named (files_in files.items)) (task_of (texts words.now)) }
     ensures { result ≢ Status.ReadFault }
 {
     let mut files = SoundFiles::new(files);
@@ -84,6 +83,10 @@ fn a_fault_of_the_files_ends_the_call(rt: HostRuntime) -> Result<(), Fail> {
         ("route f b 4:0:1:4 6 49", 1),
         ("route f b 4:0:1:4 6 49", 2),
         ("route g b 4:0:1:4 6 49", 9),
+        ("replay f f 1", 0),
+        ("replay f f 1", 1),
+        ("replay f f 1", 2),
+        ("replay g f 1", 9),
     ] {
         let words = words_of(alloc, line)?;
         let files = one_file(alloc, BACKED.as_bytes())?;
@@ -110,6 +113,7 @@ fn a_fault_of_the_sink_ends_the_call(rt: HostRuntime) -> Result<(), Fail> {
         "show g",
         "verify f",
         "route f a 4:0:1:4 6 49",
+        "replay f g 1",
     ] {
         let words = words_of(alloc, line)?;
         let mut files = SoundFiles::new(one_file(alloc, BACKED.as_bytes())?);

@@ -1,6 +1,6 @@
 //! Files and plans at their limits, which the text of a repeated piece reaches.
 use super::calls::answer;
-use super::plan_texts::BACKED;
+use sample_plans::BACKED;
 use sccp_tool::Status;
 use std::alloc::{AllocError, Global};
 use std::test::Fail;

@@ -3,7 +3,7 @@ use Rattle.std.specs.Prelude.{◌≤◌, length}
 use Rattle.std.specs.List.{All}
 use Rattle.sccp_report.specs.Hops.{IsHopIn}
 use Rattle.sccp_report.proofs.InPlan.{route_in, route_short}
-use Rattle.call_tests.proofs.tests.routes.hops_from.Goals as goal
+use Rattle.relay_tests.proofs.tests.routes.hops_from.Goals as goal
 
 pub hops_text-requires-clause-nodes : goal.hops_text-requires-clause-nodes
 hops_text-requires-clause-nodes c =

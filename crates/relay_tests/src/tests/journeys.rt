@@ -1,9 +1,9 @@
 //! Messages on their way over the relays of a plan, which come from 1-0-1 to its first relay.
-use super::plan_texts::{ANY_DIGITS, BACKED, FIFTEEN_ZEROS, ONE_TARGET, ROAMING, THREE_TARGETS};
 use super::routes::marking;
 use plan_text::read;
 use plan_verify::{Verdict, verify};
 use relay_net::{End, Journey, journey};
+use sample_plans::{ANY_DIGITS, BACKED, FIFTEEN_ZEROS, ONE_TARGET, ROAMING, THREE_TARGETS};
 use sccp_base::PointCode;
 use std::alloc::Global;
 use std::test::Fail;

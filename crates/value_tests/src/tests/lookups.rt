@@ -1,9 +1,9 @@
 //! Look-ups in a relay's rows with the rows counted that are looked at.
 ghost use Rattle.std.specs.Prelude.{◌≡◌, ◌≤◌, ◌<◌, ◌+◌, length};
 
-use super::plan_texts::NESTED_PREFIXES;
 use plan_rules::{Steps, Table};
 use plan_text::read;
+use sample_plans::NESTED_PREFIXES;
 use sccp_base::{Digits, Selector};
 use std::alloc::Global;
 use std::marker::Brand;

@@ -1,9 +1,9 @@
 //! The test of a table of ranks, and the classes in it.
-use super::plan_texts::{BACKUP_FORBIDDEN, ONE_TARGET, ROW_OF_SOME};
 use plan_check::{CheckFault, Longest, Ranks, RanksFault, check};
 use plan_classes::Class;
 use plan_model::Spot;
 use plan_text::read;
+use sample_plans::{BACKUP_FORBIDDEN, ONE_TARGET, ROW_OF_SOME};
 use sccp_base::{Digits, List, Marking, Selector};
 use std::alloc::Global;
 use std::test::Fail;

@@ -2,13 +2,13 @@
 ghost use Rattle.std.specs.Prelude.{◌<◌, length};
 ghost use Rattle.plan_model.specs.Network.{IsPlan};
 
-use super::plan_texts::{
-    BACKED, BACKUP_FORBIDDEN, EIGHT_TARGETS, NO_ROWS, ONE_TARGET, ROAMING, THREE_TARGETS,
-};
 use super::plans::accepted;
 use plan_classes::{Class, Image, carry_back, class_row, decided, image, start};
 use plan_model::{Plan, Spot, Step, have_same_nodes, route, step};
 use plan_text::read;
+use sample_plans::{
+    BACKED, BACKUP_FORBIDDEN, EIGHT_TARGETS, NO_ROWS, ONE_TARGET, ROAMING, THREE_TARGETS,
+};
 use sccp_base::{Digits, Mark, Marking, Octets, OutOfMemory, PointCode, Selector};
 use sccp_report::{accepted_text, hops_text};
 use std::alloc::Global;

@@ -1,4 +1,5 @@
-//! Texts of plans.
+//! Texts of plans that the tests of several crates read.
+#![tactic(auto)]
 
 /// A relay that sends titles of 49 to 2-0-1, and to 2-0-2 where that is closed.
 pub const BACKED: &str = r#"version = 1
