@@ -1,5 +1,5 @@
 -- What the comparing of two plans ends with.
-use Rattle.std.proofs.Common.{◌≡◌, ◌⊎◌, ◌≤◌, ℕ, List, [], ◌++◌, length, Option, Some, None, Bool, true, false, Result, Ok, Err, IfOk, IfSome, refl, sym, ◌∙◌, ap, subst, inl, inr, arith}
+use Rattle.std.proofs.Common.{◌≡◌, ◌⊎◌, ◌≤◌, ℕ, List, [], ◌++◌, length, Option, Some, None, Bool, true, false, Result, Ok, Err, IfOk, IfSome, refl, sym, ◌∙◌, ap, subst, inl, inr, arith, append-nil}
 use Rattle.std.specs.Prelude.{if◌then◌else◌, is_err, OnOk}
 use Rattle.std.specs.Io.{StartsWith}
 use Rattle.std.specs.Io.KnownBytes.{append_known}
@@ -19,22 +19,23 @@ use Rattle.plan_verify.specs.declared.verdict.Verdict.{Verdict}
 use Rattle.plan_verify.specs.declared.verdict.Verdict.TheVariants as verdicts
 use Rattle.sccp_io.specs.Files.{Contents, Reads}
 use Rattle.sccp_report.specs.Changes.{change_text}
-use Rattle.sccp_tool.specs.Change.{plan_told, accepted_on, read_on_plan, with_accepted, old_word, new_word, change_status, mixed_work, change_work, IsAnswered, IsSurelySafe, IsMixable, IsUnmixable, IsWideMixture, HavePlans, HasEither, ChangeCause, ChangeSure}
+use Rattle.sccp_report.specs.Verdicts.{verdict_text}
+use Rattle.sccp_tool.specs.Change.{plan_told, accepted_on, read_on_plan, with_accepted, old_word, new_word, change_status, mixed_work, change_work, IsAnswered, IsSurelySafe, IsMixable, IsUnmixable, IsWideMixture, HavePlans, HasEither, ChangeCause, ChangeSure, TellsPlan, is_refused, is_wide, is_accepted, TellsMixture, is_other, is_told, TellsChange}
 use Rattle.sccp_tool.specs.Ending.{Goes, IsCut, Stops, Works, early}
-use Rattle.sccp_tool.specs.Limit.{HasFile, HasLongFile}
+use Rattle.sccp_tool.specs.Limit.{IsThere, HasFile, HasLongFile}
 use Rattle.sccp_tool.specs.Moment.{Moment}
 use Rattle.sccp_tool.specs.Plans.{bad_plan, HasPlan, HasBadPlan}
 use Rattle.sccp_tool.specs.Task.{Change as asked}
 use Rattle.sccp_tool.specs.Texts.{other_nodes}
-use Rattle.sccp_tool.specs.Verify.{IsSafe, IsBad, IsWide}
+use Rattle.sccp_tool.specs.Verify.{IsSafe, IsBad, IsWide, IsOnVerdict}
 use Rattle.sccp_tool.specs.Work.{Work, print, judge, mix, answered, IsJudged, IsCompared, Ends, HasFiles}
 use Rattle.sccp_tool.specs.Writing.{Writes}
 use Rattle.sccp_tool.specs.declared.status.Status.{Status}
-use Rattle.sccp_tool.specs.declared.status.Status.TheVariants.{Done, Refused, BadPlan, TooWide, TooLong, OtherNodes}
+use Rattle.sccp_tool.specs.declared.status.Status.TheVariants.{Done, Refused, Usage, BadPlan, TooWide, TooLong, OtherNodes}
 use Rattle.sccp_tool.specs.declared.stop.Stop.{Stop}
 use Rattle.sccp_tool.specs.declared.stop.Stop.TheVariants.{Answered, Read, Write, Memory}
 use Rattle.sccp_tool.proofs.Causes.{Causes}
-use Rattle.sccp_tool.proofs.LimitLemmas.{FileEnds, Ends-within_limit}
+use Rattle.sccp_tool.proofs.LimitLemmas.{FileEnds, Ends-within_limit, limit_files}
 use Rattle.sccp_tool.proofs.LimitLemmas as file
 use Rattle.sccp_tool.proofs.PlanLemmas.{PlanEnds, long, bad, good, if_long, if_bad, at_plan}
 use Rattle.sccp_tool.proofs.VerifyLemmas.{safe_or_bad}
@@ -160,35 +161,73 @@ data MixtureEnds (old new : Network) : Status → Type 0 where
   other : (SameNodes old new → ⊥) → MixtureEnds old new OtherNodes
   told : {s : Status} → SameNodes old new → (change : Change) → IsLawfulChange old new change → s ≡ change_status change → MixtureEnds old new s
 
-from_verdict : (contents : Option Contents) (word : List ℕ) (next : Network → Work) (on : Status → Type 0) (plan : Network) (v : Verdict) (s : Status) (text : List ℕ) → IsLawful plan v
-    → ((rest : List ℕ) → Ends contents (next plan) s rest → on s) → Ends contents (accepted_on word next plan v) s text → VerdictEnds plan on s
-from_verdict contents word next on plan (verdicts.Accepted a) s text lawful goes h = accepted (a.bound, lawful.0) (goes h.0 h.2)
-from_verdict contents word next on plan (verdicts.Refused same w) s text lawful goes h = subst (VerdictEnds plan on) (sym h.2.0) (refused (w, lawful))
-from_verdict contents word next on plan (verdicts.TooWide same) s text lawful goes h = subst (VerdictEnds plan on) (sym h.2.0) (wide lawful)
+told_answer : (contents : Option Contents) (status : Status) (line : List ℕ) (s : Status) (text : List ℕ) → Ends contents (answered (status, line)) s text → (s ≡ status) × (text ≡ line)
+told_answer contents status line s text h = (h.2.0, h.1 ∙ ap (λ rest. line ++ rest) h.2.1 ∙ append-nil line)
 
-from_text : (contents : Option Contents) (name word : List ℕ) (next : Network → Work) (on : Network → Status → Type 0) (octets : List ℕ) (s : Status) (text : List ℕ) (r : Result Network PlanFault)
-    → ((plan : Network) (rest : List ℕ) → Ends contents (next plan) s rest → on plan s) → plan_of octets ≡ r → Reads contents name octets → length octets ≤ 1048576 → Ends contents (read_on_plan word next r) s text
-    → PlanEnds contents name (λ plan t. VerdictEnds plan (on plan) t) s
-from_text contents name word next on octets s text (Ok plan) goes is reads few h = good (octets, reads, few, (plan, is, from_verdict contents word next (on plan) plan h.0 s text h.1.1 (goes plan) h.2))
-from_text contents name word next on octets s text (Err fault) goes is reads few h = subst (PlanEnds contents name (λ plan t. VerdictEnds plan (on plan) t)) (sym h.2.0) (bad (octets, reads, few, ap is_err is))
+-- one of the plans is told
+module _ (word : List ℕ) (plan : Network) (on : Status → List ℕ → Type 0) (s : Status) (text : List ℕ) where
+  from_verdict : (contents : Option Contents) (next : Network → Work) (v : Verdict) → IsLawful plan v → ((rest : List ℕ) → Ends contents (next plan) s rest → on s rest)
+      → Ends contents (accepted_on word next plan v) s text → TellsPlan word plan on s text
+  from_verdict contents next (verdicts.Accepted a) lawful goes h = is_accepted a h.0 lawful h.1 (goes h.0 h.2)
+  from_verdict contents next (verdicts.Refused same w) lawful goes h =
+      let t = told_answer contents Refused (word ++ verdict_text plan (verdicts.Refused same w)) s text h in is_refused same w lawful t.0 t.1
+  from_verdict contents next (verdicts.TooWide same) lawful goes h =
+      let t = told_answer contents TooWide (word ++ verdict_text plan (verdicts.TooWide same)) s text h in is_wide same lawful t.0 t.1
 
-from_file : (contents : Option Contents) (name word : List ℕ) (next : Network → Work) (on : Network → Status → Type 0) (s : Status) (text : List ℕ) → ((plan : Network) (rest : List ℕ) → Ends contents (next plan) s rest → on plan s)
-    → FileEnds contents name (λ octets t. Ends contents (read_on_plan word next (plan_of octets)) t text) s → PlanEnds contents name (λ plan t. VerdictEnds plan (on plan) t) s
+-- what is told of the plan of a file, if it is one
+abbrev FileTells : Option Contents → List ℕ → List ℕ → (Network → Status → List ℕ → Type 0) → List ℕ → Status → Type 0
+FileTells contents name word on text s = PlanEnds contents name (λ plan t. TellsPlan word plan (on plan) t text) s
+
+from_text : (contents : Option Contents) (name word : List ℕ) (next : Network → Work) (on : Network → Status → List ℕ → Type 0) (octets : List ℕ) (s : Status) (text : List ℕ) (r : Result Network PlanFault)
+    → ((plan : Network) (rest : List ℕ) → Ends contents (next plan) s rest → on plan s rest) → plan_of octets ≡ r → Reads contents name octets → length octets ≤ 1048576 → Ends contents (read_on_plan word next r) s text
+    → FileTells contents name word on text s
+from_text contents name word next on octets s text (Ok plan) goes is reads few h = good (octets, reads, few, (plan, is, from_verdict word plan (on plan) s text contents next h.0 h.1.1 (goes plan) h.2))
+from_text contents name word next on octets s text (Err fault) goes is reads few h = subst (FileTells contents name word on text) (sym h.2.0) (bad (octets, reads, few, ap is_err is))
+
+from_file : (contents : Option Contents) (name word : List ℕ) (next : Network → Work) (on : Network → Status → List ℕ → Type 0) (s : Status) (text : List ℕ) → ((plan : Network) (rest : List ℕ) → Ends contents (next plan) s rest → on plan s rest)
+    → FileEnds contents name (λ octets t. Ends contents (read_on_plan word next (plan_of octets)) t text) s → FileTells contents name word on text s
 from_file contents name word next on TooLong text goes (file.long h) = long h
 from_file contents name word next on s text goes (file.within h) = from_text contents name word next on h.0 s text (plan_of h.0) goes refl h.1 h.2 h.3
 
-Ends-with_accepted : (contents : Option Contents) (name word : List ℕ) (next : Network → Work) (on : Network → Status → Type 0) (s : Status) (text : List ℕ) → ((plan : Network) (rest : List ℕ) → Ends contents (next plan) s rest → on plan s)
-    → Ends contents (with_accepted word name next) s text → PlanEnds contents name (λ plan t. VerdictEnds plan (on plan) t) s
+Ends-with_accepted : (contents : Option Contents) (name word : List ℕ) (next : Network → Work) (on : Network → Status → List ℕ → Type 0) (s : Status) (text : List ℕ) → ((plan : Network) (rest : List ℕ) → Ends contents (next plan) s rest → on plan s rest)
+    → Ends contents (with_accepted word name next) s text → FileTells contents name word on text s
 Ends-with_accepted contents name word next on s text goes h =
     from_file contents name word next on s text goes
     (Ends-within_limit (λ octets t. Ends contents (read_on_plan word next (plan_of octets)) t text) contents name (λ octets. read_on_plan word next (plan_of octets)) s text (λ octets e. e) h)
 
-Ends-mixed : (contents : Option Contents) (old new : Network) (s : Status) (text : List ℕ) → Ends contents (mixed_work old new) s text → MixtureEnds old new s
+Ends-mixed : (contents : Option Contents) (old new : Network) (s : Status) (text : List ℕ) → Ends contents (mixed_work old new) s text → TellsMixture old new s text
 Ends-mixed contents old new s text h = by (same_nodes old new) refl h
   where
-    by : (b : Bool) → same_nodes old new ≡ b → Ends contents (mixed_or_other old new b) s text → MixtureEnds old new s
-    by true e k = told k.1.2 k.0 k.1.3 k.2.2.0
-    by false e k = subst (MixtureEnds old new) (sym k.2.0) (other (λ same. false≢true (sym e ∙ alike old new same)))
+    by : (b : Bool) → same_nodes old new ≡ b → Ends contents (mixed_or_other old new b) s text → TellsMixture old new s text
+    by true e k =
+        let t = told_answer contents (change_status k.0) (change_text old new k.0) s text k.2 in is_told k.1.2 k.0 k.1.3 t.0 t.1
+    by false e k =
+        let t = told_answer contents OtherNodes other_nodes s text k in is_other (λ same. false≢true (sym e ∙ alike old new same)) t.0 t.1
+
+-- behind an accepted old plan
+abbrev NewTells : Option Contents → List ℕ → Network → Status → List ℕ → Type 0
+NewTells contents new p s rest = FileTells contents new new_word (λ q. TellsMixture p q) rest s
+
+change_told : (contents : Option Contents) (old new : List ℕ) (s : Status) (text : List ℕ) → Ends contents (change_work old new) s text → FileTells contents old old_word (NewTells contents new) text s
+change_told contents old new s text h =
+    Ends-with_accepted contents old old_word (λ p. with_accepted new_word new (λ q. mixed_work p q)) (NewTells contents new) s text
+    (λ p rest e. Ends-with_accepted contents new new_word (λ q. mixed_work p q) (λ q. TellsMixture p q) s rest (λ q last k. Ends-mixed contents p q s last k) e) h
+
+-- the text left out
+verdict_of : (word : List ℕ) (plan : Network) (next : Status → List ℕ → Type 0) (on : Status → Type 0) (s : Status) (text : List ℕ) → ((rest : List ℕ) → next s rest → on s) → TellsPlan word plan next s text → VerdictEnds plan on s
+verdict_of word plan next on s text goes (is_refused same w lawful is spelt) = subst (VerdictEnds plan on) (sym is) (refused (w, lawful))
+verdict_of word plan next on s text goes (is_wide same lawful is spelt) = subst (VerdictEnds plan on) (sym is) (wide lawful)
+verdict_of word plan next on s text goes (is_accepted a rest lawful spelt more) = accepted (a.bound, lawful.0) (goes rest more)
+
+mixture_of : (old new : Network) (s : Status) (text : List ℕ) → TellsMixture old new s text → MixtureEnds old new s
+mixture_of old new s text (is_other differ is spelt) = subst (MixtureEnds old new) (sym is) (other differ)
+mixture_of old new s text (is_told same change lawful is spelt) = told same change lawful is
+
+file_of : (contents : Option Contents) (name word : List ℕ) (next : Network → Status → List ℕ → Type 0) (on : Network → Status → Type 0) (text : List ℕ) (s : Status) → ((plan : Network) (rest : List ℕ) → next plan s rest → on plan s)
+    → FileTells contents name word next text s → PlanEnds contents name (λ plan t. VerdictEnds plan (on plan) t) s
+file_of contents name word next on text TooLong goes (long h) = long h
+file_of contents name word next on text BadPlan goes (bad h) = bad h
+file_of contents name word next on text s goes (good h) = good (h.0, h.1, h.2, (h.3.0, h.3.1, verdict_of word h.3.0 (next h.3.0) (on h.3.0) s text (goes h.3.0) h.3.2))
 
 -- behind an accepted old plan
 abbrev Ahead : Option Contents → List ℕ → Network → Status → Type 0
@@ -199,8 +238,9 @@ ChangeEnds contents old new s = PlanEnds contents old (λ p t. VerdictEnds p (Ah
 
 change_ends : (contents : Option Contents) (old new : List ℕ) (s : Status) (text : List ℕ) → Ends contents (change_work old new) s text → ChangeEnds contents old new s
 change_ends contents old new s text h =
-    Ends-with_accepted contents old old_word (λ p. with_accepted new_word new (λ q. mixed_work p q)) (Ahead contents new) s text
-    (λ p rest e. Ends-with_accepted contents new new_word (λ q. mixed_work p q) (MixtureEnds p) s rest (λ q last k. Ends-mixed contents p q s last k) e) h
+    file_of contents old old_word (NewTells contents new) (Ahead contents new) text s
+    (λ p rest more. file_of contents new new_word (λ q. TellsMixture p q) (MixtureEnds p) rest s (λ q last k. mixture_of p q s last k) more)
+    (change_told contents old new s text h)
 
 -- ---- what each answer says of the plans
 
@@ -345,11 +385,65 @@ refused_for c old new s (inr has) ends = by (goes_on_or_wide p (Ahead (Some c) n
     by (inl ahead) = on (goes_on_or_wide q (MixtureEnds p q) s further.3.2.0 (at_plan c new (OnNew p) (λ q. IsSafe q × (SameNodes p q × IsUnmixable p q)) s ahead further))
     by (inr is) = inr is
 
+-- ---- the files of the command
+
+accepted_files : (c : Contents) (word name : List ℕ) (next : Network → Work) → ((plan : Network) → HasFiles c (next plan)) → IsThere c name → HasFiles c (with_accepted word name next)
+accepted_files c word name next go there = limit_files c name (λ octets. read_on_plan word next (plan_of octets)) (λ octets. by (plan_of octets)) there
+  where
+    on : (plan : Network) (v : Verdict) → HasFiles c (accepted_on word next plan v)
+    on plan (verdicts.Accepted a) = go plan
+    on plan (verdicts.Refused same witness) = tt
+    on plan (verdicts.TooWide same) = tt
+
+    by : (r : Result Network PlanFault) → HasFiles c (read_on_plan word next r)
+    by (Ok plan) = λ v judged. on plan v
+    by (Err fault) = tt
+
+mixed_files : (c : Contents) (old new : Network) → HasFiles c (mixed_work old new)
+mixed_files c old new = by (same_nodes old new)
+  where
+    by : (b : Bool) → HasFiles c (mixed_or_other old new b)
+    by true = λ change compared. tt
+    by false = tt
+
+change_files : (c : Contents) (old new : List ℕ) → IsThere c old → IsThere c new → HasFiles c (change_work old new)
+change_files c old new old_there new_there =
+    accepted_files c old_word old (λ p. with_accepted new_word new (λ q. mixed_work p q)) (λ p. accepted_files c new_word new (λ q. mixed_work p q) (mixed_files c p) new_there) old_there
+
+-- ---- the text tells it
+
+-- an answer on a verdict is none of a file
+on_file : (contents : Option Contents) (name : List ℕ) (P : Network → Status → Type 0) (s : Status) → IsOnVerdict s → PlanEnds contents name P s → HasPlan contents name (λ plan. P plan s)
+on_file contents name P TooLong given (long h) = absurd given
+on_file contents name P BadPlan given (bad h) = absurd given
+on_file contents name P s given (good h) = h
+
+tells_plan : (word : List ℕ) (plan : Network) (P Q : Status → List ℕ → Type 0) (s : Status) (text : List ℕ) → ((rest : List ℕ) → P s rest → Q s rest) → TellsPlan word plan P s text → TellsPlan word plan Q s text
+tells_plan word plan P Q s text f (is_refused same w lawful is spelt) = is_refused same w lawful is spelt
+tells_plan word plan P Q s text f (is_wide same lawful is spelt) = is_wide same lawful is spelt
+tells_plan word plan P Q s text f (is_accepted a rest lawful spelt more) = is_accepted a rest lawful spelt (f rest more)
+
+tells : (c : Contents) (old new : List ℕ) (s : Status) (text : List ℕ) → IsOnVerdict s → Ends (Some c) (change_work old new) s text → TellsChange (Some c) old new s text
+tells c old new s text given h =
+    let f = on_file (Some c) old (λ p t. TellsPlan old_word p (NewTells (Some c) new p) t text) s given (change_told (Some c) old new s text h) in (
+      f.0,
+      f.1,
+      f.2,
+      (
+        f.3.0,
+        f.3.1,
+        tells_plan old_word f.3.0 (NewTells (Some c) new f.3.0) (λ t rest. HasPlan (Some c) new (λ q. TellsPlan new_word q (TellsMixture f.3.0 q) t rest)) s text
+            (λ rest more. on_file (Some c) new (λ q t. TellsPlan new_word q (TellsMixture f.3.0 q) t rest) s given more) f.3.2,
+      ),
+    )
+
 pub change_causes : (old new : List ℕ) → Causes (Some (asked old new))
 change_causes old new = record {
-  only = λ contents s text h. only contents old new s (change_ends contents old new s text h);
-  usage = λ contents cause. absurd cause;
+  only = λ c s text h. only (Some c) old new s (change_ends (Some c) old new s text h);
+  usage = λ contents text h. absurd (only contents old new Usage (change_ends contents old new Usage text h));
   always = λ c t s text cause h. always c old new t s cause (change_ends (Some c) old new s text h);
   refused = λ c s text cause h. refused_for c old new s cause (change_ends (Some c) old new s text h);
-  tells = λ c s text taken taken' is ends. tt;
+  tells = λ c s text taken taken' is ends. λ given. (text, is, tells c old new s text given (ends given));
+  journeys = λ c s b a is o. tt;
+  files = λ c has. change_files c old new has.0 has.1;
 }

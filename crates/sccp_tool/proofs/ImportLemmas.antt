@@ -9,7 +9,7 @@ use Rattle.plan_model.specs.Network.{Network}
 use Rattle.plan_text.specs.PlanText.{plan_of}
 use Rattle.sccp_io.specs.Files.{Contents, Reads}
 use Rattle.trace_text.specs.declared.line_fault.LineFault.{LineFault}
-use Rattle.sccp_tool.specs.Import.{import_answer, import_work, HasBoth, ImportCause, ImportTells}
+use Rattle.sccp_tool.specs.Import.{import_answer, trace_work, import_work, HasBoth, ImportCause, ImportTells}
 use Rattle.sccp_tool.specs.Limit.{within_limit, IsThere, HasFile, HasLongFile}
 use Rattle.sccp_tool.specs.Plans.{with_plan, HasPlan}
 use Rattle.sccp_tool.specs.Show.{answer_for}
@@ -109,9 +109,11 @@ told c plan name text taken taken' s is e (good h) = told_on c plan name text ta
 
 pub import_causes : (plan name : List ℕ) → Causes (Some (Import plan name))
 import_causes plan name = record {
-  only = λ contents s text h. only contents plan name text s (ends contents plan name s text h);
-  usage = λ contents cause. absurd cause;
+  only = λ c s text h. only (Some c) plan name text s (ends (Some c) plan name s text h);
+  usage = λ contents text h. absurd (only contents plan name text Usage (ends contents plan name Usage text h));
   always = λ c t s text cause h. always c plan name text t s cause (ends (Some c) plan name s text h);
   refused = λ c s text cause h. absurd cause;
   tells = λ c s text taken taken' is own done. told c plan name text taken taken' s is done (ends (Some c) plan name s text (own (subst IsOnVerdict (sym done) tt)));
+  journeys = λ c s b a is o. tt;
+  files = λ c there. plan_files c plan (λ p. trace_work p name) (λ p. limit_files c name (λ octets. answered (import_answer p octets)) (λ octets. tt) there.1) there.0;
 }

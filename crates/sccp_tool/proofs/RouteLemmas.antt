@@ -8,9 +8,9 @@ use Rattle.sccp_tool.specs.Task.{Route}
 use Rattle.sccp_tool.specs.Work.{answered, Ends}
 use Rattle.sccp_tool.specs.declared.start.Start.{Start}
 use Rattle.sccp_tool.specs.declared.status.Status.{Status}
-use Rattle.sccp_tool.specs.declared.status.Status.TheVariants.{Done, BadPlan, TooLong}
+use Rattle.sccp_tool.specs.declared.status.Status.TheVariants.{Done, Usage, BadPlan, TooLong}
 use Rattle.sccp_tool.proofs.Causes.{Causes}
-use Rattle.sccp_tool.proofs.PlanLemmas.{PlanEnds, long, bad, good, Ends-with_plan, if_long, if_bad, if_plan}
+use Rattle.sccp_tool.proofs.PlanLemmas.{PlanEnds, long, bad, good, Ends-with_plan, if_long, if_bad, if_plan, plan_files}
 
 abbrev IsDone : Network → Status → Type 0
 IsDone plan s = s ≡ Done
@@ -31,9 +31,11 @@ always c name t s has ends = absurd has
 
 pub route_causes : (name : List ℕ) (start : Start) → Causes (Some (Route name start))
 route_causes name start = record {
-  only = λ contents s text h. only contents name s (plan_ends contents name start s text h);
-  usage = λ contents cause. absurd cause;
+  only = λ c s text h. only (Some c) name s (plan_ends (Some c) name start s text h);
+  usage = λ contents text h. absurd (only contents name Usage (plan_ends contents name start Usage text h));
   always = λ c t s text cause h. always c name t s cause (plan_ends (Some c) name start s text h);
   refused = λ c s text cause h. absurd cause;
   tells = λ c s text taken taken' is ends. tt;
+  journeys = λ c s b a is o. tt;
+  files = λ c there. plan_files c name (λ plan. answered (Done, route_text plan start)) (λ plan. tt) there;
 }

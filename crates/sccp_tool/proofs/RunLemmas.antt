@@ -4,8 +4,8 @@ use Rattle.sccp_io.specs.Faults.{Rose}
 use Rattle.sccp_io.specs.Files.{Contents}
 use Rattle.sccp_tool.specs.Ending.{IsCut, Answers, Outcome}
 use Rattle.sccp_tool.specs.Moment.{Moment}
-use Rattle.sccp_tool.specs.Run.{work_of, Cause, SureCause, TellsVerdict, UsageCause, ExactlyWhere, ComesWhere, RefusedWhere}
-use Rattle.sccp_tool.specs.Task.{Task, ShowHex, Show, Verify, Route, Cuts, Import, Change}
+use Rattle.sccp_tool.specs.Run.{work_of, Cause, SureCause, TellsAnswer, TellsJourneys, HasNamedFiles, UsageCause, ExactlyWhere, ComesWhere, RefusedWhere}
+use Rattle.sccp_tool.specs.Task.{Task, ShowHex, Show, Verify, Route, Replay, Cuts, Import, Change}
 use Rattle.sccp_tool.specs.Verify.{IsOnVerdict}
 use Rattle.sccp_tool.specs.Work.{Work, Ends, HasFiles}
 use Rattle.sccp_tool.specs.declared.status.Status.{Status}
@@ -14,6 +14,7 @@ use Rattle.sccp_tool.proofs.Causes.{Causes}
 use Rattle.sccp_tool.proofs.CutsLemmas.{cuts_causes}
 use Rattle.sccp_tool.proofs.ImportLemmas.{import_causes}
 use Rattle.sccp_tool.proofs.ChangeLemmas.{change_causes}
+use Rattle.sccp_tool.proofs.ReplayLemmas.{replay_causes}
 use Rattle.sccp_tool.proofs.RouteLemmas.{route_causes}
 use Rattle.sccp_tool.proofs.ShowHexLemmas.{show_hex_causes}
 use Rattle.sccp_tool.proofs.ShowLemmas.{show_causes}
@@ -27,11 +28,13 @@ is_usage t s cause e = absurd cause
 
 usage_causes : Causes None
 usage_causes = record {
-  only = λ contents s text h. subst UsageCause (sym h.2.0) tt;
-  usage = λ contents cause. refl;
+  only = λ c s text h. subst UsageCause (sym h.2.0) tt;
+  usage = λ contents text h. refl;
   always = λ c t s text cause h. is_usage t s cause h.2.0;
   refused = λ c s text cause h. absurd cause;
   tells = λ c s text taken taken' is ends. tt;
+  journeys = λ c s b a is o. tt;
+  files = λ c has. tt;
 }
 
 causes : (task : Option Task) → Causes task
@@ -40,6 +43,7 @@ causes (Some (ShowHex octets)) = show_hex_causes octets
 causes (Some (Show name)) = show_causes name
 causes (Some (Verify name)) = verify_causes name
 causes (Some (Route name start)) = route_causes name start
+causes (Some (Replay plan trace workers)) = replay_causes plan trace workers
 causes (Some (Cuts octets)) = cuts_causes octets
 causes (Some (Import plan file)) = import_causes plan file
 causes (Some (Change old new)) = change_causes old new
@@ -79,52 +83,55 @@ module _ (task : Option Task) (s : Status) (b a : Moment) (o : Outcome (work_of 
   answers t e = subst (λ t. Answers (work_of task) t o.text b a) e o.answers
 
   -- an answer of the work's own comes only where its cause holds
-  only_where : (t : Status) (c : Contents) → b.contents ≡ Some c → (Answers (work_of task) t o.text b a → Ends b.contents (work_of task) t o.text) → s ≡ t → Cause (Some c) task t
-  only_where t c told own e = subst (λ k. Cause k task t) told ((causes task).only b.contents t o.text (own (answers t e)))
+  only_where : (t : Status) (c : Contents) → b.contents ≡ Some c → (Answers (work_of task) t o.text b a → Ends b.contents (work_of task) t o.text) → s ≡ t → Cause c task t
+  only_where t c told own e = (causes task).only c t o.text (subst (λ k. Ends k (work_of task) t o.text) told (own (answers t e)))
 
   -- an answer comes unless the call was cut short
   always_where : (c : Contents) (Q : Type 0) → b.contents ≡ Some c → (Ends (Some c) (work_of task) s o.text → Q) → Q ⊎ IsCut s
   always_where c Q told always = unless_cut s (work_of task) o.text b a o.answers (λ e. always (subst (λ k. Ends k (work_of task) s o.text) told e))
 
-  -- an answer of the work's own comes only where its cause holds, and always where what brings it for sure does
-  comes : (t : Status) (c : Contents) → b.contents ≡ Some c → (Answers (work_of task) t o.text b a → Ends b.contents (work_of task) t o.text) → ComesWhere t s (Cause (Some c) task t) (SureCause (Some c) task t)
+  -- an answer of the work's own comes where its cause can bring it, and where it does for sure
+  comes : (t : Status) (c : Contents) → b.contents ≡ Some c → (Answers (work_of task) t o.text b a → Ends b.contents (work_of task) t o.text) → ComesWhere t s (Cause c task t) (SureCause c task t)
   comes t c told own = record {
     only = only_where t c told own;
     always = λ cause. always_where c (s ≡ t) told ((causes task).always c t s o.text cause);
   }
 
-  pub verdict_told : IfSome b.contents (λ c. TellsVerdict (Some c) task s b.taken a.taken)
-  verdict_told = if_some b.contents _ (λ c told. (causes task).tells c s o.text b.taken a.taken o.goes.taken
+  pub answer_told : IfSome b.contents (λ c. TellsAnswer c task s b.taken a.taken)
+  answer_told = if_some b.contents _ (λ c told. (causes task).tells c s o.text b.taken a.taken o.goes.taken
       (λ given. subst (λ k. Ends k (work_of task) s o.text) told (own_verdict s (work_of task) o.text b a o.answers given)))
 
-  pub done_cause : IfSome b.contents (λ c. ComesWhere Done s (Cause (Some c) task Done) (SureCause (Some c) task Done))
+  pub journeys_told : IfSome b.contents (λ c. TellsJourneys c task s b.taken a.taken)
+  journeys_told = if_some b.contents _ (λ c told. (causes task).journeys c s b a told o)
+
+  pub done_cause : IfSome b.contents (λ c. ComesWhere Done s (Cause c task Done) (SureCause c task Done))
   done_cause = if_some b.contents _ (λ c told. comes Done c told (λ e. e))
 
-  pub refused_cause : IfSome b.contents (λ c. RefusedWhere s (Cause (Some c) task Refused))
+  pub refused_cause : IfSome b.contents (λ c. RefusedWhere s (Cause c task Refused))
   refused_cause = if_some b.contents _ (λ c told. record {
     only = only_where Refused c told (λ e. e);
     always = λ cause. always_where c ((s ≡ Refused) ⊎ (s ≡ TooWide)) told ((causes task).refused c s o.text cause);
   })
 
-  pub wide_cause : IfSome b.contents (λ c. s ≡ TooWide → Cause (Some c) task TooWide)
+  pub wide_cause : IfSome b.contents (λ c. s ≡ TooWide → Cause c task TooWide)
   wide_cause = if_some b.contents _ (λ c told. only_where TooWide c told (λ e. e))
 
   pub usage_cause : ExactlyWhere Usage s (task ≡ None)
   usage_cause = record {
-    only = λ e. (causes task).usage b.contents ((causes task).only b.contents Usage o.text (answers Usage e));
+    only = λ e. (causes task).usage b.contents o.text (answers Usage e);
     always = λ none. unless_cut s (work_of task) o.text b a o.answers (λ e. without_task b.contents task s o.text none e);
   }
 
-  pub bad_plan_cause : IfSome b.contents (λ c. ComesWhere BadPlan s (Cause (Some c) task BadPlan) (SureCause (Some c) task BadPlan))
+  pub bad_plan_cause : IfSome b.contents (λ c. ComesWhere BadPlan s (Cause c task BadPlan) (SureCause c task BadPlan))
   bad_plan_cause = if_some b.contents _ (λ c told. comes BadPlan c told (λ e. e))
 
-  pub bad_line_cause : IfSome b.contents (λ c. ComesWhere BadTrace s (Cause (Some c) task BadTrace) (SureCause (Some c) task BadTrace))
+  pub bad_line_cause : IfSome b.contents (λ c. ComesWhere BadTrace s (Cause c task BadTrace) (SureCause c task BadTrace))
   bad_line_cause = if_some b.contents _ (λ c told. comes BadTrace c told (λ e. e))
 
-  pub long_cause : IfSome b.contents (λ c. ComesWhere TooLong s (Cause (Some c) task TooLong) (SureCause (Some c) task TooLong))
+  pub long_cause : IfSome b.contents (λ c. ComesWhere TooLong s (Cause c task TooLong) (SureCause c task TooLong))
   long_cause = if_some b.contents _ (λ c told. comes TooLong c told (λ e. e))
 
-  pub other_nodes_cause : IfSome b.contents (λ c. ComesWhere OtherNodes s (Cause (Some c) task OtherNodes) (SureCause (Some c) task OtherNodes))
+  pub other_nodes_cause : IfSome b.contents (λ c. ComesWhere OtherNodes s (Cause c task OtherNodes) (SureCause c task OtherNodes))
   other_nodes_cause = if_some b.contents _ (λ c told. comes OtherNodes c told (λ e. e))
 
   pub read_cause : s ≡ ReadFault → Rose b.read_faults a.read_faults
@@ -133,10 +140,17 @@ module _ (task : Option Task) (s : Status) (b a : Moment) (o : Outcome (work_of 
   pub write_cause : s ≡ WriteFault → Rose b.write_faults a.write_faults
   write_cause e = (answers WriteFault e).0
 
-  pub sound_cause : IsTrue b.sound → IfSome b.contents (λ c. HasFiles c (work_of task) → (a.read_faults ≡ b.read_faults) × (b.read_faults < 2 ^ 64 - 1 → s ≢ ReadFault))
-  sound_cause h = if_some b.contents _ (λ c told has.
+  -- sound files that have each file which the work comes to don't fail
+  spared : IsTrue b.sound → (c : Contents) → b.contents ≡ Some c → HasFiles c (work_of task) → (a.read_faults ≡ b.read_faults) × (b.read_faults < 2 ^ 64 - 1 → s ≢ ReadFault)
+  spared h c told has =
       let same : a.read_faults ≡ b.read_faults = subst (λ k. IfSome k (λ d. HasFiles d (work_of task) → a.read_faults ≡ b.read_faults)) told (o.spared h) has in
-      (same, λ few e. stays same few (read_cause e))) where
+      (same, λ few e. stays same few (read_cause e)) where
         stays : a.read_faults ≡ b.read_faults → b.read_faults < 2 ^ 64 - 1 → Rose b.read_faults a.read_faults → ⊥
         stays same few (inl rose) = absurd (omega arith)
         stays same few (inr end) = absurd (omega arith)
+
+  pub sound_cause : IsTrue b.sound → IfSome b.contents (λ c. HasFiles c (work_of task) → (a.read_faults ≡ b.read_faults) × (b.read_faults < 2 ^ 64 - 1 → s ≢ ReadFault))
+  sound_cause h = if_some b.contents _ (λ c told has. spared h c told has)
+
+  pub named_cause : IsTrue b.sound → IfSome b.contents (λ c. HasNamedFiles c task → (a.read_faults ≡ b.read_faults) × (b.read_faults < 2 ^ 64 - 1 → s ≢ ReadFault))
+  named_cause h = if_some b.contents _ (λ c told has. spared h c told ((causes task).files c has))

@@ -9,9 +9,9 @@ use Rattle.sccp_tool.specs.Show.{answer_for, show_answer, show_work, shown_lines
 use Rattle.sccp_tool.specs.Task.{Show}
 use Rattle.sccp_tool.specs.Work.{answered, Ends}
 use Rattle.sccp_tool.specs.declared.status.Status.{Status}
-use Rattle.sccp_tool.specs.declared.status.Status.TheVariants.{Done, BadTrace, TooLong}
+use Rattle.sccp_tool.specs.declared.status.Status.TheVariants.{Done, Usage, BadTrace, TooLong}
 use Rattle.sccp_tool.proofs.Causes.{Causes}
-use Rattle.sccp_tool.proofs.LimitLemmas.{FileEnds, long, within, Ends-within_limit, at_file, not_long}
+use Rattle.sccp_tool.proofs.LimitLemmas.{FileEnds, long, within, Ends-within_limit, at_file, not_long, limit_files}
 
 -- the answer for a file is its own
 own_answer : (shown : Result (List ℕ) LineFault) → IsCut (answer_for shown).0 → ⊥
@@ -62,9 +62,11 @@ always c name t s has ends = absurd has
 
 pub show_causes : (name : List ℕ) → Causes (Some (Show name))
 show_causes name = record {
-  only = λ contents s text h. only contents name s (file_ends contents name s text h);
-  usage = λ contents cause. absurd cause;
+  only = λ c s text h. only (Some c) name s (file_ends (Some c) name s text h);
+  usage = λ contents text h. absurd (only contents name Usage (file_ends contents name Usage text h));
   always = λ c t s text cause h. always c name t s cause (file_ends (Some c) name s text h);
   refused = λ c s text cause h. absurd cause;
   tells = λ c s text taken taken' is ends. tt;
+  journeys = λ c s b a is o. tt;
+  files = λ c there. limit_files c name (λ octets. answered (show_answer octets)) (λ octets. tt) there;
 }

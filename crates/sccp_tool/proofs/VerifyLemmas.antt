@@ -3,7 +3,7 @@ use Rattle.std.proofs.Common.{◌≡◌, ◌⊎◌, ℕ, List, ◌++◌, Option,
 use Rattle.std.specs.Io.KnownBytes.{append_known}
 use Rattle.plan_model.proofs.SafeWays.{safe_not_bad}
 use Rattle.plan_model.specs.Network.{Network}
-use Rattle.plan_verify.specs.Lawful.{IsLawful}
+use Rattle.plan_verify.specs.Lawful.{IsLawful, plan_of}
 use Rattle.plan_verify.specs.Witnesses.{IsWitness}
 use Rattle.plan_verify.specs.declared.verdict.Verdict.{Verdict}
 use Rattle.plan_verify.specs.declared.verdict.Verdict.TheVariants as verdicts
@@ -14,14 +14,14 @@ use Rattle.sccp_tool.specs.Ending.{IsCut, Works}
 use Rattle.sccp_tool.specs.Moment.{Moment}
 use Rattle.sccp_tool.specs.Plans.{HasPlan}
 use Rattle.sccp_tool.specs.Task.{Verify}
-use Rattle.sccp_tool.specs.Verify.{status_of, verify_work, IsSafe, IsBad, IsWide, IsOnVerdict, VerifyCause, VerifySure, VerifyTells}
+use Rattle.sccp_tool.specs.Verify.{status_of, verify_work, IsSafe, IsBad, IsWide, VerifyCause, VerifySure, VerifyTells}
 use Rattle.sccp_tool.specs.Work.{Work, judge, answered, IsJudged, Ends}
 use Rattle.sccp_tool.specs.Writing.{Writes}
 use Rattle.sccp_tool.specs.declared.status.Status.{Status}
-use Rattle.sccp_tool.specs.declared.status.Status.TheVariants.{Done, Refused, BadPlan, TooWide, TooLong}
+use Rattle.sccp_tool.specs.declared.status.Status.TheVariants.{Done, Refused, Usage, BadPlan, TooWide, TooLong}
 use Rattle.sccp_tool.specs.declared.stop.Stop.{Stop}
 use Rattle.sccp_tool.proofs.Causes.{Causes}
-use Rattle.sccp_tool.proofs.PlanLemmas.{PlanEnds, long, bad, good, Ends-with_plan, if_long, if_bad, at_plan}
+use Rattle.sccp_tool.proofs.PlanLemmas.{PlanEnds, long, bad, good, Ends-with_plan, if_long, if_bad, at_plan, plan_files}
 use Rattle.sccp_tool.proofs.WorkLemmas.{Works-answered, Works-judge}
 
 abbrev pub judged_work : Network → Work
@@ -41,6 +41,12 @@ Works-verdict plan verdict status text result b a judged of spelt writes is cont
     let answer = subst (λ t. IfOk result (λ s. s ≡ t)) of is in
     Works-judge plan (λ v. answered (status_of v, verdict_text plan v)) verdict result b a judged
     (Works-answered (status_of verdict, verdict_text plan verdict) result b a (not_cut verdict) whole answer contents sound read_faults)
+
+-- a verdict is printed, and that is all
+pub Works-told : (verdict : Verdict) (result : Result Status Stop) (b a : Moment) → Writes (verdict_text (plan_of verdict) verdict) result b.taken a.taken b.write_faults a.write_faults → IfOk result (λ s. s ≡ status_of verdict)
+    → a.contents ≡ b.contents → a.sound ≡ b.sound → a.read_faults ≡ b.read_faults → Works (answered (status_of verdict, verdict_text (plan_of verdict) verdict)) result b a
+Works-told verdict result b a writes is contents sound read_faults =
+    Works-answered (status_of verdict, verdict_text (plan_of verdict) verdict) result b a (not_cut verdict) writes is contents sound read_faults
 
 -- ---- how the command ends
 
@@ -115,9 +121,11 @@ tells contents name s text taken taken' is (good h) = λ given.
 
 pub verify_causes : (name : List ℕ) → Causes (Some (Verify name))
 verify_causes name = record {
-  only = λ contents s text h. only contents name s text (plan_ends contents name s text h);
-  usage = λ contents cause. absurd cause;
+  only = λ c s text h. only (Some c) name s text (plan_ends (Some c) name s text h);
+  usage = λ contents text h. absurd (only contents name Usage text (plan_ends contents name Usage text h));
   always = λ c t s text cause h. always c name t s text cause (plan_ends (Some c) name s text h);
   refused = λ c s text cause h. refused c name s text cause (plan_ends (Some c) name s text h);
   tells = λ c s text taken taken' is ends. λ given. tells (Some c) name s text taken taken' is (plan_ends (Some c) name s text (ends given)) given;
+  journeys = λ c s b a is o. tt;
+  files = λ c there. plan_files c name judged_work (λ plan v judged. tt) there;
 }

@@ -1,5 +1,6 @@
 -- The command that tells whether relays may hold either of two plans.
 use Rattle.std.specs.Prelude.{◌≡◌, ◌⊎◌, ℕ, List, [], ◌∷◌, ◌++◌, Option, None, Result, Ok, Err, if◌then◌else◌, codes, option_and_then, option_map}
+use Rattle.std.specs.Io.KnownBytes.{append_known}
 use Rattle.plan_check.specs.Verified.{Verified}
 use Rattle.plan_model.specs.declared.kind.Kind.{Kind}
 use Rattle.plan_model.specs.declared.plan_fault.PlanFault.{PlanFault}
@@ -7,15 +8,17 @@ use Rattle.plan_model.specs.declared.spot.Spot.{Spot}
 use Rattle.plan_model.specs.Network.{Network}
 use Rattle.plan_model.specs.SameNodes.{SameNodes, same_nodes}
 use Rattle.plan_mixed.specs.Mixed.{MixedReachAtLeast}
-use Rattle.plan_change.specs.Changes.{IsMixedSafeFor}
+use Rattle.plan_change.specs.Changes.{IsMixedSafeFor, IsLawfulChange}
 use Rattle.plan_change.specs.Mixture.{BothBad}
 use Rattle.plan_change.specs.declared.answer.Change.{Change}
 use Rattle.plan_change.specs.declared.answer.Change.TheVariants as changes
 use Rattle.plan_change.specs.declared.mixed_hop.MixedHop.{MixedHop}
 use Rattle.plan_change.specs.declared.turn.Turn.{Turn}
 use Rattle.plan_text.specs.PlanText.{plan_of}
+use Rattle.plan_verify.specs.Lawful.{IsLawful}
 use Rattle.plan_verify.specs.declared.verdict.Verdict.{Verdict}
 use Rattle.plan_verify.specs.declared.verdict.Verdict.TheVariants as verdicts
+use Rattle.plan_verify.specs.declared.witness.Witness.{Witness}
 use Rattle.sccp_io.specs.Files.{Contents}
 use Rattle.sccp_report.specs.Changes.{change_text}
 use Rattle.sccp_report.specs.Verdicts.{accepted_line, verdict_text}
@@ -26,7 +29,7 @@ use Rattle.sccp_tool.specs.Moment.{Moment}
 use Rattle.sccp_tool.specs.Plans.{bad_plan, HasPlan, HasBadPlan}
 use Rattle.sccp_tool.specs.Task.{Task, Change as asked}
 use Rattle.sccp_tool.specs.Texts.{other_nodes}
-use Rattle.sccp_tool.specs.Verify.{IsSafe, IsBad, IsWide}
+use Rattle.sccp_tool.specs.Verify.{IsSafe, IsBad, IsWide, IsOnVerdict}
 use Rattle.sccp_tool.specs.Work.{Work, print, judge, mix, answered, IsCompared}
 use Rattle.sccp_tool.specs.declared.status.Status.{Status}
 use Rattle.sccp_tool.specs.declared.status.Status.TheVariants.{Done, Refused, BadPlan, TooWide, TooLong, OtherNodes}
@@ -92,6 +95,34 @@ abbrev pub IsAnswered : Network → Network → Status → List ℕ → Type 0
 IsAnswered old new status text =
     ((SameNodes old new → ⊥) × (status ≡ OtherNodes) × (text ≡ other_nodes))
     ⊎ ((change : Change) × IsCompared old new change × (status ≡ change_status change) × (text ≡ change_text old new change))
+
+-- ---- what the text tells
+
+-- Of a plan: a lawful verdict that isn't Accepted is the answer, and its text stands behind the word; or the plan is accepted
+-- for the bound that its line tells, and the text goes on with what is told next.
+pub data TellsPlan (word : List ℕ) (plan : Network) (next : Status → List ℕ → Type 0) (given : Status) (text : List ℕ) : Type 0 where
+  is_refused : (same : Network) (witness : Witness) → IsLawful plan (verdicts.Refused same witness) → given ≡ Refused
+      → text ≡ word ++ verdict_text plan (verdicts.Refused same witness) → TellsPlan word plan next given text
+  is_wide : (same : Network) → IsLawful plan (verdicts.TooWide same) → given ≡ TooWide
+      → text ≡ word ++ verdict_text plan (verdicts.TooWide same) → TellsPlan word plan next given text
+  is_accepted : (accepted : Verified) (rest : List ℕ) → IsLawful plan (verdicts.Accepted accepted)
+      → text ≡ (word ++ accepted_line accepted.bound) ++ rest → next given rest → TellsPlan word plan next given text
+
+-- of two accepted plans: they have other nodes, or a lawful answer is told of their mixture
+pub data TellsMixture (old new : Network) (given : Status) (text : List ℕ) : Type 0 where
+  is_other : (SameNodes old new → ⊥) → given ≡ OtherNodes → text ≡ other_nodes → TellsMixture old new given text
+  is_told : SameNodes old new → (change : Change) → IsLawfulChange old new change → given ≡ change_status change
+      → text ≡ change_text old new change → TellsMixture old new given text
+
+-- of both files, the old one's plan first
+abbrev pub TellsChange : Option Contents → List ℕ → List ℕ → Status → List ℕ → Type 0
+TellsChange contents old new given text =
+    HasPlan contents old (λ p. TellsPlan old_word p (λ s rest. HasPlan contents new (λ q. TellsPlan new_word q (TellsMixture p q) s rest)) given text)
+
+-- the sink took such a text where the answer is one that a verdict or a mixture gives
+abbrev pub ChangeTells : Option Contents → List ℕ → List ℕ → Status → Option (List ℕ) → Option (List ℕ) → Type 0
+ChangeTells contents old new given taken taken' =
+    IsOnVerdict given → (text : List ℕ) × (taken' ≡ append_known taken text) × TellsChange contents old new given text
 
 -- ---- the causes
 

@@ -2,6 +2,7 @@
 use Rattle.std.specs.Prelude.{ℕ, List, [], ◌∷◌, Option, None, if◌then◌else◌, codes, string_bytes, String, map}
 use Rattle.std.specs.Str.{bytes_eq}
 use Rattle.std.specs.declared.alloc.Global.{Global}
+use Rattle.sccp_tool.specs.Replay.{replay_words}
 use Rattle.sccp_tool.specs.Cuts.{cuts_words}
 use Rattle.sccp_tool.specs.Import.{import_words}
 use Rattle.sccp_tool.specs.Change.{change_words}
@@ -18,6 +19,7 @@ command_of name words =
     else if bytes_eq name (codes "show") then show_words words
     else if bytes_eq name (codes "verify") then verify_words words
     else if bytes_eq name (codes "route") then route_words words
+    else if bytes_eq name (codes "replay") then replay_words words
     else if bytes_eq name (codes "cuts") then cuts_words words
     else if bytes_eq name (codes "import") then import_words words
     else if bytes_eq name (codes "change") then change_words words

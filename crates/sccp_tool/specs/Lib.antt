@@ -2,6 +2,7 @@ pub mod Account
 pub mod Change
 pub mod Commands
 pub mod Ending
+pub mod Gathering
 pub mod LaterPlans
 pub mod Import
 pub mod Limit
@@ -14,9 +15,11 @@ pub mod Plans
 pub mod Reading
 pub mod Replay
 pub mod ReplayEnds
+pub mod Replayers
 pub mod Replaying
 pub mod Route
 pub mod Run
+pub mod Settling
 pub mod Show
 pub mod ShowHex
 pub mod Cuts

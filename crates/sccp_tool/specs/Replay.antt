@@ -1,6 +1,8 @@
 -- The command that replays a trace, batch by batch.
-use Rattle.std.specs.Prelude.{ℕ, ◌+◌, ◌-◌, Bool, true, false, nat_le, List, [], ◌∷◌, ◌++◌, length, filter, slice_get, unwrap_or, codes, Option, Some, None, Result, Ok, Err, if◌then◌else◌}
+use Rattle.std.specs.Prelude.{ℕ, ◌+◌, ◌-◌, ◌==◌, Bool, true, false, nat_le, List, [], ◌∷◌, ◌++◌, length, filter, slice_get, unwrap_or, codes, Option, Some, None, option_and_then, Result, Ok, Err, if◌then◌else◌}
 use Rattle.std.specs.List.{filter_map}
+use Rattle.std.specs.Option.{option_map_or}
+use Rattle.sccp_base.specs.Text.{decimal_of}
 use Rattle.sccp_base.specs.declared.mark.Mark.{Mark}
 use Rattle.sccp_report.specs.Events.{event_text}
 use Rattle.sccp_report.specs.Roles.{Role, routed, later, aside, alone, role_of}
@@ -17,6 +19,7 @@ use Rattle.relay_net.specs.Batches.{Incoming, Due, applied_after, applied_if_due
 use Rattle.relay_net.specs.Journeys.{journey}
 use Rattle.relay_net.specs.States.{State, Applied, first_states, markings_of}
 use Rattle.relay_net.specs.declared.travelled.Journey.{Journey}
+use Rattle.trace_text.specs.Forms.{file_name}
 use Rattle.trace_text.specs.declared.fed.Fed.{Fed}
 use Rattle.trace_text.specs.declared.line.Line.{Line}
 use Rattle.trace_text.specs.declared.line.Line.TheVariants.{Msg}
@@ -27,11 +30,26 @@ use Rattle.sccp_tool.specs.Limit.{within_limit}
 use Rattle.sccp_tool.specs.LineFault.{bad_line}
 use Rattle.sccp_tool.specs.Numbers.{Batch}
 use Rattle.sccp_tool.specs.Plans.{with_plan}
+use Rattle.sccp_tool.specs.Task.{Task, Replay}
 use Rattle.sccp_tool.specs.Trace.{trace_of}
 use Rattle.sccp_tool.specs.Verify.{status_of}
 use Rattle.sccp_tool.specs.Work.{Work, print, read, read_on, judge, serve, answered}
 use Rattle.sccp_tool.specs.declared.status.Status.{Status}
 use Rattle.sccp_tool.specs.declared.status.Status.TheVariants.{Done, BadTrace}
+
+-- one to ten decimal digits that spell 1
+abbrev pub is_one : List ℕ → Bool
+is_one word = option_map_or (λ workers. workers == 1) (decimal_of 10 word) false
+
+-- two file names, and the number of workers: one carries out a replay
+unfoldable pub replay_of : List ℕ → List ℕ → List ℕ → Option Task
+replay_of plan trace workers =
+    option_and_then (λ p. option_and_then (λ t. if is_one workers then Some (Replay p t 1) else None) (file_name trace)) (file_name plan)
+
+-- PLAN TRACE WORKERS
+unfoldable pub replay_words : List (List ℕ) → Option Task
+replay_words (plan ∷ trace ∷ workers ∷ []) = replay_of plan trace workers
+replay_words words = None
 
 -- where a replay stands: its first plan, the later ones that were accepted so far in their order, and what the nodes keep
 pub record Standing : Type 0 where

@@ -1,15 +1,21 @@
 -- The work of the words, and the cause of each answer.
 use Rattle.std.specs.Prelude.{◌≡◌, ◌⊎◌, ℕ, List, Option, Some, None}
+use Rattle.std.specs.Io.KnownBytes.{append_known}
 use Rattle.sccp_io.specs.Files.{Contents}
+use Rattle.sccp_tool.specs.Account.{TellsReplay}
+use Rattle.sccp_tool.specs.Change.{change_work, ChangeCause, ChangeSure, ChangeTells}
 use Rattle.sccp_tool.specs.Cuts.{cuts_work, CutsCause}
-use Rattle.sccp_tool.specs.Change.{change_work, ChangeCause, ChangeSure}
 use Rattle.sccp_tool.specs.Ending.{IsCut}
 use Rattle.sccp_tool.specs.Import.{import_work, ImportCause, ImportTells}
+use Rattle.sccp_tool.specs.Limit.{IsThere}
+use Rattle.sccp_tool.specs.Replay.{replay_work}
+use Rattle.sccp_tool.specs.ReplayEnds.{ReplayCause, ReplaySure, ReplayTells, LaterPlansThere}
 use Rattle.sccp_tool.specs.Route.{route_work, RouteCause}
 use Rattle.sccp_tool.specs.Show.{show_work, ShowCause}
 use Rattle.sccp_tool.specs.ShowHex.{show_hex_work, ShowHexCause}
-use Rattle.sccp_tool.specs.Task.{Task, ShowHex, Show, Verify, Route, Cuts, Import, Change}
+use Rattle.sccp_tool.specs.Task.{Task, ShowHex, Show, Verify, Route, Replay, Cuts, Import, Change}
 use Rattle.sccp_tool.specs.Texts.{usage}
+use Rattle.sccp_tool.specs.Trace.{lines_in}
 use Rattle.sccp_tool.specs.Verify.{verify_work, VerifyCause, VerifySure, VerifyTells}
 use Rattle.sccp_tool.specs.Work.{Work, answered}
 use Rattle.sccp_tool.specs.declared.status.Status.{Status}
@@ -21,6 +27,7 @@ work_of (Some (ShowHex octets)) = show_hex_work octets
 work_of (Some (Show name)) = show_work name
 work_of (Some (Verify name)) = verify_work name
 work_of (Some (Route name start)) = route_work name start
+work_of (Some (Replay plan trace workers)) = replay_work plan trace workers
 work_of (Some (Cuts octets)) = cuts_work octets
 work_of (Some (Import plan file)) = import_work plan file
 work_of (Some (Change old new)) = change_work old new
@@ -31,27 +38,48 @@ UsageCause Usage = Unit {0}
 UsageCause answer = ⊥
 
 -- an answer that isn't a fault's or want of memory's comes only where this holds of the files
-abbrev pub Cause : Option Contents → Option Task → Status → Type 0
-Cause contents None answer = UsageCause answer
-Cause contents (Some (ShowHex octets)) answer = ShowHexCause answer
-Cause contents (Some (Show name)) answer = ShowCause contents name answer
-Cause contents (Some (Verify name)) answer = VerifyCause contents name answer
-Cause contents (Some (Route name start)) answer = RouteCause contents name answer
-Cause contents (Some (Cuts octets)) answer = CutsCause answer
-Cause contents (Some (Import plan file)) answer = ImportCause contents plan file answer
-Cause contents (Some (Change old new)) answer = ChangeCause contents old new answer
+abbrev pub Cause : Contents → Option Task → Status → Type 0
+Cause c None answer = UsageCause answer
+Cause c (Some (ShowHex octets)) answer = ShowHexCause answer
+Cause c (Some (Show name)) answer = ShowCause (Some c) name answer
+Cause c (Some (Verify name)) answer = VerifyCause (Some c) name answer
+Cause c (Some (Route name start)) answer = RouteCause (Some c) name answer
+Cause c (Some (Replay plan trace workers)) answer = ReplayCause c plan trace answer
+Cause c (Some (Cuts octets)) answer = CutsCause answer
+Cause c (Some (Import plan file)) answer = ImportCause (Some c) plan file answer
+Cause c (Some (Change old new)) answer = ChangeCause (Some c) old new answer
 
 -- where this holds, the answer comes, but for a fault or want of memory before it
-abbrev pub SureCause : Option Contents → Option Task → Status → Type 0
-SureCause contents (Some (Verify name)) answer = VerifySure contents name answer
-SureCause contents (Some (Change old new)) answer = ChangeSure contents old new answer
-SureCause contents task answer = Cause contents task answer
+abbrev pub SureCause : Contents → Option Task → Status → Type 0
+SureCause c (Some (Verify name)) answer = VerifySure (Some c) name answer
+SureCause c (Some (Replay plan trace workers)) answer = ReplaySure c plan trace answer
+SureCause c (Some (Change old new)) answer = ChangeSure (Some c) old new answer
+SureCause c task answer = Cause c task answer
 
--- what the sink took tells a verdict or, of DATA messages, a trace without a faulty line
-abbrev pub TellsVerdict : Option Contents → Option Task → Status → Option (List ℕ) → Option (List ℕ) → Type 0
-TellsVerdict contents (Some (Verify name)) given taken taken' = VerifyTells contents name given taken taken'
-TellsVerdict contents (Some (Import plan file)) given taken taken' = ImportTells contents plan file given taken taken'
-TellsVerdict contents task given taken taken' = Unit {0}
+-- what the sink took tells the verdict on a plan, those on two plans and what comes of their mixture, or, of DATA messages, a
+-- trace without a faulty line
+abbrev pub TellsAnswer : Contents → Option Task → Status → Option (List ℕ) → Option (List ℕ) → Type 0
+TellsAnswer c (Some (Verify name)) given taken taken' = VerifyTells (Some c) name given taken taken'
+TellsAnswer c (Some (Replay plan trace workers)) given taken taken' = ReplayTells c plan given taken taken'
+TellsAnswer c (Some (Change old new)) given taken taken' = ChangeTells (Some c) old new given taken taken'
+TellsAnswer c (Some (Import plan file)) given taken taken' = ImportTells (Some c) plan file given taken taken'
+TellsAnswer c task given taken taken' = Unit {0}
+
+-- what the sink took of a replay tells the bound of the first plan and, of each message that was routed, its whole journey
+abbrev pub TellsJourneys : Contents → Option Task → Status → Option (List ℕ) → Option (List ℕ) → Type 0
+TellsJourneys c (Some (Replay plan trace workers)) given taken taken' =
+    (text : List ℕ) × (taken' ≡ append_known taken text) × TellsReplay c plan trace given text
+TellsJourneys c task given taken taken' = Unit {0}
+
+-- each file is there that the words name, or that a line of the trace names as a later plan
+abbrev pub HasNamedFiles : Contents → Option Task → Type 0
+HasNamedFiles c (Some (Show name)) = IsThere c name
+HasNamedFiles c (Some (Verify name)) = IsThere c name
+HasNamedFiles c (Some (Route name start)) = IsThere c name
+HasNamedFiles c (Some (Replay plan trace workers)) = IsThere c plan × IsThere c trace × LaterPlansThere c (lines_in c trace)
+HasNamedFiles c (Some (Import plan file)) = IsThere c plan × IsThere c file
+HasNamedFiles c (Some (Change old new)) = IsThere c old × IsThere c new
+HasNamedFiles c task = Unit {0}
 
 -- this answer comes exactly where the cause holds, but for a fault or want of memory before it
 pub record ExactlyWhere (answer given : Status) (cause : Type 0) : Type 0 where

@@ -11,6 +11,8 @@ pub data Task : Type 0 where
   Verify : List ℕ → Task
   -- follows a title from its start, under the plan of the file of this name
   Route : List ℕ → Start → Task
+  -- replays the trace of the second file under the plan of the first one, with so many workers
+  Replay : List ℕ → List ℕ → ℕ → Task
   -- shows every cut of the message of these octets
   Cuts : List ℕ → Task
   -- makes a trace of the DATA messages of the second file, for the nodes of the plan of the first one

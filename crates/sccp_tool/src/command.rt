@@ -6,6 +6,7 @@ ghost use Rattle.sccp_tool.specs.Parsed.{task_in};
 use crate::change::change_words;
 use crate::cuts::cuts_words;
 use crate::import::import_words;
+use crate::replay::replay_words;
 use crate::route::route_words;
 use crate::show::show_words;
 use crate::show_hex::show_hex_words;
@@ -25,6 +26,8 @@ pub enum Command<'a> {
     Verify(&'a str),
     /// To follow a title under the plan of the file of this name.
     Route(&'a str, Start),
+    /// To replay the trace of the second file under the plan of the first one.
+    Replay(&'a str, &'a str),
     /// To show every cut of the message of these octets.
     Cuts(Octets),
     /// To make a trace of the second file under the plan of the first one.
@@ -60,6 +63,8 @@ fn command_of<'a>(
         Ok(verify_words(words))
     } else if name == "route" {
         Ok(route_words(words))
+    } else if name == "replay" {
+        Ok(replay_words(words))
     } else if name == "cuts" {
         cuts_words(alloc, words)
     } else if name == "import" {

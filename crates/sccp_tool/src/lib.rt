@@ -1,28 +1,39 @@
 //! The commands of the program: SCCP messages (ITU-T Q.713) that are shown, given in hexadecimal digits as a word or in a
-//! file with one a line, a plan of relays that is verified, a title that is followed through them (Q.714 section 2), and two
-//! plans of which it is told whether relays may hold either.
+//! file with one a line, a plan of relays that is verified, a title that is followed through them (Q.714 section 2), a trace of
+//! traffic and failures that is replayed over them (Q.714 sections 2 to 5), and two plans of which it is told whether relays
+//! may hold either.
 //!
 //! The contract of `run` is what the program promises: the text that it writes and the status that it ends with, for any
 //! words, files and sink, with the cause of each status. The crate above only makes the real files and the real sink and
 //! passes on the words.
 #![tactic(auto)]
 
+mod batch;
 mod change;
 mod command;
 mod cuts;
+mod gathered;
 mod import;
+mod later_lines;
 mod limit;
 mod line_fault;
 mod opened;
 mod plans;
 mod program;
 mod reading;
+mod replay;
+mod replayer;
 mod route;
+mod settle;
+mod settled;
 mod show;
 mod show_hex;
 mod start;
 mod status;
 mod stop;
+mod taking;
+mod tell;
+mod tracing;
 mod verify;
 mod writing;
 

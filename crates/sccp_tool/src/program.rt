@@ -5,13 +5,14 @@ ghost use Rattle.sccp_tool.specs.Commands.{task_of, texts};
 ghost use Rattle.sccp_tool.specs.Ending.{Works, Outcome, Closes, answer_of};
 ghost use Rattle.sccp_tool.specs.Moment.{moment};
 ghost use Rattle.sccp_tool.specs.Parsed.{task_in};
-ghost use Rattle.sccp_tool.specs.Run.{work_of, Cause, SureCause, TellsVerdict, ExactlyWhere, ComesWhere, RefusedWhere};
+ghost use Rattle.sccp_tool.specs.Run.{work_of, Cause, SureCause, TellsAnswer, TellsJourneys, HasNamedFiles, ExactlyWhere, ComesWhere, RefusedWhere};
 ghost use Rattle.sccp_tool.specs.Work.{HasFiles};
 
 use crate::change::change;
 use crate::command::{Command, parse};
 use crate::cuts::cuts;
 use crate::import::import;
+use crate::replay::replay;
 use crate::route::route;
 use crate::show::show;
 use crate::show_hex::show_hex;
@@ -24,7 +25,7 @@ use sccp_io::{Files, Sink};
 use std::alloc::Global;
 
 const USAGE: &[u8] =
-    b"usage: show-hex HEX | show FILE | verify PLAN | route PLAN NODE SELECTOR SSN DIGITS | cuts HEX | import PLAN FILE | change OLD NEW\n";
+    b"usage: show-hex HEX | show FILE | verify PLAN | route PLAN NODE SELECTOR SSN DIGITS | replay PLAN TRACE WORKERS | cuts HEX | import PLAN FILE | change OLD NEW\n";
 
 const READ_FAULT: &[u8] = b"read fault\n";
 
@@ -35,30 +36,37 @@ pub fn run<F: Files, K: Sink>(alloc: Global, words: &[String], files: &mut F, ou
         (moment F.contents F.sound F.faults K.taken K.faults files.old out.old)
         (moment F.contents F.sound F.faults K.taken K.faults files.new out.new) }
 
-    // The verdict on a plan, and its text.
-    ensures verdict { IfSome (F.contents files.old)
-        (λ c. TellsVerdict (Some c) (task_of (texts words.now)) result (K.taken out.old) (K.taken out.new)) }
+    // What the text tells of a plan, of two plans, or of a file of DATA messages.
+    ensures tells { IfSome (F.contents files.old)
+        (λ c. TellsAnswer c (task_of (texts words.now)) result (K.taken out.old) (K.taken out.new)) }
+
+    // Where each message of a replay went.
+    ensures journeys { IfSome (F.contents files.old)
+        (λ c. TellsJourneys c (task_of (texts words.now)) result (K.taken out.old) (K.taken out.new)) }
 
     // The cause of each answer.
     ensures done { IfSome (F.contents files.old)
-        (λ c. ComesWhere Status.Done result (Cause (Some c) (task_of (texts words.now)) Status.Done) (SureCause (Some c) (task_of (texts words.now)) Status.Done)) }
+        (λ c. ComesWhere Status.Done result (Cause c (task_of (texts words.now)) Status.Done) (SureCause c (task_of (texts words.now)) Status.Done)) }
     ensures refused { IfSome (F.contents files.old)
-        (λ c. RefusedWhere result (Cause (Some c) (task_of (texts words.now)) Status.Refused)) }
+        (λ c. RefusedWhere result (Cause c (task_of (texts words.now)) Status.Refused)) }
     ensures too_wide { IfSome (F.contents files.old)
-        (λ c. result ≡ Status.TooWide → Cause (Some c) (task_of (texts words.now)) Status.TooWide) }
+        (λ c. result ≡ Status.TooWide → Cause c (task_of (texts words.now)) Status.TooWide) }
     ensures usage { ExactlyWhere Status.Usage result (task_of (texts words.now) ≡ None) }
     ensures bad_plan { IfSome (F.contents files.old)
-        (λ c. ComesWhere Status.BadPlan result (Cause (Some c) (task_of (texts words.now)) Status.BadPlan) (SureCause (Some c) (task_of (texts words.now)) Status.BadPlan)) }
+        (λ c. ComesWhere Status.BadPlan result (Cause c (task_of (texts words.now)) Status.BadPlan) (SureCause c (task_of (texts words.now)) Status.BadPlan)) }
     ensures bad_trace { IfSome (F.contents files.old)
-        (λ c. ComesWhere Status.BadTrace result (Cause (Some c) (task_of (texts words.now)) Status.BadTrace) (SureCause (Some c) (task_of (texts words.now)) Status.BadTrace)) }
+        (λ c. ComesWhere Status.BadTrace result (Cause c (task_of (texts words.now)) Status.BadTrace) (SureCause c (task_of (texts words.now)) Status.BadTrace)) }
     ensures too_long { IfSome (F.contents files.old)
-        (λ c. ComesWhere Status.TooLong result (Cause (Some c) (task_of (texts words.now)) Status.TooLong) (SureCause (Some c) (task_of (texts words.now)) Status.TooLong)) }
+        (λ c. ComesWhere Status.TooLong result (Cause c (task_of (texts words.now)) Status.TooLong) (SureCause c (task_of (texts words.now)) Status.TooLong)) }
     ensures other_nodes { IfSome (F.contents files.old)
-        (λ c. ComesWhere Status.OtherNodes result (Cause (Some c) (task_of (texts words.now)) Status.OtherNodes) (SureCause (Some c) (task_of (texts words.now)) Status.OtherNodes)) }
+        (λ c. ComesWhere Status.OtherNodes result (Cause c (task_of (texts words.now)) Status.OtherNodes) (SureCause c (task_of (texts words.now)) Status.OtherNodes)) }
     ensures read_fault { result ≡ Status.ReadFault → Rose (F.faults files.old) (F.faults files.new) }
     ensures write_fault { result ≡ Status.WriteFault → Rose (K.faults out.old) (K.faults out.new) }
     // Sound files that have each file which the work comes to don't fail.
     ensures sound { IsTrue (F.sound files.old) → IfSome (F.contents files.old) (λ c. HasFiles c (work_of (task_of (texts words.now)))
+        → (F.faults files.new ≡ F.faults files.old) × (F.faults files.old < 2 ^ 64 - 1 → result ≢ Status.ReadFault)) }
+    // Nor do those that have each file which the words name, or a line of the trace as a later plan.
+    ensures named { IsTrue (F.sound files.old) → IfSome (F.contents files.old) (λ c. HasNamedFiles c (task_of (texts words.now))
         → (F.faults files.new ≡ F.faults files.old) × (F.faults files.old < 2 ^ 64 - 1 → result ≢ Status.ReadFault)) }
 {
     let worked = carry_out(alloc, words, files, out);
@@ -99,6 +107,7 @@ fn obey<F: Files, K: Sink>(
         Command::Show(name) => show(alloc, name, files, out),
         Command::Verify(name) => verify(alloc, name, files, out),
         Command::Route(name, start) => route(alloc, name, start, files, out),
+        Command::Replay(plan, trace) => replay(alloc, plan, trace, files, out),
         Command::Cuts(octets) => cuts(alloc, octets.as_slice(), out),
         Command::Import(plan, file) => import(alloc, plan, file, files, out),
         Command::Change(old, new) => change(alloc, old, new, files, out),

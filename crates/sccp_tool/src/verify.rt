@@ -8,6 +8,7 @@ ghost use Rattle.sccp_tool.specs.Ending.{Works};
 ghost use Rattle.sccp_tool.specs.Moment.{moment};
 ghost use Rattle.sccp_tool.specs.Parsed.{task_in};
 ghost use Rattle.sccp_tool.specs.Verify.{status_of, verify_words, verify_work};
+ghost use Rattle.sccp_tool.specs.Writing.{Writes};
 
 use crate::command::Command;
 use crate::plans::with_plan;
@@ -52,8 +53,18 @@ pub fn verify<F: Files, K: Sink>(
 {
     let plan = with_plan(alloc, name, files, out)?;
     let verdict = plan_verify::verify(alloc, plan)?;
-    let text = lawful_text(alloc, plan_of(&verdict), &verdict)?;
-    print_last(out, text.as_slice(), status_of(&verdict))
+    tell_verdict(alloc, &verdict, out)
+}
+
+/// Prints a verdict, and answers as it says.
+pub fn tell_verdict<K: Sink>(alloc: Global, verdict: &Verdict, out: &mut K) -> Result<Status, Stop>
+    requires plan { IsPlan (plan_of verdict.now) }
+    requires lawful { IsLawful (plan_of verdict.now) verdict.now }
+    ensures text { Writes (verdict_text (plan_of verdict.now) verdict.now) result (K.taken out.old) (K.taken out.new) (K.faults out.old) (K.faults out.new) }
+    ensures answer { IfOk result (λ s. s ≡ status_of verdict.now) }
+{
+    let text = lawful_text(alloc, plan_of(verdict), verdict)?;
+    print_last(out, text.as_slice(), status_of(verdict))
 }
 
 /// The text of a lawful verdict, whose route stays in the plan.

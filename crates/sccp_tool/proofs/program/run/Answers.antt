@@ -4,7 +4,7 @@ use Rattle.sccp_tool.specs.Ending.{Outcome}
 use Rattle.sccp_tool.specs.Moment.{Moment, moment}
 use Rattle.sccp_tool.specs.Run.{work_of}
 use Rattle.sccp_tool.specs.Task.{Task}
-use Rattle.sccp_tool.proofs.RunLemmas.{verdict_told, done_cause, refused_cause, wide_cause, usage_cause, bad_plan_cause, bad_line_cause, long_cause, other_nodes_cause, read_cause, write_cause, sound_cause}
+use Rattle.sccp_tool.proofs.RunLemmas.{answer_told, journeys_told, done_cause, refused_cause, wide_cause, usage_cause, bad_plan_cause, bad_line_cause, long_cause, other_nodes_cause, read_cause, write_cause, sound_cause, named_cause}
 use Rattle.sccp_tool.proofs.WorkLemmas.{Outcome-closed}
 use Rattle.sccp_tool.proofs.program.run.Goals as goal
 
@@ -18,7 +18,8 @@ returns g c =
     Outcome-closed (work_of task) c.carry_out-worked.result c.close.result b m a c.carry_out-worked.ensures c.close.ensures refl refl refl in
     record {
       outcome = o;
-      verdict = verdict_told task c.close.result b a o;
+      tells = answer_told task c.close.result b a o;
+      journeys = journeys_told task c.close.result b a o;
       done = done_cause task c.close.result b a o;
       refused = refused_cause task c.close.result b a o;
       too_wide = wide_cause task c.close.result b a o;
@@ -30,4 +31,5 @@ returns g c =
       read_fault = read_cause task c.close.result b a o;
       write_fault = write_cause task c.close.result b a o;
       sound = sound_cause task c.close.result b a o;
+      named = named_cause task c.close.result b a o;
     }

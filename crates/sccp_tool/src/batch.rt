@@ -1,0 +1,37 @@
+//! A batch of lines.
+ghost use Rattle.std.specs.Prelude.{◌≡◌, OnOk};
+ghost use Rattle.sccp_tool.specs.Moment.{moment};
+ghost use Rattle.sccp_tool.specs.Settling.{GivesBatch};
+
+use crate::replayer::Replayer;
+use crate::settle::settle;
+use crate::stop::Stop;
+use crate::tell::tell;
+use sccp_io::{Files, Sink};
+use sccp_report::Text;
+use std::alloc::Global;
+use trace_text::Numbered;
+
+/// The text of a batch. Its plan lines are settled first; then its messages are routed, each under the plans that were
+/// accepted before its line and the markings that stood before the batch, and what the ends leave to be done is done in the
+/// order of the lines.
+#[tactic(auto, using(crate::proofs::BatchSteps::settled_memory, crate::proofs::BatchSteps::batch_told))]
+pub fn batch_text<F: Files, K: Sink>(
+    alloc: Global,
+    at: &mut Replayer,
+    lines: &[Numbered],
+    files: &mut F,
+    out: &mut K,
+) -> Result<Text, Stop>
+    ensures gives { GivesBatch at.old lines.now result at.new
+        (moment F.contents F.sound F.faults K.taken K.faults files.old out.old)
+        (moment F.contents F.sound F.faults K.taken K.faults files.new out.new) }
+    ensures first { OnOk result (at.new.first ≡ at.old.first) }
+    ensures left { F.left files.new ≡ F.left files.old }
+{
+    // It ensures that there is one worker.
+    let _first = at.first();
+    let settled = settle(alloc, at, lines, files, out)?;
+    let text = tell(alloc, at, settled.as_slice())?;
+    Ok(text)
+}

@@ -1,0 +1,130 @@
+//! The command that replays a trace over the relays of a plan.
+ghost use Rattle.std.specs.Prelude.{◌≡◌};
+ghost use Rattle.plan_model.specs.Network.{IsPlan};
+ghost use Rattle.plan_verify.specs.Lawful.{IsLawful, plan_of};
+ghost use Rattle.sccp_tool.specs.Commands.{texts};
+ghost use Rattle.sccp_tool.specs.Ending.{Works};
+ghost use Rattle.sccp_tool.specs.LaterPlans.{first_plan_line};
+ghost use Rattle.sccp_tool.specs.Moment.{moment};
+ghost use Rattle.sccp_tool.specs.Parsed.{task_in};
+ghost use Rattle.sccp_tool.specs.Replay.{is_one, replay_of, replay_words, replay_work, replayed, start, trace_work};
+ghost use Rattle.sccp_tool.specs.Trace.{trace_of};
+ghost use Rattle.sccp_tool.specs.Work.{print, read};
+
+use crate::command::Command;
+use crate::later_lines::first_plan_line;
+use crate::plans::with_plan;
+use crate::replayer::Replayer;
+use crate::status::Status;
+use crate::stop::Stop;
+use crate::tracing::replay_trace;
+use crate::verify::tell_verdict;
+use crate::writing::put_all;
+use plan_check::Accepted;
+use plan_verify::Verdict;
+use sccp_base::decimal;
+use sccp_io::{Files, Sink};
+use std::alloc::Global;
+use trace_text::is_file_name;
+
+/// Its words: `PLAN TRACE WORKERS`.
+#[tactic(auto, unfolding(crate::specs::Replay::replay_words))]
+pub fn replay_words(words: &[String]) -> Option<Command<'_>>
+    ensures { task_in result ≡ replay_words (texts words.now) }
+{
+    match words {
+        [plan, trace, workers] => replay_of(plan.as_str(), trace.as_str(), workers.as_str()),
+        _ => None,
+    }
+}
+
+/// The command of these three words.
+#[tactic(auto, unfolding(crate::specs::Replay::replay_of))]
+fn replay_of<'a>(plan: &'a str, trace: &'a str, workers: &str) -> Option<Command<'a>>
+    ensures { task_in result ≡ replay_of plan.now trace.now workers.now }
+{
+    if !is_file_name(plan.as_bytes()) {
+        return None;
+    }
+    if !is_file_name(trace.as_bytes()) {
+        return None;
+    }
+    if is_one(workers.as_bytes()) {
+        Some(Command::Replay(plan, trace))
+    } else {
+        None
+    }
+}
+
+/// One to ten decimal digits that spell 1.
+fn is_one(word: &[u8]) -> bool
+    ensures { result ≡ is_one word.now }
+{
+    match decimal(word, 10) {
+        Some(value) => value == 1,
+        None => false,
+    }
+}
+
+/// Replays the trace of the second file under the plan of the first one.
+#[tactic(auto, unfolding(crate::specs::Replay::replay_work))]
+pub fn replay<F: Files, K: Sink>(
+    alloc: Global,
+    plan: &str,
+    trace: &str,
+    files: &mut F,
+    out: &mut K,
+) -> Result<Status, Stop>
+    ensures { Works (replay_work plan.now trace.now 1) result
+        (moment F.contents F.sound F.faults K.taken K.faults files.old out.old)
+        (moment F.contents F.sound F.faults K.taken K.faults files.new out.new) }
+{
+    let first = with_plan(alloc, plan, files, out)?;
+    let verdict = plan_verify::verify(alloc, first)?;
+    replay_judged(alloc, verdict, plan, trace, files, out)
+}
+
+/// What follows the verdict on the first plan.
+fn replay_judged<F: Files, K: Sink>(
+    alloc: Global,
+    verdict: Verdict,
+    plan: &str,
+    trace: &str,
+    files: &mut F,
+    out: &mut K,
+) -> Result<Status, Stop>
+    requires plan { IsPlan (plan_of verdict) }
+    requires lawful { IsLawful (plan_of verdict) verdict }
+    ensures { Works (replayed plan.now trace.now 1 (plan_of verdict) verdict) result
+        (moment F.contents F.sound F.faults K.taken K.faults files.old out.old)
+        (moment F.contents F.sound F.faults K.taken K.faults files.new out.new) }
+{
+    match verdict {
+        Verdict::Accepted(accepted) => replay_accepted(alloc, accepted, plan, trace, files, out),
+        Verdict::Refused(plan, witness) => tell_verdict(
+            alloc,
+            &Verdict::Refused(plan, witness),
+            out,
+        ),
+        Verdict::TooWide(plan) => tell_verdict(alloc, &Verdict::TooWide(plan), out),
+    }
+}
+
+/// The first plan was accepted: its line is written, and the trace is replayed.
+fn replay_accepted<F: Files, K: Sink>(
+    alloc: Global,
+    accepted: Accepted,
+    plan: &str,
+    trace: &str,
+    files: &mut F,
+    out: &mut K,
+) -> Result<Status, Stop>
+    ensures { Works (print (first_plan_line plan.now accepted.bound) (read trace.now (λ octets. trace_work (start 1 accepted.plan) (trace_of octets)))) result
+        (moment F.contents F.sound F.faults K.taken K.faults files.old out.old)
+        (moment F.contents F.sound F.faults K.taken K.faults files.new out.new) }
+{
+    let line = first_plan_line(alloc, plan, &accepted)?;
+    put_all(out, line.as_slice())?;
+    let mut at = Replayer::new(alloc, accepted)?;
+    replay_trace(alloc, &mut at, trace, files, out)
+}

@@ -1,0 +1,247 @@
+//! The plan lines of a batch are settled before its messages are routed.
+ghost use Rattle.std.specs.Prelude.{◌≡◌, ◌+◌, ◌++◌, [], ◌∷◌, All, IfOk, OnOk};
+ghost use Rattle.plan_model.specs.Network.{IsPlan, Network};
+ghost use Rattle.plan_model.specs.SameNodes.{SameNodes};
+ghost use Rattle.plan_text.specs.PlanText.{plan_of as read_plan};
+ghost use Rattle.plan_verify.specs.Lawful.{IsLawful, plan_of};
+ghost use Rattle.sccp_report.specs.Events.{event_text};
+ghost use Rattle.sccp_report.specs.Verdicts.{verdict_text};
+ghost use Rattle.sccp_tool.specs.LaterPlans.{accepted_plan_line, refused_plan_head};
+ghost use Rattle.sccp_tool.specs.Moment.{moment};
+ghost use Rattle.sccp_tool.specs.Replay.{accepted, prints};
+ghost use Rattle.sccp_tool.specs.Replayers.{ComesToNode, settled_in};
+ghost use Rattle.sccp_tool.specs.Settling.{JudgesLine, GivesPlanLine, GivesPlanFile, GivesLine, GivesSettled, LooksAt, LooksInto};
+
+use crate::later_lines::{accepted_plan_line, bad_plan_line, other_nodes_line, refused_plan_text};
+use crate::limit::within_limit;
+use crate::opened::Opened;
+use crate::replayer::Replayer;
+use crate::settled::Settled;
+use crate::stop::Stop;
+use plan_check::Accepted;
+use plan_model::{Plan, have_same_nodes};
+use plan_verify::{Verdict, verify};
+use sccp_base::{List, Octets, OutOfMemory};
+use sccp_io::{Files, Sink};
+use sccp_report::{Due, Role, Text, put_event, role_of};
+use std::alloc::Global;
+use trace_text::Numbered;
+
+/// A later plan was accepted, and counts from its line on.
+fn accept_later(
+    alloc: Global,
+    at: &mut Replayer,
+    line: u32,
+    name: &str,
+    plan: Accepted,
+) -> Result<Settled, OutOfMemory>
+    requires { SameNodes at.old.first plan.plan }
+    ensures first { at.new.first ≡ at.old.first }
+    ensures text { IfOk result (λ s. settled_in s ≡ prints (accepted_plan_line line (accepted at.old + 1) name.now plan.bound)) }
+    ensures at { OnOk result (at.new ≡ record at.old { later = at.old.later ++ plan.plan ∷ [] }) }
+    ensures fits { IfOk result (ComesToNode at.old.first) }
+{
+    let text = accepted_plan_line(alloc, line, at.accepted() + 1, name, &plan)?;
+    at.accept(plan)?;
+    Ok(Settled::Prints(text))
+}
+
+/// A later plan wasn't accepted.
+fn refuse_later(
+    alloc: Global,
+    line: u32,
+    name: &str,
+    verdict: Verdict,
+) -> Result<Settled, OutOfMemory>
+    requires plan { IsPlan (plan_of verdict) }
+    requires lawful { IsLawful (plan_of verdict) verdict }
+    ensures text { IfOk result (λ s. settled_in s ≡ prints (refused_plan_head line name.now ++ verdict_text (plan_of verdict) verdict)) }
+    ensures fits { IfOk result (λ s. (first : Network) → ComesToNode first s) }
+{
+    Ok(Settled::Prints(refused_plan_text(alloc, line, name, &verdict)?))
+}
+
+/// The verdict on a later plan of the same relays.
+#[tactic(auto, using(crate::proofs::LaterSteps::accepted_judges, crate::proofs::LaterSteps::refused_judges, crate::proofs::LaterSteps::wide_judges))]
+fn judge_later(
+    alloc: Global,
+    at: &mut Replayer,
+    line: u32,
+    name: &str,
+    plan: Plan,
+) -> Result<Settled, OutOfMemory>
+    requires plan { IsPlan plan }
+    requires same { SameNodes at.old.first plan }
+    ensures first { at.new.first ≡ at.old.first }
+    ensures gives { IfOk result (λ s. JudgesLine at.old line name.now plan at.new (settled_in s)) }
+    ensures fits { IfOk result (ComesToNode at.old.first) }
+{
+    match verify(alloc, plan)? {
+        Verdict::Accepted(accepted) => accept_later(alloc, at, line, name, accepted),
+        Verdict::Refused(plan, witness) => {
+            refuse_later(alloc, line, name, Verdict::Refused(plan, witness))
+        }
+        Verdict::TooWide(plan) => refuse_later(alloc, line, name, Verdict::TooWide(plan)),
+    }
+}
+
+/// What a plan line is settled to, whose file has this text: the text is refused where it is no plan, a plan of other relays
+/// next, and then by its verdict.
+#[tactic(auto, using(crate::proofs::LaterSteps::same_reads, crate::proofs::LaterSteps::other_reads, crate::proofs::LaterSteps::bad_reads))]
+fn read_later(
+    alloc: Global,
+    at: &mut Replayer,
+    line: u32,
+    name: &str,
+    text: &[u8],
+) -> Result<Settled, OutOfMemory>
+    ensures first { at.new.first ≡ at.old.first }
+    ensures gives { IfOk result (λ s. GivesPlanLine at.old line name.now (read_plan text.now) at.new (settled_in s)) }
+    ensures fits { IfOk result (ComesToNode at.old.first) }
+{
+    match plan_text::read(alloc, text) {
+        Ok(plan) => {
+            if have_same_nodes(at.first(), &plan) {
+                judge_later(alloc, at, line, name, plan)
+            } else {
+                Ok(Settled::Prints(other_nodes_line(alloc, line, name)?))
+            }
+        }
+        Err(fault) => Ok(Settled::Prints(bad_plan_line(alloc, line, name, &fault)?)),
+    }
+}
+
+/// A plan line: its file is read beside the trace.
+fn settle_plan<F: Files, K: Sink>(
+    alloc: Global,
+    at: &mut Replayer,
+    line: u32,
+    name: &str,
+    files: &mut F,
+    out: &mut K,
+) -> Result<Settled, Stop>
+    ensures first { at.new.first ≡ at.old.first }
+    ensures gives { GivesPlanFile at.old line name.now result at.new
+        (moment F.contents F.sound F.faults K.taken K.faults files.old out.old)
+        (moment F.contents F.sound F.faults K.taken K.faults files.new out.new) }
+    ensures fits { IfOk result (ComesToNode at.old.first) }
+    ensures left { F.left files.new ≡ F.left files.old }
+{
+    let text = within_limit(alloc, Opened::Beside, name, files, out)?;
+    Ok(read_later(alloc, at, line, name, &text)?)
+}
+
+/// A line that is printed and no more.
+fn settle_aside(alloc: Global, at: &Replayer, line: &Numbered) -> Result<Settled, OutOfMemory>
+    ensures text { IfOk result (λ s. settled_in s ≡ prints (event_text at.now.first line.now [])) }
+    ensures fits { IfOk result (ComesToNode at.now.first) }
+{
+    let mut text = Text::new(alloc);
+    put_event(alloc, &mut text, at.first(), line, &List::new(alloc))?;
+    Ok(Settled::Prints(text.into_octets()))
+}
+
+/// A line of a batch, as far as it is settled without another file.
+#[derive(Debug, Drop)]
+enum Looked {
+    Settled(Settled),
+    /// A later plan, in the file of this name.
+    Later(Octets),
+}
+
+// Nothing is done while a batch is settled.
+fn let_go(_due: Option<Due>) {}
+
+/// What a line is to the batch.
+#[tactic(auto, using(crate::proofs::LaterSteps::looks_routed, crate::proofs::LaterSteps::looks_aside, crate::proofs::LaterSteps::looks_alone))]
+fn look(alloc: Global, at: &Replayer, line: &Numbered) -> Result<Looked, OutOfMemory>
+    ensures gives { IfOk result (LooksAt at.now line.now) }
+    ensures fits { IfOk result (LooksInto at.now.first) }
+{
+    match role_of(alloc, at.first(), &line.line)? {
+        Role::Routed {
+            entry,
+            origin,
+            octets,
+        } => Ok(Looked::Settled(Settled::Routes {
+            line: line.number,
+            entry,
+            origin,
+            octets,
+            before: at.accepted(),
+        })),
+        Role::Later(name) => Ok(Looked::Later(name)),
+        Role::Aside => Ok(Looked::Settled(settle_aside(alloc, at, line)?)),
+        Role::Alone(due) => {
+            let_go(due);
+            Ok(Looked::Settled(settle_aside(alloc, at, line)?))
+        }
+    }
+}
+
+/// A plan line whose file has this name. A file name of a trace has visible octets of ASCII alone.
+#[tactic(auto, using(crate::proofs::TakeSteps::works_memory))]
+fn settle_named<F: Files, K: Sink>(
+    alloc: Global,
+    at: &mut Replayer,
+    line: u32,
+    name: &[u8],
+    files: &mut F,
+    out: &mut K,
+) -> Result<Settled, Stop>
+    ensures first { at.new.first ≡ at.old.first }
+    ensures gives { GivesPlanFile at.old line name.now result at.new
+        (moment F.contents F.sound F.faults K.taken K.faults files.old out.old)
+        (moment F.contents F.sound F.faults K.taken K.faults files.new out.new) }
+    ensures fits { IfOk result (ComesToNode at.old.first) }
+    ensures left { F.left files.new ≡ F.left files.old }
+{
+    match std::str::from_utf8(name) {
+        Ok(name) => settle_plan(alloc, at, line, name, files, out),
+        Err(_) => Err(Stop::Memory),
+    }
+}
+
+/// What a line of a batch is settled to.
+#[tactic(auto, using(crate::proofs::LaterSteps::named_gives, crate::proofs::TakeSteps::works_memory))]
+fn settle_line<F: Files, K: Sink>(
+    alloc: Global,
+    at: &mut Replayer,
+    line: &Numbered,
+    files: &mut F,
+    out: &mut K,
+) -> Result<Settled, Stop>
+    ensures first { at.new.first ≡ at.old.first }
+    ensures gives { GivesLine at.old line.now result at.new
+        (moment F.contents F.sound F.faults K.taken K.faults files.old out.old)
+        (moment F.contents F.sound F.faults K.taken K.faults files.new out.new) }
+    ensures fits { IfOk result (ComesToNode at.old.first) }
+    ensures left { F.left files.new ≡ F.left files.old }
+{
+    match look(alloc, at, line)? {
+        Looked::Settled(settled) => Ok(settled),
+        Looked::Later(name) => settle_named(alloc, at, line.number, name.as_slice(), files, out),
+    }
+}
+
+/// What the lines of a batch are settled to, in their order.
+pub fn settle<F: Files, K: Sink>(
+    alloc: Global,
+    at: &mut Replayer,
+    lines: &[Numbered],
+    files: &mut F,
+    out: &mut K,
+) -> Result<List<Settled>, Stop>
+    ensures first { at.new.first ≡ at.old.first }
+    ensures gives { GivesSettled at.old lines.now result at.new
+        (moment F.contents F.sound F.faults K.taken K.faults files.old out.old)
+        (moment F.contents F.sound F.faults K.taken K.faults files.new out.new) }
+    ensures fits { IfOk result (λ settled. All (ComesToNode at.old.first) settled) }
+    ensures left { F.left files.new ≡ F.left files.old }
+{
+    let mut settled = List::new(alloc);
+    for line in lines {
+        settled.push(settle_line(alloc, at, line, files, out)?)?;
+    }
+    Ok(settled)
+}

@@ -1,0 +1,162 @@
+//! A trace that is read and replayed in pieces.
+ghost use Rattle.std.specs.Prelude.{◌≡◌, ◌+◌, ◌++◌, [], length, false, IfOk, OnOk};
+ghost use Rattle.sccp_tool.specs.Ending.{Works};
+ghost use Rattle.sccp_tool.specs.Moment.{moment};
+ghost use Rattle.sccp_tool.specs.Replay.{closing_of, end_line, is_full, lines_work, trace_work};
+ghost use Rattle.sccp_tool.specs.Replaying.{rest_work};
+ghost use Rattle.sccp_tool.specs.Settling.{TakesLines};
+ghost use Rattle.sccp_tool.specs.Trace.{trace_of};
+ghost use Rattle.sccp_tool.specs.Work.{read};
+
+use crate::batch::batch_text;
+use crate::gathered::Gathered;
+use crate::line_fault::bad_line;
+use crate::reading::stopped;
+use crate::replayer::Replayer;
+use crate::status::Status;
+use crate::stop::Stop;
+use crate::taking::take_lines;
+use crate::writing::print_last;
+use sccp_base::{List, OutOfMemory};
+use sccp_io::{Files, Sink};
+use sccp_report::Text;
+use std::alloc::Global;
+use trace_text::{LineFault, Numbered, Reader};
+
+/// How many octets are taken at a time.
+const PIECE: usize = 4096;
+
+/// More than the octets of any trace: a line that is too long or one too many ends it before.
+const MOST_PIECES: u64 = 8_200_000_000;
+
+#[tactic(auto, unfolding(crate::specs::Replay::end_line))]
+fn put_end(text: &mut Text, count: usize) -> Result<(), OutOfMemory>
+    ensures { OnOk result (text.new ≡ text.old ++ end_line count) }
+{
+    text.put_counted(b"end ", count)?;
+    text.put(b"\n")
+}
+
+/// The last line: how many lines the trace has, or the fault of the line behind them.
+fn put_closing(
+    alloc: Global,
+    text: &mut Text,
+    count: usize,
+    fault: Option<LineFault>,
+) -> Result<Status, OutOfMemory>
+    ensures text { OnOk result (text.new ≡ text.old ++ (closing_of count fault).1) }
+    ensures status { IfOk result (λ s. s ≡ (closing_of count fault).0) }
+{
+    match fault {
+        None => {
+            put_end(text, count)?;
+            Ok(Status::Done)
+        }
+        Some(fault) => {
+            text.put(&bad_line(alloc, fault)?)?;
+            Ok(Status::BadTrace)
+        }
+    }
+}
+
+/// The last batch is done, and its text written with the last line.
+#[tactic(auto, using(crate::proofs::TakeSteps::closing_stopped, crate::proofs::TakeSteps::closing_memory, crate::proofs::TakeSteps::closing_written))]
+fn write_last<F: Files, K: Sink>(
+    alloc: Global,
+    at: &mut Replayer,
+    batch: &Gathered,
+    count: usize,
+    fault: Option<LineFault>,
+    files: &mut F,
+    out: &mut K,
+) -> Result<Status, Stop>
+    ensures { Works (lines_work (closing_of count fault) at.old batch.now []) result
+        (moment F.contents F.sound F.faults K.taken K.faults files.old out.old)
+        (moment F.contents F.sound F.faults K.taken K.faults files.new out.new) }
+{
+    let mut text = batch_text(alloc, at, batch.lines(), files, out)?;
+    let status = put_closing(alloc, &mut text, count, fault)?;
+    print_last(out, text.into_octets().as_slice(), status)
+}
+
+/// Lines that were told are taken, and counted.
+fn take_told<F: Files, K: Sink>(
+    alloc: Global,
+    at: &mut Replayer,
+    batch: &mut Gathered,
+    count: usize,
+    lines: List<Numbered>,
+    files: &mut F,
+    out: &mut K,
+) -> Result<usize, Stop>
+    requires { is_full batch.old ≡ false }
+    ensures takes { TakesLines at.old batch.old lines result at.new batch.new
+        (moment F.contents F.sound F.faults K.taken K.faults files.old out.old)
+        (moment F.contents F.sound F.faults K.taken K.faults files.new out.new) }
+    ensures count { IfOk result (λ n. n ≡ count + length lines) }
+    ensures few { OnOk result (is_full batch.new ≡ false) }
+    ensures left { F.left files.new ≡ F.left files.old }
+{
+    let Some(more) = count.checked_add(lines.as_slice().len()) else {
+        return Err(Stop::Memory);
+    };
+    take_lines(alloc, at, batch, lines, files, out)?;
+    Ok(more)
+}
+
+/// The end of the trace: its last line, where no line feed ends it, and what is written then.
+#[tactic(auto, using(crate::proofs::TakeSteps::last_taken, crate::proofs::TakeSteps::last_stopped, crate::proofs::TakeSteps::works_memory))]
+fn take_end<F: Files, K: Sink>(
+    alloc: Global,
+    at: &mut Replayer,
+    batch: &mut Gathered,
+    reader: &mut Reader,
+    count: usize,
+    files: &mut F,
+    out: &mut K,
+) -> Result<Status, Stop>
+    requires { is_full batch.old ≡ false }
+    ensures { Works (rest_work count at.old batch.old [] reader.old []) result
+        (moment F.contents F.sound F.faults K.taken K.faults files.old out.old)
+        (moment F.contents F.sound F.faults K.taken K.faults files.new out.new) }
+{
+    let fed = reader.finish()?;
+    let count = take_told(alloc, at, batch, count, fed.lines, files, out)?;
+    write_last(alloc, at, batch, count, fed.fault, files, out)
+}
+
+/// Replays the trace of a file: its lines in batches, each written as soon as it is done.
+pub fn replay_trace<F: Files, K: Sink>(
+    alloc: Global,
+    at: &mut Replayer,
+    name: &str,
+    files: &mut F,
+    out: &mut K,
+) -> Result<Status, Stop>
+    ensures { Works (read name.now (λ octets. trace_work at.old (trace_of octets))) result
+        (moment F.contents F.sound F.faults K.taken K.faults files.old out.old)
+        (moment F.contents F.sound F.faults K.taken K.faults files.new out.new) }
+{
+    if let Err(fault) = files.begin(name) {
+        return Err(stopped(fault));
+    }
+    let mut reader = Reader::new(alloc);
+    let mut batch = Gathered::new(alloc);
+    let mut count = 0;
+    let mut piece = [0u8; PIECE];
+    for _ in 0..MOST_PIECES {
+        let taken = match files.take(&mut piece) {
+            Ok(taken) => taken,
+            Err(fault) => return Err(stopped(fault)),
+        };
+        if taken == 0 {
+            return take_end(alloc, at, &mut batch, &mut reader, count, files, out);
+        }
+        let fed = reader.feed(&piece[..taken])?;
+        count = take_told(alloc, at, &mut batch, count, fed.lines, files, out)?;
+        if fed.fault.is_some() {
+            return write_last(alloc, at, &batch, count, fed.fault, files, out);
+        }
+    }
+    Err(Stop::Memory)
+}
