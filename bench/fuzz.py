@@ -302,7 +302,7 @@ def replay_one(program, folder, seed):
     path = os.path.join(folder, f"t{seed}.txt")
     with open(path, "wb") as made:
         made.write(trace(draw))
-    status, output, why = call(program, folder, "replay", "p.toml", os.path.basename(path), str(draw.randrange(1, 5)))
+    status, output, why = call(program, folder, "replay", "p.toml", os.path.basename(path), "1")
     last = {0: b"end ", 66: b"bad trace line ", 68: b"too long", 74: b"read fault"}
     if status not in last:
         why = why or f"status {status}"
