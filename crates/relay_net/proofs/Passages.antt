@@ -26,9 +26,15 @@ use Rattle.relay_net.proofs.Turns.{relayed_turn}
 of_octets : (plan : Network) (node : ℕ) (marking : List Mark) (origin : ℕ) (m : Message) → ReadsAgain m → arrival plan node marking origin (message_octets m) ≡ by_called plan node marking origin m (called_of m)
 of_octets plan node marking origin m again = ap (of_message plan node marking origin) (reads_again m again.message again.sound)
 
-pub arrived : {E : Type 0} (r : Result Arrival E) (plan : Network) (node : ℕ) (marking : List Mark) (origin : ℕ) (m : Message) → ReadsAgain m →
-    IfOk r (λ a. a ≡ by_called plan node marking origin m (called_of m)) → IfOk r (λ a. a ≡ arrival plan node marking origin (message_octets m))
-arrived r plan node marking origin m again h = subst (λ (y : Arrival). IfOk r (λ a. a ≡ y)) (sym (of_octets plan node marking origin m again)) h
+pub arrived : {E : Type 0} (r : Result Arrival E) (plan : Network) (node : ℕ) (marking held : List Mark) (origin : ℕ) (m : Message) → ReadsAgain m → marking ≡ held →
+    IfOk r (λ a. a ≡ by_called plan node marking origin m (called_of m)) → IfOk r (λ a. a ≡ arrival plan node held origin (message_octets m))
+arrived r plan node marking held origin m again e h =
+    subst (λ (y : Arrival). IfOk r (λ a. a ≡ y)) (sym (of_octets plan node marking origin m again) ∙ ap (λ (x : List Mark). arrival plan node x origin (message_octets m)) e) h
+
+pub passed_at : {E : Type 0} (r : Result (Option ℕ) E) (plan : Network) (node : ℕ) (marking held : List Mark) (m new : Message) → marking ≡ held →
+    IfOk r (λ pc. IsPassed (λ origin. by_called plan node marking origin m (called_of m)) (sent_on plan node marking m) m new pc) →
+    IfOk r (λ pc. IsPassed (λ origin. by_called plan node held origin m (called_of m)) (sent_on plan node held m) m new pc)
+passed_at r plan node marking held m new e h = subst (λ (x : List Mark). IfOk r (λ pc. IsPassed (λ origin. by_called plan node x origin m (called_of m)) (sent_on plan node x m) m new pc)) e h
 
 -- ---- where it goes
 

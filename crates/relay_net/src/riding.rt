@@ -12,7 +12,7 @@ ghost use Rattle.relay_net.specs.Riding.{GoesOn};
 use crate::holds_marking::HoldsMarking;
 use crate::travelling::{point_of, travel};
 use plan_model::Plan;
-use sccp_base::{List, OutOfMemory, PointCode};
+use sccp_base::{List, Marking, OutOfMemory, PointCode};
 use sccp_message::Message;
 use sccp_scrc::{Arrival, arrive_message, pass_on};
 use std::alloc::Global;
@@ -25,30 +25,17 @@ pub(crate) struct Rest {
     pub(crate) origin: PointCode,
 }
 
-/// The next point of the message, under the marking that the node holds.
-fn pass<S: HoldsMarking>(
-    alloc: Global,
-    plan: &Plan,
-    states: &[S],
-    node: u8,
-    message: &mut Message,
-) -> Result<Option<PointCode>, OutOfMemory>
-    requires node { node < length plan.now.nodes }
-    requires states { length states.now ≡ length plan.now.nodes }
-    ensures { let held = held_at (map S.held states.now) node in
-        IfOk result (λ pc. IsPassed (λ origin. by_called plan.now node held origin message.old (called_of message.old)) (sent_on plan.now node held message.old) message.old message.new pc) }
+/// The marking that a node holds.
+fn marking_at<S: HoldsMarking>(states: &[S], node: u8) -> &Marking
+    requires { node < length states.now }
+    ensures { result.now ≡ held_at (map S.held states.now) node }
 {
-    pass_on(
-        alloc,
-        plan,
-        node,
-        states[usize::from(node)].marking(),
-        message,
-    )
+    states[usize::from(node)].marking()
 }
 
-/// The same, of a message that reads again where it is written: it stays such a message, and goes to a node of the plan.
-fn pass_within<S: HoldsMarking>(
+/// The next point of a message that reads again where it is written, under the marking that the node holds: a node's. The
+/// message stays one that reads again.
+fn pass<S: HoldsMarking>(
     alloc: Global,
     plan: &Plan,
     states: &[S],
@@ -64,7 +51,8 @@ fn pass_within<S: HoldsMarking>(
     ensures within { IfOk result (λ pc. IfSome pc (λ point. node_of plan.now.nodes point < length plan.now.nodes)) }
 {
     let _nodes = plan.nodes();
-    pass(alloc, plan, states, node, message)
+    let marking = marking_at(states, node);
+    pass_on(alloc, plan, node, marking, message)
 }
 
 /// As far as the message is passed on, its nodes behind the path.
@@ -89,7 +77,7 @@ fn ride<S: HoldsMarking>(
     if left == 0 {
         return Ok(Rest { left, node, origin });
     }
-    match pass_within(alloc, plan, states, node, message)? {
+    match pass(alloc, plan, states, node, message)? {
         Some(pc) => {
             path.push(node)?;
             let next = plan.relay_at(pc);
@@ -116,14 +104,8 @@ fn stop_message<S: HoldsMarking>(
     ensures within { IfOk result (λ a. RelaysWithin plan.now a) }
 {
     let _nodes = plan.nodes();
-    arrive_message(
-        alloc,
-        plan,
-        node,
-        states[usize::from(node)].marking(),
-        origin,
-        message,
-    )
+    let marking = marking_at(states, node);
+    arrive_message(alloc, plan, node, marking, origin, message)
 }
 
 /// From here on what is relayed goes on by its octets.

@@ -32,7 +32,13 @@ fn pass_to(message: &mut Message, to: Address) -> bool
 }
 
 /// The point to which a step sends the message on.
-fn pass_by_step(plan: &Plan, node: u8, marking: &Marking, message: &mut Message, step: &Step) -> Option<PointCode>
+fn pass_by_step(
+    plan: &Plan,
+    node: u8,
+    marking: &Marking,
+    message: &mut Message,
+    step: &Step,
+) -> Option<PointCode>
     requires stays { StaysIn plan.now step.now }
     ensures { (address : Address) → called_of message.old ≡ Some address →
         IsPassed (λ origin. after_step plan.now node marking.now origin message.old address step.now) (sent_by address message.old step.now) message.old message.new result }
@@ -41,13 +47,7 @@ fn pass_by_step(plan: &Plan, node: u8, marking: &Marking, message: &mut Message,
         Step::Sent { next, .. } => {
             let pc = own_point(plan, next.node);
             match relay_address(message, *next) {
-                Some(to) => {
-                    if pass_to(message, to) {
-                        Some(pc)
-                    } else {
-                        None
-                    }
-                }
+                Some(to) => { if pass_to(message, to) { Some(pc) } else { None } }
                 None => None,
             }
         }
