@@ -1,13 +1,11 @@
 -- what lengths say of writing
 use Rattle.std.specs.Prelude.{◌≡◌, ℕ, ◌+◌, ◌*◌, ◌-◌, ◌%◌, ◌==◌, ◌≤◌, ◌⊎◌, nat_le, Bool, true, cond, List, [], ◌∷◌, ◌++◌, length, Option, Some, None, option_map, refl}
-use Rattle.std.specs.List.{list_all}
 use Rattle.std.specs.Option.{option_or, option_to_list}
-use Rattle.std.proofs.Common.{suc, sym, ap, subst, arith, inl, inr, ⊎_elim, length-append}
+use Rattle.std.proofs.Common.{suc, sym, subst, arith, inl, inr, ⊎_elim, length-append}
 use Rattle.std.proofs.lemmas.Bool.{le-leb}
 use Rattle.sccp_base.specs.Bcd.{packed}
 use Rattle.sccp_base.specs.Selector.{Numbers}
 use Rattle.sccp_address.specs.declared.address.Address.{Address}
-use Rattle.sccp_address.specs.declared.address.Title.{Title}
 use Rattle.sccp_address.specs.declared.address.Title.TheVariants.{Global}
 use Rattle.sccp_address.specs.Written.{title_octets, written, point_code_octets, heading}
 use Rattle.sccp_layout.specs.Joining.{are_short}

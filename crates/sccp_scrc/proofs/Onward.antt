@@ -1,27 +1,22 @@
 -- what goes on to the next relay reads again
-use Rattle.std.specs.Prelude.{◌≡◌, ℕ, Bool, true, false, not, List, [], Option, Some, None, Result, Ok, Err, IfOk, option_map, refl}
-use Rattle.std.specs.Option.{option_and_then, option_map_or}
-use Rattle.std.proofs.Common.{sym, ◌∙◌, ap, subst}
+use Rattle.std.specs.Prelude.{◌≡◌, ℕ, List, Option, Some, None, refl}
+use Rattle.std.specs.Option.{option_and_then}
+use Rattle.std.proofs.Common.{subst}
 use Rattle.sccp_base.specs.declared.mark.Mark.{Mark}
 use Rattle.sccp_address.specs.declared.address.Address.{Address}
 use Rattle.sccp_message.specs.declared.message.Message.{Message}
-use Rattle.sccp_message.specs.Written.{message_octets, Writable}
 use Rattle.plan_model.specs.declared.spot.Spot.{Spot}
 use Rattle.plan_model.specs.declared.hop.Step.{Step}
 use Rattle.plan_model.specs.declared.hop.Step.TheVariants as steps
 use Rattle.plan_model.specs.Network.{Network, IsPlan}
 use Rattle.plan_model.specs.Steps.{step}
 use Rattle.plan_model.proofs.Leading.{Facts, step_facts}
-use Rattle.sccp_scrc.specs.declared.arrival.Arrival.{Arrival}
-use Rattle.sccp_scrc.specs.declared.arrival.Arrival.TheVariants.{Relayed}
-use Rattle.sccp_scrc.specs.Unitdata.{called_of, hops_of, redirected, octets_of}
+use Rattle.sccp_scrc.specs.Unitdata.{called_of, redirected}
 use Rattle.sccp_scrc.specs.Rewriting.{one_less, to_relay, spot_of}
-use Rattle.sccp_scrc.specs.Returning.{returned}
-use Rattle.sccp_scrc.specs.Arriving.{point_of, leaving, after_step, translated, is_last_hop, at_subsystem, at_title, by_called}
-use Rattle.sccp_scrc.specs.Passing.{sent_by, sent_from, sent_on, IsPassed, ReadsAgain}
-use Rattle.sccp_scrc.proofs.Redirected.{octets_written, IsMessage-redirected, Sound-redirected, called_kept}
+use Rattle.sccp_scrc.specs.Passing.{sent_by, sent_from, sent_on, ReadsAgain}
+use Rattle.sccp_scrc.proofs.Redirected.{IsMessage-redirected, Sound-redirected, called_kept}
 use Rattle.sccp_scrc.proofs.Addresses.{IsSpot, IsSpot-sent, IsAddress-relay}
-use Rattle.sccp_scrc.proofs.Arrivals.{if_false, is_spot}
+use Rattle.sccp_scrc.proofs.Arrivals.{is_spot}
 
 by_step : (plan : Network) (marking : List Mark) (m new : Message) (a : Address) (s : Spot) (x : Step) → IsPlan plan → IsSpot s → ReadsAgain m → Facts plan s marking x → sent_by a m x ≡ Some new → ReadsAgain new
 by_step plan marking m new a s (steps.Sent next target) is spot h facts e =

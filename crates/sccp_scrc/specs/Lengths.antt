@@ -1,5 +1,5 @@
 -- Lengths with which a message can be written, whatever else it says (ITU-T Q.713 sections 2.2 and 2.3).
-use Rattle.std.specs.Prelude.{◌≡◌, ℕ, ◌+◌, ◌≤◌, ◌⊎◌, true, List, [], length}
+use Rattle.std.specs.Prelude.{◌≡◌, ℕ, ◌+◌, ◌≤◌, ◌⊎◌, true, List, []}
 use Rattle.sccp_layout.specs.Joining.{are_short}
 use Rattle.sccp_layout.specs.Parameter.{Parameter}
 

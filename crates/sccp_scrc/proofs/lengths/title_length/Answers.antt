@@ -1,4 +1,4 @@
-use Rattle.std.proofs.Common.{◌≡◌, ◌≤◌, ℕ, length, ◌+◌, ◌*◌, arith, sym, ap, subst}
+use Rattle.std.proofs.Common.{◌≤◌, length, ◌+◌, arith, sym, subst}
 use Rattle.std.proofs.lemmas.Grind.{div_ceil_times}
 use Rattle.sccp_address.specs.declared.address.Title.{Title}
 use Rattle.sccp_address.specs.Written.{title_octets}
