@@ -6,3 +6,4 @@ pub mod Sends
 pub mod Places
 pub mod Delivering
 pub mod Rows
+pub mod Passages

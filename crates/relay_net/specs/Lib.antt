@@ -1,5 +1,6 @@
 pub mod Relays
 pub mod Journeys
+pub mod Riding
 pub mod Headline
 pub mod States
 pub mod Batches

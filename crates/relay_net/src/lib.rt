@@ -21,6 +21,7 @@ mod laws;
 mod net;
 mod node_state;
 mod outcome;
+mod riding;
 mod sending;
 mod served;
 mod travelled;

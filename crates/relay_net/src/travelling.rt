@@ -2,7 +2,6 @@ ghost use Rattle.std.specs.Prelude.{◌≡◌, ◌<◌, ◌++◌, length, map, S
 ghost use Rattle.plan_model.specs.declared.spot.Spot.{Spot};
 ghost use Rattle.plan_model.specs.Network.{node_of};
 ghost use Rattle.sccp_message.specs.declared.message.Message.{Message};
-ghost use Rattle.sccp_message.specs.Reading.{reading};
 ghost use Rattle.sccp_scrc.specs.Arriving.{arrival, point_of};
 ghost use Rattle.relay_net.specs.Journeys.{held_at, travel, most_arrivals, trip_of, end_at, end_of, service_in, last_node, back_by, back_of, journey};
 ghost use Rattle.relay_net.specs.Headline.{IsCoveredMessage, GoesWell, IsCutOff};
@@ -11,6 +10,7 @@ ghost use Rattle.relay_net.specs.Relays.{RelaysWithin};
 use crate::back::Back;
 use crate::end::End;
 use crate::holds_marking::HoldsMarking;
+use crate::riding::travel_unwritten;
 use crate::travelled::Journey;
 use plan_check::Accepted;
 use plan_model::Plan;
@@ -43,7 +43,7 @@ fn stop<S: HoldsMarking>(
     )
 }
 
-fn point_of(plan: &Plan, node: u8) -> PointCode
+pub(crate) fn point_of(plan: &Plan, node: u8) -> PointCode
     requires { node < length plan.now.nodes }
     ensures { result ≡ point_of plan.now node }
 {
@@ -51,7 +51,7 @@ fn point_of(plan: &Plan, node: u8) -> PointCode
 }
 
 /// So many arrivals at most, after the nodes of the path; the last arrival, or none where the message is cut off.
-fn travel<S: HoldsMarking>(
+pub(crate) fn travel<S: HoldsMarking>(
     alloc: Global,
     plan: &Plan,
     states: &[S],
@@ -102,13 +102,29 @@ fn most_arrivals_of(message: &Message) -> u8
     }
 }
 
-fn most_arrivals(alloc: Global, octets: &[u8]) -> Result<u8, OutOfMemory>
-    ensures { IfOk result (λ most. most ≡ most_arrivals (reading octets.now)) }
+/// The nodes that octets come to, behind the path, and the last arrival, or none where the message is cut off. The message is
+/// read here alone.
+fn follow<S: HoldsMarking>(
+    alloc: Global,
+    plan: &Plan,
+    states: &[S],
+    entry: u8,
+    origin: PointCode,
+    octets: &[u8],
+    path: &mut List<u8>,
+) -> Result<Option<Arrival>, OutOfMemory>
+    requires entry { entry < length plan.now.nodes }
+    requires states { length states.now ≡ length plan.now.nodes }
+    ensures last { IfOk result (λ last. last ≡ (trip_of plan.now (map S.held states.now) entry origin octets.now).last) }
+    ensures path { IfOk result (λ last. path.new ≡ path.old ++ (trip_of plan.now (map S.held states.now) entry origin octets.now).path) }
 {
     match decode(alloc, octets) {
-        Ok(message) => Ok(most_arrivals_of(&message)),
+        Ok(message) => {
+            let left = most_arrivals_of(&message);
+            travel_unwritten(alloc, plan, states, left, entry, origin, message, path)
+        }
         Err(DecodeFault::OutOfMemory) => Err(OutOfMemory),
-        Err(_) => Ok(14),
+        Err(_) => travel(alloc, plan, states, 14, entry, origin, octets, path),
     }
 }
 
@@ -128,9 +144,8 @@ fn trip<S: HoldsMarking>(
     ensures within { IfOk result (λ t. last_node 0 t.0 < length plan.now.nodes) }
 {
     let _nodes = plan.nodes();
-    let left = most_arrivals(alloc, octets)?;
     let mut path = List::new(alloc);
-    let last = travel(alloc, plan, states, left, entry, origin, octets, &mut path)?;
+    let last = follow(alloc, plan, states, entry, origin, octets, &mut path)?;
     Ok((path, last))
 }
 

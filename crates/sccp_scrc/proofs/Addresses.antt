@@ -25,7 +25,7 @@ use Rattle.sccp_scrc.specs.Rewriting.{ssn_after, to_relay, to_place, spot_of}
 
 -- ---- how long an address is
 
-length-packed : (ds : List ℕ) (n : ℕ) → length ds ≤ 2 * n → length (packed ds) ≤ n
+pub length-packed : (ds : List ℕ) (n : ℕ) → length ds ≤ 2 * n → length (packed ds) ≤ n
 length-packed [] n le = omega arith
 length-packed (d ∷ []) n le = let k : 1 ≤ 2 * n = le in omega (arith, k)
 length-packed (d ∷ e ∷ ds) n le =
@@ -33,7 +33,7 @@ length-packed (d ∷ e ∷ ds) n le =
     let r = length-packed ds (n - 1) (omega (arith, k)) in
     let goal : suc (length (packed ds)) ≤ n = omega (arith, r, k) in goal
 
-length-heading : (s : Numbers) (odd : Bool) → length (heading s odd) ≤ 3
+pub length-heading : (s : Numbers) (odd : Bool) → length (heading s odd) ≤ 3
 length-heading s odd = chosen (s.kind == 1) (s.kind == 2) (s.kind == 3)
   where
     chosen : (a b c : Bool) → length (if a then (s.nature + 128 * flag odd) ∷ [] else if b then s.translation ∷ [] else if c then s.translation ∷ (16 * s.plan + (if odd then 1 else 2)) ∷ [] else s.translation ∷ (16 * s.plan + (if odd then 1 else 2)) ∷ s.nature ∷ []) ≤ 3

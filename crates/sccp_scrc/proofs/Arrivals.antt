@@ -113,25 +113,30 @@ pub IsTitled-reads : (m : Message) (a : Address) (s : Spot) → IsTitled m a s �
 IsTitled-reads m a s c = reads_again m c.message c.sound
 
 -- what is read of octets, as a title's message
-pub IsTitled-read : (b : List ℕ) (node : ℕ) (m : Message) (a : Address) (s : Spot) → AreOctets b → reading b ≡ Ok m → called_of m ≡ Some a → a.by_ssn ≡ false → spot_of node a ≡ Some s → IsTitled m a s
-IsTitled-read b node m a s octets reads called by_title at =
-    let r : Reads b m = message_takes b m reads in
-    let message : IsMessage m = reads_kept b m octets r in
-    let address : IsAddress a = called_kept a m called message in
+-- the spot of an address keeps what titles keep
+pub is_spot : (node : ℕ) (a : Address) (s : Spot) → IsAddress a → spot_of node a ≡ Some s → IsSpot s
+is_spot node a s address at =
     let t = spot_title node a s at in
     let title = subst IsTitle t.0 address.title in
-    record {
-      called = called;
-      by_title = by_title;
-      at = subst (λ n. spot_of n a ≡ Some s) t.2 at;
-      spot = record { selector = title.0; few = title.1; halves = title.2; even = title.3; ssn = subst (λ n. n < 256) t.1 (fits a.ssn address.ssn) };
-      message = message;
-      sound = reads_sound b m r;
-    }
+    record { selector = title.0; few = title.1; halves = title.2; even = title.3; ssn = subst (λ n. n < 256) t.1 (fits a.ssn address.ssn) }
   where
     fits : (o : Option ℕ) → IfSome o (λ n. n < 256) → unwrap_or o 0 < 256
     fits None k = omega arith
     fits (Some n) k = k
+
+pub IsTitled-read : (b : List ℕ) (node : ℕ) (m : Message) (a : Address) (s : Spot) → AreOctets b → reading b ≡ Ok m → called_of m ≡ Some a → a.by_ssn ≡ false → spot_of node a ≡ Some s → IsTitled m a s
+IsTitled-read b node m a s octets reads called by_title at =
+    let r : Reads b m = message_takes b m reads in
+    let message : IsMessage m = reads_kept b m octets r in
+    let t = spot_title node a s at in
+    record {
+      called = called;
+      by_title = by_title;
+      at = subst (λ n. spot_of n a ≡ Some s) t.2 at;
+      spot = is_spot node a s (called_kept a m called message) at;
+      message = message;
+      sound = reads_sound b m r;
+    }
 
 -- ---- the next node
 

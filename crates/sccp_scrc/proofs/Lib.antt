@@ -4,3 +4,5 @@ pub mod Arrivals
 pub mod Behind
 pub mod StepEnds
 pub mod Meaning
+pub mod Fits
+pub mod Onward

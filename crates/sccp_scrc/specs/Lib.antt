@@ -5,3 +5,5 @@ pub mod Returning
 pub mod Arriving
 pub mod Unchanged
 pub mod Outcomes
+pub mod Lengths
+pub mod Passing

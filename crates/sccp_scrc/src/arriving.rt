@@ -21,7 +21,7 @@ use sccp_base::{List, Mark, Marking, OutOfMemory, PointCode};
 use sccp_message::{DecodeFault, Message, decode};
 use std::alloc::Global;
 
-fn own_point(plan: &Plan, node: u8) -> PointCode
+pub(crate) fn own_point(plan: &Plan, node: u8) -> PointCode
     requires { node < length plan.now.nodes }
     ensures { result ≡ point_of plan.now node }
 {
@@ -122,7 +122,7 @@ fn after(
 }
 
 /// Whether the hop counter is used up by one more translation.
-fn is_last_hop(hops: Option<u8>) -> bool
+pub(crate) fn is_last_hop(hops: Option<u8>) -> bool
     ensures { result ≡ is_last_hop hops }
 {
     match hops {
@@ -158,7 +158,7 @@ fn at_title(
 }
 
 /// How a message is routed: on SSN or not, and its SSN. A connection-oriented one isn't routed by its called address.
-fn routing(message: &Message) -> Option<(bool, Option<u8>)>
+pub(crate) fn routing(message: &Message) -> Option<(bool, Option<u8>)>
     ensures { result ≡ option_map (λ a. (a.by_ssn, a.ssn)) (called_of message.now) }
 {
     match called(message) {
@@ -167,8 +167,9 @@ fn routing(message: &Message) -> Option<(bool, Option<u8>)>
     }
 }
 
-/// What becomes of a message.
-fn of_message(
+/// What becomes of a message that comes from the point `origin` to the node at this place of the plan, which holds the
+/// marking: what becomes of its octets (`arrive`).
+pub fn arrive_message(
     alloc: Global,
     plan: &Plan,
     node: u8,
@@ -204,7 +205,7 @@ fn of_octets(
     ensures { IfOk result (λ a. a ≡ arrival plan.now node marking.now origin octets.now) }
 {
     match decode(alloc, octets) {
-        Ok(message) => of_message(alloc, plan, node, marking, origin, message),
+        Ok(message) => arrive_message(alloc, plan, node, marking, origin, message),
         Err(DecodeFault::OutOfMemory) => Err(OutOfMemory),
         Err(fault) => Ok(Arrival::Undecodable(fault)),
     }

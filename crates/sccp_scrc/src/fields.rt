@@ -60,3 +60,24 @@ pub(crate) fn redirect(message: Message, called: Address, hops: u8) -> (Message,
         Xudt class Xudts cause Ludt class Ludts cause
     }
 }
+
+// The change in place, by types as above.
+macro_rules! by_type_in_place {
+    ($message:expr, $called:expr, $hops:expr; $($plain:ident)*; $($counted:ident)*) => {
+        match $message {
+            $(Message::$plain { called, .. } => *called = $called,)*
+            $(Message::$counted { called, hops, .. } => {
+                *called = $called;
+                *hops = $hops;
+            })*
+            _ => {}
+        }
+    };
+}
+
+/// Another called address in place and, where the message has one, another hop counter.
+pub(crate) fn redirect_in_place(message: &mut Message, to: Address, count: u8)
+    ensures { message.new ≡ redirected to (λ n. count) message.old }
+{
+    by_type_in_place! { message, to, count; Udt Udts; Xudt Xudts Ludt Ludts }
+}

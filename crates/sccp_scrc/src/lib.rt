@@ -11,13 +11,16 @@ mod arrival;
 mod arriving;
 mod fields;
 mod leaving;
+mod lengths;
+mod passing;
 mod returning;
 mod rewriting;
 mod service;
 mod way;
 
 pub use arrival::Arrival;
-pub use arriving::arrive;
+pub use arriving::{arrive, arrive_message};
+pub use passing::pass_on;
 pub use rewriting::{one_less, onward_address, spot};
 pub use service::Service;
 pub use way::Way;

@@ -1,12 +1,12 @@
 //! How a relay rewrites a message: the called address, and the hop counter (Q.714 section 2).
-ghost use Rattle.std.specs.Prelude.{◌≡◌, ◌<◌, ℕ, length, IfSome, IsSome, Some, unwrap_or};
+ghost use Rattle.std.specs.Prelude.{◌≡◌, ◌<◌, ℕ, length, IfSome, IsSome, Some, unwrap_or, option_map};
 ghost use Rattle.sccp_address.specs.declared.address.Address.{Address};
 ghost use Rattle.sccp_message.specs.declared.message.Message.{Message};
 ghost use Rattle.sccp_scrc.specs.Unitdata.{called_of, hops_of, redirected};
 ghost use Rattle.sccp_scrc.specs.Rewriting.{one_less, ssn_after, rerouted, to_relay, to_place, spot_of};
 ghost use Rattle.sccp_scrc.specs.Next.{onward_address, new_address, spot_in};
 
-use crate::fields::{called, hops, redirect};
+use crate::fields::{called, hops, redirect, redirect_in_place};
 use plan_model::{Spot, Step};
 use sccp_address::{Address, Title};
 use sccp_message::Message;
@@ -90,6 +90,16 @@ pub(crate) fn address_after(message: &Message, spot: &Spot, step: &Step) -> Opti
     onward_address(address, spot, step)
 }
 
+/// The called address to a relay, of a message that has one.
+pub(crate) fn relay_address(message: &Message, next: Spot) -> Option<Address>
+    ensures { result ≡ option_map (λ a. to_relay a next) (called_of message.now) }
+{
+    match called(message) {
+        Some(address) => Some(to_relay(address, next)),
+        None => None,
+    }
+}
+
 /// The message to another called address, its hop counter one less, and the called address that it had.
 pub(crate) fn rewrite(message: Message, called: Address) -> (Message, Option<Address>)
     ensures changed { result.0 ≡ redirected called one_less message }
@@ -97,6 +107,14 @@ pub(crate) fn rewrite(message: Message, called: Address) -> (Message, Option<Add
 {
     let before = hops(&message).unwrap_or(0);
     redirect(message, called, one_less(before))
+}
+
+/// The same in place.
+pub(crate) fn rewrite_in_place(message: &mut Message, called: Address)
+    ensures { message.new ≡ redirected called one_less message.old }
+{
+    let before = hops(message).unwrap_or(0);
+    redirect_in_place(message, called, one_less(before));
 }
 
 /// The message with the called address and the hop counter that it had.

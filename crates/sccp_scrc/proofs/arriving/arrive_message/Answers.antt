@@ -1,7 +1,7 @@
 use Rattle.std.proofs.Common.{sym, ◌∙◌}
 use Rattle.sccp_scrc.specs.Unitdata.{called_of}
 use Rattle.sccp_scrc.proofs.Behind.{titled}
-use Rattle.sccp_scrc.proofs.arriving.of_message.Goals as goal
+use Rattle.sccp_scrc.proofs.arriving.arrive_message.Goals as goal
 
 pub returns-else-by_ssn : goal.returns-else-by_ssn
 returns-else-by_ssn c =
