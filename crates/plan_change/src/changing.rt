@@ -10,12 +10,13 @@ use crate::answer::Change;
 use crate::carrying::{carry_all, stop_at};
 use crate::change_fault::ChangeFault;
 use crate::halt::Halt;
+use crate::plans::Plans;
 use crate::stop::Stop;
 use crate::walking::{Walk, least_way, walk_on};
 use crate::way::Way;
 use crate::witness::broken;
 use plan_check::Accepted;
-use plan_model::{Plan, have_same_nodes};
+use plan_model::have_same_nodes;
 use sccp_base::{List, OutOfMemory};
 use std::alloc::Global;
 
@@ -28,25 +29,27 @@ pub fn change(alloc: Global, old: &Accepted, new: &Accepted) -> Result<Change, C
     ensures same { IfOk result (λ _. SameNodes old.now.plan new.now.plan) }
     ensures other { (result ≡ Err faults.OtherNodes) ↔ (SameNodes old.now.plan new.now.plan → ⊥) }
 {
-    let old = old.plan();
-    let new = new.plan();
-    if !have_same_nodes(old, new) {
+    let plans = Plans {
+        old: old.plan(),
+        new: new.plan(),
+    };
+    if !have_same_nodes(plans.old, plans.new) {
         return Err(ChangeFault::OtherNodes);
     }
-    Ok(mixture(alloc, old, new)?)
+    Ok(mixture(alloc, &plans)?)
 }
 
 /// The answer on two plans of the same nodes.
-fn mixture(alloc: Global, old: &Plan, new: &Plan) -> Result<Change, OutOfMemory>
-    requires same { length old.now.nodes ≡ length new.now.nodes }
-    requires old { IsPlan old.now }
-    requires new { IsPlan new.now }
-    ensures { IfOk result (IsLawfulChange old.now new.now) }
+fn mixture(alloc: Global, plans: &Plans<'_>) -> Result<Change, OutOfMemory>
+    requires same { length plans.now.old.now.nodes ≡ length plans.now.new.now.nodes }
+    requires old { IsPlan plans.now.old.now }
+    requires new { IsPlan plans.now.new.now }
+    ensures { IfOk result (IsLawfulChange plans.now.old.now plans.now.new.now) }
 {
-    match walk_on(alloc, old, new) {
-        Ok(Walk::Through(layers)) => kept(alloc, old, new, layers.as_slice()),
+    match walk_on(alloc, plans) {
+        Ok(Walk::Through(layers)) => kept(alloc, plans, layers.as_slice()),
         Ok(Walk::Bad(layers, place, way)) => {
-            break_by(alloc, old, new, layers.as_slice(), place, way)
+            break_by(alloc, plans, layers.as_slice(), place, way)
         }
         Err(Halt::Wide) => Ok(Change::TooWide),
         Err(Halt::OutOfMemory) => Err(OutOfMemory),
@@ -54,13 +57,13 @@ fn mixture(alloc: Global, old: &Plan, new: &Plan) -> Result<Change, OutOfMemory>
 }
 
 /// The answer where no hop behind the last one with stops has any.
-fn kept(alloc: Global, old: &Plan, new: &Plan, layers: &[List<Stop>]) -> Result<Change, OutOfMemory>
-    requires same { length old.now.nodes ≡ length new.now.nodes }
-    requires old { IsPlan old.now }
-    requires new { IsPlan new.now }
-    requires layers { AreLayers old.now new.now layers.now }
+fn kept(alloc: Global, plans: &Plans<'_>, layers: &[List<Stop>]) -> Result<Change, OutOfMemory>
+    requires same { length plans.now.old.now.nodes ≡ length plans.now.new.now.nodes }
+    requires old { IsPlan plans.now.old.now }
+    requires new { IsPlan plans.now.new.now }
+    requires layers { AreLayers plans.now.old.now plans.now.new.now layers.now }
     requires last { (hop : ℕ) → length layers.now ≡ hop + 1 → stops_at layers.now hop ≡ [] }
-    ensures { IfOk result (IsLawfulChange old.now new.now) }
+    ensures { IfOk result (IsLawfulChange plans.now.old.now plans.now.new.now) }
 {
     let bound = layers.len() - 1;
     if bound == 0 {
@@ -71,7 +74,7 @@ fn kept(alloc: Global, old: &Plan, new: &Plan, layers: &[List<Stop>]) -> Result<
         });
     }
     let way = least_way(alloc, stop_at(layers, bound - 1, 0))?;
-    let Way { spot, turns } = carry_all(alloc, old, new, layers, bound - 1, 0, way)?;
+    let Way { spot, turns } = carry_all(alloc, plans, layers, bound - 1, 0, way)?;
     Ok(Change::Kept {
         bound: bound as u8,
         spot: Some(spot),
@@ -82,21 +85,20 @@ fn kept(alloc: Global, old: &Plan, new: &Plan, layers: &[List<Stop>]) -> Result<
 /// The answer where a title of a stop of the last hop has a bad end, or that hop is the fifteenth.
 fn break_by(
     alloc: Global,
-    old: &Plan,
-    new: &Plan,
+    plans: &Plans<'_>,
     layers: &[List<Stop>],
     place: usize,
     way: Way,
 ) -> Result<Change, OutOfMemory>
-    requires same { length old.now.nodes ≡ length new.now.nodes }
-    requires old { IsPlan old.now }
-    requires new { IsPlan new.now }
-    requires layers { AreLayers old.now new.now layers.now }
-    requires ends { EndsWalk old.now new.now layers.now place way }
-    ensures { IfOk result (IsLawfulChange old.now new.now) }
+    requires same { length plans.now.old.now.nodes ≡ length plans.now.new.now.nodes }
+    requires old { IsPlan plans.now.old.now }
+    requires new { IsPlan plans.now.new.now }
+    requires layers { AreLayers plans.now.old.now plans.now.new.now layers.now }
+    requires ends { EndsWalk plans.now.old.now plans.now.new.now layers.now place way }
+    ensures { IfOk result (IsLawfulChange plans.now.old.now plans.now.new.now) }
 {
     let hop = layers.len() - 1;
     let number = stop_at(layers, hop, place).class.cover();
-    let Way { spot, turns } = carry_all(alloc, old, new, layers, hop, place, way)?;
-    broken(alloc, old, new, number, &spot, turns)
+    let Way { spot, turns } = carry_all(alloc, plans, layers, hop, place, way)?;
+    broken(alloc, plans, number, &spot, turns)
 }

@@ -14,103 +14,95 @@ ghost use Rattle.plan_change.specs.Ways.{PairAllows, Forbids, IsBadHere};
 
 use crate::entering::enter;
 use crate::halt::Halt;
-use crate::stop::{Origin, Stop};
+use crate::open_hop::OpenHop;
+use crate::plans::Plans;
+use crate::stop::Origin;
 use crate::way::{Way, one_turn, spot_of};
-use plan_check::{Ranks, allows};
+use plan_check::allows;
 use plan_classes::{Class, Image, class_row, image_by, opening, reaches_by, sample};
 use plan_mixed::{Which, new_of, old_of};
 use plan_model::Plan;
 use plan_rules::Row;
-use sccp_base::{Digits, List, Marking, OutOfMemory, PointCode};
+use sccp_base::{Digits, Marking, OutOfMemory, PointCode};
 use std::alloc::Global;
 
 /// Puts the titles that a class's titles become among the stops of the next hop, or tells a title with a bad end.
 pub(crate) fn follow(
     alloc: Global,
-    old: &Plan,
-    new: &Plan,
+    plans: &Plans<'_>,
     class: &Class,
     place: usize,
-    met: &mut Ranks,
-    there: &mut List<Stop>,
+    hop: &mut OpenHop,
 ) -> Result<Option<Way>, Halt>
-    requires same { length old.now.nodes ≡ length new.now.nodes }
-    requires node { class.now.node < length old.now.nodes }
-    requires pair { IsPair old.now new.now class.now.cover }
-    requires decided { BothDecided old.now new.now class.now }
-    requires reached { (depth : ℕ) × (depth < 14) × MixedReachable old.now new.now depth class.now }
-    requires met { IsMet old.now new.now met.old there.old }
-    ensures met { OnOk result (IsMet old.now new.now met.new there.new) }
-    ensures grows { OnOk result (Grows there.old there.new (ComesFrom old.now new.now class.now place)) }
-    ensures well { IfOk result (λ way. way ≡ None → LeadsInto old.now new.now class.now there.new) }
-    ensures bad { IfOk result (λ way. IfSome way (IsBadHere old.now new.now class.now)) }
-    ensures wide { result ≡ Err halts.Wide → MixedReachAtLeast old.now new.now 262144 }
+    requires same { length plans.now.old.now.nodes ≡ length plans.now.new.now.nodes }
+    requires node { class.now.node < length plans.now.old.now.nodes }
+    requires pair { IsPair plans.now.old.now plans.now.new.now class.now.cover }
+    requires decided { BothDecided plans.now.old.now plans.now.new.now class.now }
+    requires reached { (depth : ℕ) × (depth < 14) × MixedReachable plans.now.old.now plans.now.new.now depth class.now }
+    requires met { IsMet plans.now.old.now plans.now.new.now hop.old.met hop.old.stops }
+    ensures met { OnOk result (IsMet plans.now.old.now plans.now.new.now hop.new.met hop.new.stops) }
+    ensures grows { OnOk result (Grows hop.old.stops hop.new.stops (ComesFrom plans.now.old.now plans.now.new.now class.now place)) }
+    ensures well { IfOk result (λ way. way ≡ None → LeadsInto plans.now.old.now plans.now.new.now class.now hop.new.stops) }
+    ensures bad { IfOk result (λ way. IfSome way (IsBadHere plans.now.old.now plans.now.new.now class.now)) }
+    ensures wide { result ≡ Err halts.Wide → MixedReachAtLeast plans.now.old.now plans.now.new.now 262144 }
 {
-    match follow_plan(alloc, old, new, Which::Old, old, class, place, met, there)? {
+    match follow_plan(alloc, plans, Which::Old, class, place, hop)? {
         Some(way) => Ok(Some(way)),
-        None => follow_plan(alloc, old, new, Which::New, new, class, place, met, there),
+        None => follow_plan(alloc, plans, Which::New, class, place, hop),
     }
 }
 
 /// The same under one plan.
 fn follow_plan(
     alloc: Global,
-    old: &Plan,
-    new: &Plan,
+    plans: &Plans<'_>,
     which: Which,
-    plan: &Plan,
     class: &Class,
     place: usize,
-    met: &mut Ranks,
-    there: &mut List<Stop>,
+    hop: &mut OpenHop,
 ) -> Result<Option<Way>, Halt>
-    requires plan { plan.now ≡ held old.now new.now which }
-    requires same { length old.now.nodes ≡ length new.now.nodes }
-    requires node { class.now.node < length plan.now.nodes }
-    requires pair { IsPair old.now new.now class.now.cover }
-    requires decided { BothDecided old.now new.now class.now }
-    requires reached { (depth : ℕ) × (depth < 14) × MixedReachable old.now new.now depth class.now }
-    requires met { IsMet old.now new.now met.old there.old }
-    ensures met { OnOk result (IsMet old.now new.now met.new there.new) }
-    ensures grows { OnOk result (Grows there.old there.new (ComesFrom old.now new.now class.now place)) }
-    ensures well { IfOk result (λ way. way ≡ None → LeadsUnder old.now new.now plan.now class.now there.new) }
-    ensures bad { IfOk result (λ way. IfSome way (IsBadHere old.now new.now class.now)) }
-    ensures wide { result ≡ Err halts.Wide → MixedReachAtLeast old.now new.now 262144 }
+    requires same { length plans.now.old.now.nodes ≡ length plans.now.new.now.nodes }
+    requires node { class.now.node < length (held plans.now.old.now plans.now.new.now which).nodes }
+    requires pair { IsPair plans.now.old.now plans.now.new.now class.now.cover }
+    requires decided { BothDecided plans.now.old.now plans.now.new.now class.now }
+    requires reached { (depth : ℕ) × (depth < 14) × MixedReachable plans.now.old.now plans.now.new.now depth class.now }
+    requires met { IsMet plans.now.old.now plans.now.new.now hop.old.met hop.old.stops }
+    ensures met { OnOk result (IsMet plans.now.old.now plans.now.new.now hop.new.met hop.new.stops) }
+    ensures grows { OnOk result (Grows hop.old.stops hop.new.stops (ComesFrom plans.now.old.now plans.now.new.now class.now place)) }
+    ensures well { IfOk result (λ way. way ≡ None → LeadsUnder plans.now.old.now plans.now.new.now (held plans.now.old.now plans.now.new.now which) class.now hop.new.stops) }
+    ensures bad { IfOk result (λ way. IfSome way (IsBadHere plans.now.old.now plans.now.new.now class.now)) }
+    ensures wide { result ≡ Err halts.Wide → MixedReachAtLeast plans.now.old.now plans.now.new.now 262144 }
 {
-    match class_row(plan, class) {
-        Some(row) => follow_row(alloc, old, new, which, plan, class, row, place, met, there),
-        None => Ok(Some(without_row(alloc, old, new, which, plan, class)?)),
+    match class_row(plans.held(which), class) {
+        Some(row) => follow_row(alloc, plans, which, class, row, place, hop),
+        None => Ok(Some(without_row(alloc, plans, which, class)?)),
     }
 }
 
 /// The same under a row, which is handed in.
 fn follow_row(
     alloc: Global,
-    old: &Plan,
-    new: &Plan,
+    plans: &Plans<'_>,
     which: Which,
-    plan: &Plan,
     class: &Class,
     row: &Row,
     place: usize,
-    met: &mut Ranks,
-    there: &mut List<Stop>,
+    hop: &mut OpenHop,
 ) -> Result<Option<Way>, Halt>
-    requires plan { plan.now ≡ held old.now new.now which }
-    requires sound { IsPlan plan.now }
+    requires sound { IsPlan (held plans.now.old.now plans.now.new.now which) }
     requires class { IsClass class.now }
-    requires same { length old.now.nodes ≡ length new.now.nodes }
-    requires node { class.now.node < length plan.now.nodes }
-    requires pair { IsPair old.now new.now class.now.cover }
-    requires decided { BothDecided old.now new.now class.now }
-    requires row { class_row plan.now class.now ≡ Some row.now }
-    requires reached { (depth : ℕ) × (depth < 14) × MixedReachable old.now new.now depth class.now }
-    requires met { IsMet old.now new.now met.old there.old }
-    ensures met { OnOk result (IsMet old.now new.now met.new there.new) }
-    ensures grows { OnOk result (Grows there.old there.new (ComesFrom old.now new.now class.now place)) }
-    ensures well { IfOk result (λ way. way ≡ None → LeadsUnder old.now new.now plan.now class.now there.new) }
-    ensures bad { IfOk result (λ way. IfSome way (IsBadHere old.now new.now class.now)) }
-    ensures wide { result ≡ Err halts.Wide → MixedReachAtLeast old.now new.now 262144 }
+    requires same { length plans.now.old.now.nodes ≡ length plans.now.new.now.nodes }
+    requires node { class.now.node < length (held plans.now.old.now plans.now.new.now which).nodes }
+    requires pair { IsPair plans.now.old.now plans.now.new.now class.now.cover }
+    requires decided { BothDecided plans.now.old.now plans.now.new.now class.now }
+    requires row { class_row (held plans.now.old.now plans.now.new.now which) class.now ≡ Some row.now }
+    requires reached { (depth : ℕ) × (depth < 14) × MixedReachable plans.now.old.now plans.now.new.now depth class.now }
+    requires met { IsMet plans.now.old.now plans.now.new.now hop.old.met hop.old.stops }
+    ensures met { OnOk result (IsMet plans.now.old.now plans.now.new.now hop.new.met hop.new.stops) }
+    ensures grows { OnOk result (Grows hop.old.stops hop.new.stops (ComesFrom plans.now.old.now plans.now.new.now class.now place)) }
+    ensures well { IfOk result (λ way. way ≡ None → LeadsUnder plans.now.old.now plans.now.new.now (held plans.now.old.now plans.now.new.now which) class.now hop.new.stops) }
+    ensures bad { IfOk result (λ way. IfSome way (IsBadHere plans.now.old.now plans.now.new.now class.now)) }
+    ensures wide { result ≡ Err halts.Wide → MixedReachAtLeast plans.now.old.now plans.now.new.now 262144 }
 {
     for target in 0..row.target_count() {
         let origin = Origin {
@@ -118,7 +110,7 @@ fn follow_row(
             which,
             target,
         };
-        let found = follow_target(alloc, old, new, plan, class, row, origin, met, there)?;
+        let found = follow_target(alloc, plans, class, row, origin, hop)?;
         if let Some(way) = found {
             return Ok(Some(way));
         }
@@ -129,41 +121,38 @@ fn follow_row(
 /// The same under the target of an origin.
 fn follow_target(
     alloc: Global,
-    old: &Plan,
-    new: &Plan,
-    plan: &Plan,
+    plans: &Plans<'_>,
     class: &Class,
     row: &Row,
     origin: Origin,
-    met: &mut Ranks,
-    there: &mut List<Stop>,
+    hop: &mut OpenHop,
 ) -> Result<Option<Way>, Halt>
-    requires plan { plan.now ≡ held old.now new.now origin.which }
-    requires same { length old.now.nodes ≡ length new.now.nodes }
-    requires node { class.now.node < length plan.now.nodes }
-    requires pair { IsPair old.now new.now class.now.cover }
-    requires decided { BothDecided old.now new.now class.now }
-    requires row { class_row plan.now class.now ≡ Some row.now }
+    requires same { length plans.now.old.now.nodes ≡ length plans.now.new.now.nodes }
+    requires node { class.now.node < length (held plans.now.old.now plans.now.new.now origin.which).nodes }
+    requires pair { IsPair plans.now.old.now plans.now.new.now class.now.cover }
+    requires decided { BothDecided plans.now.old.now plans.now.new.now class.now }
+    requires row { class_row (held plans.now.old.now plans.now.new.now origin.which) class.now ≡ Some row.now }
     requires target { origin.target < length row.now.targets }
-    requires reached { (depth : ℕ) × (depth < 14) × MixedReachable old.now new.now depth class.now }
-    requires met { IsMet old.now new.now met.old there.old }
-    ensures met { OnOk result (IsMet old.now new.now met.new there.new) }
-    ensures grows { OnOk result (Grows there.old there.new (ComesFrom old.now new.now class.now origin.place)) }
-    ensures well { IfOk result (λ way. way ≡ None → ((image : Image) → Reaches plan.now class.now origin.target → HasImage plan.now class.now origin.target image → ImageGoesWell old.now new.now class.now.cover there.new image)) }
-    ensures bad { IfOk result (λ way. IfSome way (IsBadHere old.now new.now class.now)) }
-    ensures wide { result ≡ Err halts.Wide → MixedReachAtLeast old.now new.now 262144 }
+    requires reached { (depth : ℕ) × (depth < 14) × MixedReachable plans.now.old.now plans.now.new.now depth class.now }
+    requires met { IsMet plans.now.old.now plans.now.new.now hop.old.met hop.old.stops }
+    ensures met { OnOk result (IsMet plans.now.old.now plans.now.new.now hop.new.met hop.new.stops) }
+    ensures grows { OnOk result (Grows hop.old.stops hop.new.stops (ComesFrom plans.now.old.now plans.now.new.now class.now origin.place)) }
+    ensures well { IfOk result (λ way. way ≡ None → ((image : Image) → Reaches (held plans.now.old.now plans.now.new.now origin.which) class.now origin.target → HasImage (held plans.now.old.now plans.now.new.now origin.which) class.now origin.target image → ImageGoesWell plans.now.old.now plans.now.new.now class.now.cover hop.new.stops image)) }
+    ensures bad { IfOk result (λ way. IfSome way (IsBadHere plans.now.old.now plans.now.new.now class.now)) }
+    ensures wide { result ≡ Err halts.Wide → MixedReachAtLeast plans.now.old.now plans.now.new.now 262144 }
 {
     let Origin { which, target, .. } = origin;
+    let plan = plans.held(which);
     if !reaches_by(plan, class, row, target) {
         return Ok(None);
     }
     match image_by(plan, class, row, target) {
         Image::Next(next) => {
-            enter(alloc, old, new, &next, origin, met, there)?;
+            enter(alloc, plans, &next, origin, hop)?;
             Ok(None)
         }
         Image::Ends { pc, ssn } => {
-            if both_allow(old, new, class.cover(), pc, ssn) {
+            if both_allow(plans, class.cover(), pc, ssn) {
                 return Ok(None);
             }
             Ok(Some(through(alloc, which, plan, class, target, sample(class))?))
@@ -174,15 +163,15 @@ fn follow_target(
 }
 
 /// Whether both covers of a pair allow a place.
-fn both_allow(old: &Plan, new: &Plan, number: u16, pc: PointCode, ssn: u8) -> bool
-    requires pair { IsPair old.now new.now number }
-    ensures yes { IsTrue result → PairAllows old.now new.now number pc ssn }
-    ensures no { result ≡ false → Forbids old.now (old_of number) pc ssn ⊎ Forbids new.now (new_of number) pc ssn }
+fn both_allow(plans: &Plans<'_>, number: u16, pc: PointCode, ssn: u8) -> bool
+    requires pair { IsPair plans.now.old.now plans.now.new.now number }
+    ensures yes { IsTrue result → PairAllows plans.now.old.now plans.now.new.now number pc ssn }
+    ensures no { result ≡ false → Forbids plans.now.old.now (old_of number) pc ssn ⊎ Forbids plans.now.new.now (new_of number) pc ssn }
 {
-    if !allows(old, old_of(number), pc, ssn) {
+    if !allows(plans.old, old_of(number), pc, ssn) {
         return false;
     }
-    if !allows(new, new_of(number), pc, ssn) {
+    if !allows(plans.new, new_of(number), pc, ssn) {
         return false;
     }
     true
@@ -191,15 +180,12 @@ fn both_allow(old: &Plan, new: &Plan, number: u16, pc: PointCode, ssn: u8) -> bo
 /// The least title of a class for which a plan has no row.
 fn without_row(
     alloc: Global,
-    old: &Plan,
-    new: &Plan,
+    plans: &Plans<'_>,
     which: Which,
-    plan: &Plan,
     class: &Class,
 ) -> Result<Way, OutOfMemory>
-    requires plan { plan.now ≡ held old.now new.now which }
-    requires row { class_row plan.now class.now ≡ None }
-    ensures { IfOk result (IsBadHere old.now new.now class.now) }
+    requires row { class_row (held plans.now.old.now plans.now.new.now which) class.now ≡ None }
+    ensures { IfOk result (IsBadHere plans.now.old.now plans.now.new.now class.now) }
 {
     one_turn(
         alloc,

@@ -17,6 +17,8 @@ mod laws;
 mod layer;
 mod mixed_hop;
 mod mixing;
+mod open_hop;
+mod plans;
 mod starting;
 mod stop;
 mod turn;

@@ -1,0 +1,26 @@
+ghost use Rattle.std.specs.Prelude.{◌≡◌, []};
+
+use crate::stop::Stop;
+use plan_check::Ranks;
+use sccp_base::List;
+use std::alloc::Global;
+
+/// A hop that titles are still put at: the classes that were met at it, each with rank 0, and the stops that have their titles.
+#[derive(Drop)]
+pub(crate) struct OpenHop {
+    pub met: Ranks,
+    pub stops: List<Stop>,
+}
+
+impl OpenHop {
+    /// A hop without a stop.
+    pub(crate) fn new(alloc: Global) -> OpenHop
+        ensures met { result.met ≡ [] }
+        ensures stops { result.stops ≡ [] }
+    {
+        OpenHop {
+            met: Ranks::new(alloc),
+            stops: List::new(alloc),
+        }
+    }
+}
