@@ -24,6 +24,7 @@ mod reading;
 mod replay;
 mod replayer;
 mod route;
+mod send_on;
 mod settle;
 mod settled;
 mod show;
