@@ -68,7 +68,7 @@ passed_within (Ok (Some pc)) plan node marking m new is again h = subst (RelaysW
 pub passed_again : {E : Type 0} (r : Result (Option ℕ) E) (plan : Network) (node : ℕ) (marking : List Mark) (m new : Message) → IsPlan plan → ReadsAgain m →
     IfOk r (λ pc. IsPassed (λ origin. by_called plan node marking origin m (called_of m)) (sent_on plan node marking m) m new pc) → IfOk r (λ pc. ReadsAgain new)
 passed_again (Err e) plan node marking m new is again h = tt
-passed_again (Ok None) plan node marking m new is again h = subst ReadsAgain (sym h) again
+passed_again (Ok None) plan node marking m new is again h = subst ReadsAgain (sym h.0) again
 passed_again (Ok (Some pc)) plan node marking m new is again h = sent_reads plan node marking m new is again h.1
 
 -- ---- one turn
@@ -101,7 +101,7 @@ pub halts : (plan : Network) (states : List (List Mark)) (left node origin : ℕ
     IsPassed (λ origin. by_called plan node (held_at states node) origin m (called_of m)) (sent_on plan node (held_at states node) m) m new o → o ≡ None →
     GoesOn path (travel plan states left node origin (message_octets m)) path (travel plan states left node origin (message_octets new))
 halts plan states left node origin m new o path h is =
-    let k : new ≡ m = subst (IsPassed (λ origin. by_called plan node (held_at states node) origin m (called_of m)) (sent_on plan node (held_at states node) m) m new) is h in
+    let k : new ≡ m = (subst (IsPassed (λ origin. by_called plan node (held_at states node) origin m (called_of m)) (sent_on plan node (held_at states node) m) m new) is h).0 in
     let e = ap (λ (x : Message). travel plan states left node origin (message_octets x)) (sym k) in
     record { last = ap (λ (x : Trip). x.last) e; nodes = ap (λ (x : Trip). path ++ x.path) e }
 

@@ -6,3 +6,4 @@ pub mod StepEnds
 pub mod Meaning
 pub mod Fits
 pub mod Onward
+pub mod Staying

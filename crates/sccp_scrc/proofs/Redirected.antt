@@ -136,6 +136,16 @@ redirected_counted x f (Ludt c j a b d p) = refl
 redirected_counted x f (Ludts c j a b d p) = refl
 redirected_counted x f m = refl
 
+-- the other types have no called address, and stay
+pub redirected_none : (x : Address) (f : ℕ → ℕ) (m : Message) → called_of m ≡ None → redirected x f m ≡ m
+redirected_none x f (Udt c a b d) e = absurd cc
+redirected_none x f (Udts c a b d) e = absurd cc
+redirected_none x f (Xudt c j a b d p) e = absurd cc
+redirected_none x f (Xudts c j a b d p) e = absurd cc
+redirected_none x f (Ludt c j a b d p) e = absurd cc
+redirected_none x f (Ludts c j a b d p) e = absurd cc
+redirected_none x f m e = refl
+
 -- there and back
 pub redirected_back : (x y : Address) (f : ℕ → ℕ) (m : Message) → called_of m ≡ Some x → redirected x (λ n. unwrap_or (hops_of m) 0) (redirected y f m) ≡ m
 redirected_back x y f (Udt c a b d) e = let same : a ≡ x = cc in ap (λ z. Udt c z b d) (sym same)

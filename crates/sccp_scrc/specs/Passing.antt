@@ -1,5 +1,5 @@
 -- A message on its way from relay to relay, which is written only where it leaves them.
-use Rattle.std.specs.Prelude.{◌≡◌, ℕ, List, Option, Some, None}
+use Rattle.std.specs.Prelude.{◌≡◌, ℕ, Bool, true, false, List, Option, Some, None}
 use Rattle.std.specs.Option.{option_and_then}
 use Rattle.sccp_base.specs.declared.mark.Mark.{Mark}
 use Rattle.sccp_address.specs.declared.address.Address.{Address}
@@ -10,7 +10,7 @@ use Rattle.plan_model.specs.declared.hop.Step.TheVariants as steps
 use Rattle.plan_model.specs.Network.{Network}
 use Rattle.plan_model.specs.Steps.{step}
 use Rattle.sccp_scrc.specs.declared.arrival.Arrival.{Arrival}
-use Rattle.sccp_scrc.specs.declared.arrival.Arrival.TheVariants.{Relayed}
+use Rattle.sccp_scrc.specs.declared.arrival.Arrival.TheVariants.{Relayed, Ended, Local, Returned, Connection, Management, Undecodable}
 use Rattle.sccp_scrc.specs.Unitdata.{called_of, redirected}
 use Rattle.sccp_scrc.specs.Rewriting.{one_less, to_relay, spot_of}
 
@@ -29,11 +29,21 @@ sent_from plan node marking m a = option_and_then (λ s. sent_by a m (step plan 
 abbrev pub sent_on : Network → ℕ → List Mark → Message → Option Message
 sent_on plan node marking m = option_and_then (sent_from plan node marking m) (called_of m)
 
+-- the message goes on to another relay
+abbrev pub is_relayed : Arrival → Bool
+is_relayed (Relayed pc octets) = true
+is_relayed (Ended pc ssn octets) = false
+is_relayed (Local ssn m) = false
+is_relayed (Returned cause marks service) = false
+is_relayed (Connection m) = false
+is_relayed (Management m) = false
+is_relayed (Undecodable fault) = false
+
 -- Where a point is told, the new message is the one that goes on, and from whatever origin the old one comes, its arrival tells this point and the octets of
--- the new one. Where none is told, the message stays.
+-- the new one. Where none is told, the message stays, and from no origin is it relayed.
 abbrev pub IsPassed : (ℕ → Arrival) → Option Message → Message → Message → Option ℕ → Type 0
 IsPassed arrived sent old new (Some pc) = ((origin : ℕ) → arrived origin ≡ Relayed pc (message_octets new)) × (sent ≡ Some new)
-IsPassed arrived sent old new None = new ≡ old
+IsPassed arrived sent old new None = (new ≡ old) × ((origin : ℕ) → is_relayed (arrived origin) ≡ false)
 
 -- a message that reads again where it is written
 pub record ReadsAgain (m : Message) : Type 0 where

@@ -5,6 +5,7 @@ ghost use Rattle.sccp_scrc.specs.Unitdata.{called_of, hops_of, redirected};
 
 use sccp_address::Address;
 use sccp_message::Message;
+use std::mem;
 
 pub(crate) fn called(message: &Message) -> Option<&Address>
     ensures { option_copied result ≡ called_of message.now }
@@ -65,19 +66,20 @@ pub(crate) fn redirect(message: Message, called: Address, hops: u8) -> (Message,
 macro_rules! by_type_in_place {
     ($message:expr, $called:expr, $hops:expr; $($plain:ident)*; $($counted:ident)*) => {
         match $message {
-            $(Message::$plain { called, .. } => *called = $called,)*
+            $(Message::$plain { called, .. } => Some(mem::replace(called, $called)),)*
             $(Message::$counted { called, hops, .. } => {
-                *called = $called;
                 *hops = $hops;
+                Some(mem::replace(called, $called))
             })*
-            _ => {}
+            _ => None,
         }
     };
 }
 
-/// Another called address in place and, where the message has one, another hop counter.
-pub(crate) fn redirect_in_place(message: &mut Message, to: Address, count: u8)
-    ensures { message.new ≡ redirected to (λ n. count) message.old }
+/// The same in place: the called address that the message had.
+pub(crate) fn redirect_in_place(message: &mut Message, to: Address, count: u8) -> Option<Address>
+    ensures changed { message.new ≡ redirected to (λ n. count) message.old }
+    ensures old { result ≡ called_of message.old }
 {
     by_type_in_place! { message, to, count; Udt Udts; Xudt Xudts Ludt Ludts }
 }

@@ -109,12 +109,26 @@ pub(crate) fn rewrite(message: Message, called: Address) -> (Message, Option<Add
     redirect(message, called, one_less(before))
 }
 
-/// The same in place.
-pub(crate) fn rewrite_in_place(message: &mut Message, called: Address)
-    ensures { message.new ≡ redirected called one_less message.old }
+/// The same in place: the called address that the message had.
+pub(crate) fn rewrite_in_place(message: &mut Message, called: Address) -> Option<Address>
+    ensures changed { message.new ≡ redirected called one_less message.old }
+    ensures old { result ≡ called_of message.old }
 {
     let before = hops(message).unwrap_or(0);
-    redirect_in_place(message, called, one_less(before));
+    redirect_in_place(message, called, one_less(before))
+}
+
+/// The message with the called address and the hop counter that it had, in place.
+#[tactic(auto, using(crate::proofs::Redirected::redirected_back, crate::proofs::Redirected::redirected_none))]
+pub(crate) fn restore_in_place(message: &mut Message, old: Option<Address>, before: u8)
+    ensures { (x : Address) (f : ℕ → ℕ) (m : Message) → called_of m ≡ old → before ≡ unwrap_or (hops_of m) 0 → message.old ≡ redirected x f m → message.new ≡ m }
+{
+    match old {
+        Some(called) => {
+            let _ = redirect_in_place(message, called, before);
+        }
+        None => {}
+    }
 }
 
 /// The message with the called address and the hop counter that it had.
