@@ -1,6 +1,6 @@
 -- What sending a message on ends with, and what is shown of an arrival of octets.
-use Rattle.std.proofs.Common.{◌≡◌, ℕ, List, [], ◌∷◌, ◌++◌, Option, Some, None, Result, Ok, Err, refl, sym, subst}
-use Rattle.std.specs.Prelude.{Bool, true, false, not, ◌==◌, if◌then◌else◌, codes}
+use Rattle.std.proofs.Common.{◌≡◌, ℕ, List, [], ◌∷◌, Option, Some, None, Result, Ok, Err, refl, sym, ◌∙◌, ap, subst}
+use Rattle.std.specs.Prelude.{Bool, true, false, not, ◌==◌, if◌then◌else◌}
 use Rattle.std.specs.List.{list_all, list_any}
 use Rattle.plan_model.specs.Network.{Network}
 use Rattle.plan_model.specs.Steps.{step}
@@ -25,7 +25,7 @@ use Rattle.sccp_scrc.specs.Unitdata.{called_of, hops_of, octets_of}
 use Rattle.sccp_scrc.specs.declared.arrival.Arrival.{Arrival}
 use Rattle.sccp_scrc.specs.declared.arrival.Arrival.TheVariants.{Relayed, Ended, Local, Returned, Connection, Management, Undecodable}
 use Rattle.sccp_scrc.specs.declared.service.Service.{Service}
-use Rattle.sccp_tool.specs.SendOn.{IsOfOctets, first_line, send_on_text}
+use Rattle.sccp_tool.specs.SendOn.{IsOfOctets, connection_line, first_line, type_line, send_on_text}
 use Rattle.sccp_tool.specs.Task.{SendOn}
 use Rattle.sccp_tool.specs.Work.{answered}
 use Rattle.sccp_tool.specs.declared.send_on.Incoming.{Incoming}
@@ -46,8 +46,8 @@ send_on_causes name incoming = record {
 
 -- ---- the type of a connection-oriented message is the first line of what is shown of it
 
-type_shown : (octets : List ℕ) (m : Message) → called_of m ≡ None → codes "connection " ++ first_line (decoded_text octets (Ok m)) ++ codes "\n" ≡ coupling_words m ++ codes "\n"
-unfolding coupling_words connection_words
+type_shown : (octets : List ℕ) (m : Message) → called_of m ≡ None → type_line (first_line (decoded_text octets (Ok m))) ≡ connection_line m
+unfolding connection_line type_line first_line coupling_words connection_words
 type_shown octets (messages.Cr slr class to params) e = refl
 type_shown octets (messages.Cc dlr slr class params) e = refl
 type_shown octets (messages.Cref dlr cause params) e = refl
@@ -69,9 +69,12 @@ type_shown octets (messages.Xudts cause hops to from payload params) e = cc
 type_shown octets (messages.Ludt class hops to from payload params) e = cc
 type_shown octets (messages.Ludts cause hops to from payload params) e = cc
 
-pub connection_shown : (octets : List ℕ) (m : Message) → reading octets ≡ Ok m → called_of m ≡ None → codes "connection " ++ first_line (message_text octets) ++ codes "\n" ≡ coupling_words m ++ codes "\n"
+shown : (octets : List ℕ) (m : Message) → reading octets ≡ Ok m → message_text octets ≡ decoded_text octets (Ok m)
 unfolding message_text
-connection_shown octets m is e = rw is (type_shown octets m e)
+shown octets m is = ap (decoded_text octets) is
+
+pub connection_shown : (octets : List ℕ) (m : Message) → reading octets ≡ Ok m → called_of m ≡ None → type_line (first_line (message_text octets)) ≡ connection_line m
+connection_shown octets m is e = ap (λ t. type_line (first_line t)) (shown octets m is) ∙ type_shown octets m e
 
 -- ---- an arrival is of its octets
 

@@ -8,6 +8,7 @@ use Rattle.plan_model.specs.Network.{Network, has_name}
 use Rattle.sccp_base.specs.Names.{name_of}
 use Rattle.sccp_base.specs.Text.{cut_at, decimal_of, point_code_of}
 use Rattle.sccp_message.specs.Reading.{reading}
+use Rattle.sccp_message.specs.declared.message.Message.{Message}
 use Rattle.sccp_report.specs.Events.{coupling_words}
 use Rattle.sccp_report.specs.Hops.{marks_text}
 use Rattle.sccp_report.specs.MessageText.{undecodable_line}
@@ -71,13 +72,17 @@ cut_lines pc octets (Err fault) = uncut_lines pc octets fault
 abbrev pub leaving_lines : ℕ → ℕ → List ℕ → List ℕ
 leaving_lines size pc octets = cut_lines pc octets (sending octets size 1)
 
+-- a connection-oriented message
+unfoldable pub connection_line : Message → List ℕ
+connection_line m = coupling_words m ++ codes "\n"
+
 -- what becomes of octets at a relay
 unfoldable pub arrival_lines : ℕ → Arrival → List ℕ
 arrival_lines size (Relayed pc octets) = leaving_lines size pc octets
 arrival_lines size (Ended pc ssn octets) = leaving_lines size pc octets
 arrival_lines size (Local ssn m) = numbered (codes "local ") ssn ++ codes "\n"
 arrival_lines size (Returned cause marks service) = numbered (codes "returned ") cause ++ codes " marks " ++ marks_text marks ++ codes "\n"
-arrival_lines size (Connection m) = coupling_words m ++ codes "\n"
+arrival_lines size (Connection m) = connection_line m
 arrival_lines size (Management m) = codes "management\n"
 arrival_lines size (Undecodable fault) = undecodable_line fault
 
@@ -101,8 +106,12 @@ before_or text None = text
 before_or text (Some parts) = parts.0
 
 -- the first line of a text
-abbrev pub first_line : List ℕ → List ℕ
+unfoldable pub first_line : List ℕ → List ℕ
 first_line text = before_or text (cut_at 10 text)
+
+-- the line of a connection-oriented message of the type with this name
+unfoldable pub type_line : List ℕ → List ℕ
+type_line name = codes "connection " ++ name ++ codes "\n"
 
 -- an arrival of these octets while nothing is prohibited
 abbrev pub IsOfOctets : List ℕ → Arrival → Type 0

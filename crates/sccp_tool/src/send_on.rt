@@ -6,7 +6,6 @@ ghost use Rattle.plan_model.specs.Network.{IsPlan};
 ghost use Rattle.sccp_message.specs.Reading.{reading};
 ghost use Rattle.sccp_message.specs.declared.fault.DecodeFault.{DecodeFault};
 ghost use Rattle.sccp_message.specs.declared.message.Message.{Message};
-ghost use Rattle.sccp_report.specs.Events.{coupling_words};
 ghost use Rattle.sccp_report.specs.MessageText.{undecodable_line};
 ghost use Rattle.sccp_report.specs.Hops.{marks_text};
 ghost use Rattle.sccp_report.specs.Values.{numbered, point_code_text};
@@ -16,7 +15,7 @@ ghost use Rattle.sccp_tool.specs.Commands.{texts};
 ghost use Rattle.sccp_tool.specs.Ending.{Works};
 ghost use Rattle.sccp_tool.specs.Moment.{moment};
 ghost use Rattle.sccp_tool.specs.Parsed.{task_in};
-ghost use Rattle.sccp_tool.specs.SendOn.{IsOfOctets, arrival_lines, first_line, incoming_of, leaving_lines, send_on_of, send_on_text, send_on_words, send_on_work, size_of, to_line, uncut_lines};
+ghost use Rattle.sccp_tool.specs.SendOn.{IsOfOctets, arrival_lines, connection_line, first_line, incoming_of, leaving_lines, send_on_of, send_on_text, send_on_words, send_on_work, size_of, to_line, type_line, uncut_lines};
 
 use crate::command::Command;
 use crate::plans::with_plan;
@@ -47,10 +46,7 @@ pub struct Incoming {
 
 /// Its words: `PLAN NODE ORIGIN SIZE HEX`.
 #[tactic(auto, unfolding(crate::specs::SendOn::send_on_words))]
-pub fn send_on_words(
-    alloc: Global,
-    words: &[String],
-) -> Result<Option<Command<'_>>, OutOfMemory>
+pub fn send_on_words(alloc: Global, words: &[String]) -> Result<Option<Command<'_>>, OutOfMemory>
     ensures { IfOk result (λ command. task_in command ≡ send_on_words (texts words.now)) }
 {
     match words {
@@ -159,12 +155,7 @@ fn send_on_text(alloc: Global, plan: &Plan, incoming: &Incoming) -> Result<Octet
 }
 
 /// What becomes of octets at a node while nothing is prohibited.
-fn text_at(
-    alloc: Global,
-    plan: &Plan,
-    node: u8,
-    incoming: &Incoming,
-) -> Result<Octets, OutOfMemory>
+fn text_at(alloc: Global, plan: &Plan, node: u8, incoming: &Incoming) -> Result<Octets, OutOfMemory>
     requires { node < length plan.now.nodes }
     ensures { IfOk result (λ text. text ≡ arrival_lines incoming.now.size (arrival plan.now node [] incoming.now.origin incoming.now.octets)) }
 {
@@ -305,17 +296,25 @@ fn put_returned(text: &mut Text, cause: u8) -> Result<(), OutOfMemory>
 }
 
 /// Appends the line of a connection-oriented message, whose type is the first line of what is shown of it.
-#[tactic(auto, using(crate::proofs::SendOnLemmas::connection_shown))]
 fn put_connection(alloc: Global, text: &mut Text, octets: &[u8]) -> Result<(), OutOfMemory>
-    ensures { (m : Message) → reading octets.now ≡ Ok m → called_of m ≡ None → OnOk result (text.new ≡ text.old ++ coupling_words m ++ codes "\n") }
+    ensures { (m : Message) → reading octets.now ≡ Ok m → called_of m ≡ None → OnOk result (text.new ≡ text.old ++ connection_line m) }
 {
     let shown = message_text(alloc, octets)?;
+    put_type(text, first_line(shown.as_slice()))
+}
+
+/// Appends the line of a connection-oriented message of a type.
+#[tactic(auto, unfolding(crate::specs::SendOn::type_line))]
+fn put_type(text: &mut Text, name: &[u8]) -> Result<(), OutOfMemory>
+    ensures { OnOk result (text.new ≡ text.old ++ type_line name.now) }
+{
     text.put(b"connection ")?;
-    text.put(first_line(shown.as_slice()))?;
+    text.put(name)?;
     text.put(b"\n")
 }
 
 /// The first line of a text.
+#[tactic(auto, unfolding(crate::specs::SendOn::first_line))]
 fn first_line(text: &[u8]) -> &[u8]
     ensures { result.now ≡ first_line text.now }
 {
