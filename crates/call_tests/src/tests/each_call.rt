@@ -53,7 +53,8 @@ fn files(alloc: Global) -> Result<Vec<(String, Vec<u8>)>, AllocError> {
 
 /// Whether a text is so many of the first lines that are printed where nothing fails.
 fn are_first_lines(text: &[u8], lines: usize) -> bool {
-    TOLD.as_bytes().starts_with(text) && text.iter().filter(|octet| **octet == b'\n').count() == lines
+    TOLD.as_bytes().starts_with(text)
+        && text.iter().filter(|octet| **octet == b'\n').count() == lines
 }
 
 /// Whether the replay ends with a read fault where this call on its files fails, and with these lines before the fault's own.
