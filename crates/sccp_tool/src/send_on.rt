@@ -33,7 +33,7 @@ use std::alloc::Global;
 use trace_text::{is_file_name, octets_of};
 
 /// The reference of segments of a message that has none of its own.
-const OWN_REFERENCE: u32 = 1;
+const GIVEN_REFERENCE: u32 = 1;
 
 /// Octets that come to the node of a name, and how many octets of data a segment of a long message may have.
 #[derive(Drop)]
@@ -215,7 +215,7 @@ fn put_leaving(
 ) -> Result<(), OutOfMemory>
     ensures { OnOk result (text.new ≡ text.old ++ leaving_lines size pc octets.now) }
 {
-    let reference = Reference::new(OWN_REFERENCE).unwrap();
+    let reference = Reference::new(GIVEN_REFERENCE).unwrap();
     match long_segments::send_on(alloc, octets, size, reference) {
         Ok(segments) => put_segments(text, pc, segments.as_slice()),
         Err(fault) => put_uncut(text, pc, octets, fault),
