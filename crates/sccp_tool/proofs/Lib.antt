@@ -18,6 +18,7 @@ mod ReplayerLemmas
 mod RoseLemmas
 mod RouteLemmas
 mod RunLemmas
+mod SendOnLemmas
 mod SettleSteps
 mod Settling
 mod ShowHexLemmas

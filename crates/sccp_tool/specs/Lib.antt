@@ -19,6 +19,7 @@ pub mod Replayers
 pub mod Replaying
 pub mod Route
 pub mod Run
+pub mod SendOn
 pub mod Settling
 pub mod Show
 pub mod ShowHex
