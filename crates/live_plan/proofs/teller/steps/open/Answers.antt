@@ -3,7 +3,7 @@ use Rattle.std.specs.Arc.{arc_value}
 use Rattle.live_plan.specs.declared.known.Known.{Known}
 use Rattle.live_plan.specs.declared.published.Published.{Published}
 use Rattle.live_plan.specs.declared.published.Shown.{Shown}
-use Rattle.live_plan.specs.Plans.{HasPlan, nodes_of}
+use Rattle.live_plan.specs.Plans.{HasPlan}
 use Rattle.live_plan.specs.Published.{newcomer, seen_of, begun}
 use Rattle.live_plan.specs.Seats.{IsTelling, known_by}
 use Rattle.live_plan.proofs.Turning.{begins}

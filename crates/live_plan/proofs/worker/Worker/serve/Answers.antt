@@ -1,4 +1,4 @@
-use Rattle.std.proofs.Common.{◌≡◌, ◌≤◌, ℕ, ap, le_refl}
+use Rattle.std.proofs.Common.{ℕ, ap, le_refl}
 use Rattle.live_plan.specs.declared.worker.Worker.{Worker}
 use Rattle.live_plan.proofs.Passed.{entry_rises}
 use Rattle.live_plan.proofs.worker.Worker.serve.Goals.{in-Some, in_default}
