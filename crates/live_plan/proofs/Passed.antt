@@ -70,6 +70,10 @@ has_behind xs rest x =
     let same : length xs + 1 - 1 ≡ length xs = omega arith in
     (omega arith, subst (λ k. slice_get (xs ++ x ∷ rest) k ≡ Some x) (sym same) (get_behind xs rest x))
 
+-- the first of those that are to come
+pub has_due : (due plans items rest : List Verified) (next : Verified) → due ≡ plans ++ items → items ≡ next ∷ rest → HasPlan due (length plans + 1) next
+has_due due plans items rest next all here = subst (λ l. HasPlan l (length plans + 1) next) (sym (all ∙ ap (λ l. plans ++ l) here)) (has_behind plans rest next)
+
 pub get_append : {A : Type 0} (xs ys : List A) (i : ℕ) → i < length xs → slice_get (xs ++ ys) i ≡ slice_get xs i
 get_append [] ys i lt = absurd (omega arith)
 get_append (x ∷ xs) ys zero lt = refl
