@@ -1,11 +1,10 @@
 -- Plans of a list by their numbers.
 use Rattle.std.proofs.Common.{Option, None, ◌≡◌, ◌⊎◌, inl, inr, ⊎_elim, ℕ, ◌+◌, ◌-◌, ◌<◌, ◌≤◌, zero, suc, List, [], ◌∷◌, ◌++◌, length, map, take, slice_get, Some, refl, ap, sym, ◌∙◌, subst, get_or, arith}
 use Rattle.std.proofs.lemmas.Option.{slice_get_within, slice_get-get_or}
-use Rattle.std.specs.Prelude.{IsSomeAnd}
 use mathlib.Core.List.{IsPrefix}
 use Rattle.plan_model.proofs.Cutting.{get_front}
 use Rattle.plan_check.specs.Verified.{Verified}
-use Rattle.live_plan.specs.Plans.{Extends, IsEnd, IsKept, HasPlan, HaveNodes, nodes_of, pass_of}
+use Rattle.live_plan.specs.Plans.{Extends, IsEnd, HasPlan, HaveNodes, nodes_of, pass_of}
 use Rattle.live_plan.proofs.Prefixes.{prefix_get}
 
 pub take_prefix : {A : Type 0} (xs : List A) (m n : ℕ) → m ≤ n → IsPrefix (take m xs) (take n xs)
@@ -65,7 +64,7 @@ get_behind [] rest x = refl
 get_behind (y ∷ ys) rest x = get_behind ys rest x
 
 -- the plan behind so many
-pub has_behind : (xs rest : List Verified) (x : Verified) → HasPlan (xs ++ x ∷ rest) (length xs + 1) x
+has_behind : (xs rest : List Verified) (x : Verified) → HasPlan (xs ++ x ∷ rest) (length xs + 1) x
 has_behind xs rest x =
     let same : length xs + 1 - 1 ≡ length xs = omega arith in
     (omega arith, subst (λ k. slice_get (xs ++ x ∷ rest) k ≡ Some x) (sym same) (get_behind xs rest x))
@@ -86,8 +85,3 @@ have_one nodes x same (suc i) plan at = absurd cc
 pub pass_extends : (plans : Option (List Verified)) (m n : ℕ) → m ≤ n → Extends (pass_of plans m) (pass_of plans n)
 pass_extends None m n le = tt
 pass_extends (Some plans) m n le = take_prefix plans m n le
-
--- an entry's number is no less than that which was kept
-pub entry_rises : (before after : Option (List Verified)) (seen seen' nodes n n' : ℕ) (plan plan' : Verified) → IsKept before seen nodes n plan → after ≡ before → IsSomeAnd after (λ l. HasPlan l n' plan') → n' ≡ seen' → seen ≤ seen' → n ≤ n'
-entry_rises before None seen seen' nodes n n' plan plan' kept same told is le = absurd told
-entry_rises before (Some l) seen seen' nodes n n' plan plan' kept same told is le = let last = kept.last l (sym same) in let e = last.0 in omega (arith, e, is, le)
