@@ -1,5 +1,7 @@
-ghost use Rattle.std.specs.Prelude.{◌≡◌, ◌≤◌, ◌++◌, IfOk, OnOk};
+ghost use Rattle.std.specs.Prelude.{◌≡◌, ◌<◌, ◌≤◌, ◌+◌, ◌*◌, ◌++◌, length, slice_index, IfOk, OnOk};
+ghost use Rattle.std.specs.List.{All};
 ghost use Rattle.std.specs.Option.{option_to_list};
+ghost use Rattle.sccp_base.specs.Bcd.{packed};
 ghost use Rattle.sccp_address.specs.Addresses.{AddressIs};
 ghost use Rattle.sccp_address.specs.Written.{flag, point_code_octets, heading, title_octets, title_kind, indicator_of, written, IsAddress};
 
@@ -50,9 +52,10 @@ fn push_ssn(octets: &mut Vec<u8>, ssn: Option<u8>) -> Result<(), AllocError>
     ensures { OnOk result (octets.new.items ≡ octets.old.items ++ option_to_list ssn) }
 {
     match ssn {
-        Some(ssn) => octets.extend_from_slice(&[ssn]),
-        None => Ok(()),
+        Some(ssn) => octets.push(ssn)?,
+        None => {}
     }
+    Ok(())
 }
 
 // What stands before the digits.
@@ -62,21 +65,45 @@ fn push_heading(octets: &mut Vec<u8>, selector: &Selector, odd: bool) -> Result<
     let translation = selector.translation();
     let plan = 16 * selector.plan() + if odd { 1 } else { 2 };
     match selector.kind() {
-        1 => octets.extend_from_slice(&[selector.nature() + 128 * flag_of(odd)]),
-        2 => octets.extend_from_slice(&[translation]),
-        3 => octets.extend_from_slice(&[translation, plan]),
-        _ => octets.extend_from_slice(&[translation, plan, selector.nature()]),
+        1 => octets.push(selector.nature() + 128 * flag_of(odd))?,
+        2 => octets.push(translation)?,
+        3 => octets.extend_from_slice(&[translation, plan])?,
+        _ => octets.extend_from_slice(&[translation, plan, selector.nature()])?,
+    }
+    Ok(())
+}
+
+// The octet of the i-th pair of digits, the first digit in the low half, with the filler 0 behind an odd number.
+fn octet_at(digits: &[u8], i: usize) -> u8
+    requires halves { All (λ d. d < 16) digits.now }
+    requires inside { 2 * i < length digits.now }
+    ensures { result ≡ slice_index digits.now (2 * i) + 16 * slice_index digits.now (2 * i + 1) }
+{
+    let low = digits[2 * i];
+    match digits.get(2 * i + 1) {
+        Some(high) => low + 16 * *high,
+        None => low,
     }
 }
 
-fn push_title(alloc: Global, octets: &mut Vec<u8>, title: &Title) -> Result<(), OutOfMemory>
+fn push_digits(octets: &mut Vec<u8>, digits: &[u8]) -> Result<(), AllocError>
+    requires { All (λ d. d < 16) digits.now }
+    ensures { OnOk result (octets.new.items ≡ octets.old.items ++ packed digits.now) }
+{
+    for i in 0..digits.len().div_ceil(2) {
+        octets.push(octet_at(digits, i))?;
+    }
+    Ok(())
+}
+
+fn push_title(octets: &mut Vec<u8>, title: &Title) -> Result<(), AllocError>
     ensures { OnOk result (octets.new.items ≡ octets.old.items ++ title_octets title.now) }
 {
     match title {
         Title::Absent => {}
         Title::Global { selector, digits } => {
             push_heading(octets, selector, digits.len() % 2 == 1)?;
-            octets.extend_from_slice(digits.pack(alloc)?.as_slice())?;
+            push_digits(octets, digits.as_slice())?;
         }
         Title::Raw { octets: kept, .. } => octets.extend_from_slice(kept.as_slice())?,
     }
@@ -96,6 +123,6 @@ pub fn write(alloc: Global, address: &Address) -> Result<Octets, OutOfMemory>
     octets.push(indicator(address))?;
     push_point_code(&mut octets, address.pc)?;
     push_ssn(&mut octets, address.ssn)?;
-    push_title(alloc, &mut octets, &address.title)?;
+    push_title(&mut octets, &address.title)?;
     Ok(Octets::from_vec(octets))
 }

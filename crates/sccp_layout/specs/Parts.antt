@@ -8,6 +8,10 @@ use Rattle.sccp_layout.specs.Table.{layout_of}
 use Rattle.sccp_layout.specs.Places.{pointer, place, after_pointers, names_place, part}
 use Rattle.sccp_layout.specs.Joining.{spelled_parameter}
 
+-- parts that are kept apart
+abbrev pub parts_made : ℕ → List ℕ → List (List ℕ) → List Parameter → Parts
+parts_made code fixed variable params = record { code = code; fixed = fixed; variable = variable; params = params }
+
 -- as many octets and parts as the layout has, and no parameters where it has no optional part
 pub record Fits (l : Layout) (p : Parts) : Type 0 where
   pub fixed : length p.fixed ≡ l.fixed

@@ -2,11 +2,12 @@ ghost use Rattle.std.specs.Prelude.{◌≡◌, ◌≢◌, ◌<◌, ◌≤◌, �
 ghost use Rattle.std.specs.List.{flat_map, AllByRecursion};
 ghost use Rattle.sccp_layout.specs.Table.{layout_of};
 ghost use Rattle.sccp_layout.specs.Places.{after_pointers};
-ghost use Rattle.sccp_layout.specs.Parts.{Fits, FitsLayout, HasParts};
+ghost use Rattle.sccp_layout.specs.Parts.{parts_made, Fits, FitsLayout, HasParts};
 ghost use Rattle.sccp_layout.specs.Joining.{most, number_octets, spelled_parts, spelled_parameter, spelled_list, optional_pieces, pointers_to, first_long, with_number, with_numbers, are_short, joining, Gives};
 ghost use Rattle.sccp_layout.specs.declared.shape.Layout.{Layout};
 
 use crate::param::Param;
+use crate::part::Part;
 use crate::parts::{JoinFault, Parts};
 use crate::shape::Layout;
 use crate::splitting::{after_pointers_of, pointer_place_of, width_of};
@@ -36,7 +37,8 @@ fn push_number(octets: &mut Vec<u8>, two: bool, number: usize) -> Result<(), All
     if two {
         octets.extend_from_slice(&[(number % 256) as u8, (number / 256) as u8])
     } else {
-        octets.extend_from_slice(&[number as u8])
+        octets.push(number as u8)?;
+        Ok(())
     }
 }
 
@@ -48,7 +50,7 @@ fn are_short(params: &[Param]) -> bool
 }
 
 // The first part that is longer than its length can say; the parameters count as the part behind the variable ones.
-fn long_part(layout: &Layout, variable: &[Octets], params: &[Param]) -> Option<u8>
+fn long_part(layout: &Layout, variable: &[Part<'_>], params: &[Param]) -> Option<u8>
     requires { length variable.now ≡ layout.now.variable }
     ensures { result ≡ first_long layout.now 0 variable.now params.now }
 {
@@ -109,7 +111,7 @@ fn with_optional_pointer(
 fn with_pointers(
     mut octets: Vec<u8>,
     layout: &Layout,
-    variable: &[Octets],
+    variable: &[Part<'_>],
     params: &[Param],
 ) -> Result<Vec<u8>, JoinFault>
     requires small { layout.now.variable < 8 }
@@ -130,7 +132,11 @@ fn with_pointers(
 }
 
 // The variable parts, each a length and its contents.
-fn push_parts(octets: &mut Vec<u8>, layout: &Layout, variable: &[Octets]) -> Result<(), AllocError>
+fn push_parts(
+    octets: &mut Vec<u8>,
+    layout: &Layout,
+    variable: &[Part<'_>],
+) -> Result<(), AllocError>
     requires count { length variable.now ≡ layout.now.variable }
     requires short { first_long layout.now 0 variable.now [] ≡ None }
     ensures { let parts = flat_map (λ piece. piece) (spelled_parts layout.now 0 variable.now) in
@@ -169,11 +175,12 @@ fn push_list(octets: &mut Vec<u8>, params: &[Param]) -> Result<(), AllocError>
         return Ok(());
     }
     push_params(octets, params)?;
-    octets.extend_from_slice(&[0])
+    octets.push(0)?;
+    Ok(())
 }
 
 // How many octets the message has at most, for the one buffer; the largest number where no memory holds them.
-fn room_for(layout: &Layout, variable: &[Octets], params: &[Param]) -> usize
+fn room_for(layout: &Layout, variable: &[Part<'_>], params: &[Param]) -> usize
     requires { layout.now.variable < 8 }
 {
     let mut room = after_pointers_of(layout) + 1;
@@ -186,18 +193,23 @@ fn room_for(layout: &Layout, variable: &[Octets], params: &[Param]) -> usize
 }
 
 // The message of a layout that the parts fit, where no part is too long.
-fn short_joined(alloc: Global, layout: &Layout, parts: &Parts) -> Result<Octets, JoinFault>
+fn short_joined(
+    alloc: Global,
+    layout: &Layout,
+    code: u8,
+    fixed: &[u8],
+    variable: &[Part<'_>],
+    params: &[Param],
+) -> Result<Octets, JoinFault>
     requires small { layout.now.variable < 8 }
-    requires fits { Fits layout.now parts.now }
-    requires short { first_long layout.now 0 parts.now.variable parts.now.params ≡ None }
-    ensures exact { Gives (λ octets. octets) result (joining layout.now parts.now) }
-    ensures named { OnOk result (AllByRecursion (λ p. p.name ≢ 0) parts.now.params) }
+    requires fits { Fits layout.now (parts_made code fixed.now variable.now params.now) }
+    requires short { first_long layout.now 0 variable.now params.now ≡ None }
+    ensures exact { Gives (λ octets. octets) result (joining layout.now (parts_made code fixed.now variable.now params.now)) }
+    ensures named { OnOk result (AllByRecursion (λ p. p.name ≢ 0) params.now) }
 {
-    let variable = parts.variable.as_slice();
-    let params = parts.params.as_slice();
     let mut start = Vec::with_capacity(alloc, room_for(layout, variable, params))?;
-    start.push(parts.code)?;
-    start.extend_from_slice(parts.fixed.as_slice())?;
+    start.push(code)?;
+    start.extend_from_slice(fixed)?;
     let mut octets = with_pointers(start, layout, variable, params)?;
     push_parts(&mut octets, layout, variable)?;
     push_list(&mut octets, params)?;
@@ -205,16 +217,40 @@ fn short_joined(alloc: Global, layout: &Layout, parts: &Parts) -> Result<Octets,
 }
 
 // The message of a layout that the parts fit.
-fn joined(alloc: Global, layout: &Layout, parts: &Parts) -> Result<Octets, JoinFault>
+fn joined(
+    alloc: Global,
+    layout: &Layout,
+    code: u8,
+    fixed: &[u8],
+    variable: &[Part<'_>],
+    params: &[Param],
+) -> Result<Octets, JoinFault>
     requires small { layout.now.variable < 8 }
-    requires fits { Fits layout.now parts.now }
-    ensures exact { Gives (λ octets. octets) result (joining layout.now parts.now) }
-    ensures named { OnOk result (AllByRecursion (λ p. p.name ≢ 0) parts.now.params) }
+    requires fits { Fits layout.now (parts_made code fixed.now variable.now params.now) }
+    ensures exact { Gives (λ octets. octets) result (joining layout.now (parts_made code fixed.now variable.now params.now)) }
+    ensures named { OnOk result (AllByRecursion (λ p. p.name ≢ 0) params.now) }
 {
-    match long_part(layout, parts.variable.as_slice(), parts.params.as_slice()) {
+    match long_part(layout, variable, params) {
         Some(i) => Err(JoinFault::TooLong(i)),
-        None => short_joined(alloc, layout, parts),
+        None => short_joined(alloc, layout, code, fixed, variable, params),
     }
+}
+
+/// The message of these parts, as `join` gives it, where they are kept apart: each is copied once.
+pub fn join_parts(
+    alloc: Global,
+    code: u8,
+    fixed: &[u8],
+    variable: &[Part<'_>],
+    params: &[Param],
+) -> Result<Octets, JoinFault>
+    requires { FitsLayout (parts_made code fixed.now variable.now params.now) }
+    ensures exact { (l : Layout) → layout_of code ≡ Some l →
+        Gives (λ octets. octets) result (joining l (parts_made code fixed.now variable.now params.now)) }
+    ensures again { IfOk result (λ octets. HasParts octets (parts_made code fixed.now variable.now params.now)) }
+{
+    let layout = layout(code).unwrap();
+    joined(alloc, &layout, code, fixed, variable, params)
 }
 
 /// The message of these parts (Q.713 sections 1 and 2): they stand in pointer order without gaps, the optional part last.
@@ -222,12 +258,17 @@ fn joined(alloc: Global, layout: &Layout, parts: &Parts) -> Result<Octets, JoinF
 ///
 /// `TooLong` for the first part that is longer than its length can say, where the optional parameters count as the part
 /// behind the variable ones; else `PointerTooFar` for the first pointer whose value doesn't fit.
-pub fn join(alloc: Global, parts: &Parts) -> Result<Octets, JoinFault>
+pub fn join(alloc: Global, parts: &Parts<'_>) -> Result<Octets, JoinFault>
     requires { FitsLayout parts.now }
     ensures exact { (l : Layout) → layout_of parts.now.code ≡ Some l →
         Gives (λ octets. octets) result (joining l parts.now) }
     ensures again { IfOk result (λ octets. HasParts octets parts.now) }
 {
-    let layout = layout(parts.code).unwrap();
-    joined(alloc, &layout, parts)
+    join_parts(
+        alloc,
+        parts.code,
+        parts.fixed.as_slice(),
+        parts.variable.as_slice(),
+        parts.params.as_slice(),
+    )
 }

@@ -2,21 +2,24 @@
 //! fixed part, the pointers, the variable parts and the list of optional parameters.
 //!
 //! `layout` is the table, `split` takes a message apart by it, or gives the first fault, and `join` puts the parts together
-//! again. The layer above may rely on this: octets are split exactly where they have parts by their type's layout, into
-//! those parts alone, which fit the layout; and what is joined of parts that fit is split into the same parts.
+//! again, as `join_parts` does with parts that are kept apart. The layer above may rely on this: octets are split exactly
+//! where they have parts by their type's layout, into those parts alone, which fit the layout; and what is joined of parts
+//! that fit is split into the same parts.
 #![tactic(auto)]
 
 mod fixed;
 mod joining;
 mod param;
+mod part;
 mod parts;
 mod shape;
 mod splitting;
 mod table;
 
 pub use fixed::Fixed;
-pub use joining::join;
+pub use joining::{join, join_parts};
 pub use param::Param;
+pub use part::Part;
 pub use parts::{JoinFault, Parts, SplitFault};
 pub use shape::Layout;
 pub use splitting::split;

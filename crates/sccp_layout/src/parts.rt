@@ -3,19 +3,21 @@ ghost use Rattle.sccp_layout.specs.declared.parts.JoinFault.TheVariants as join_
 ghost use Rattle.sccp_layout.specs.declared.parts.SplitFault.TheVariants as split_faults;
 
 use crate::param::Param;
-use sccp_base::{List, Octets, OutOfMemory};
+use crate::part::Part;
+use sccp_base::{List, OutOfMemory};
 use std::alloc::{AllocError, AllocFailed};
 use thiserror::Error;
 
-/// The parts of a message, apart from where they stand (Q.713 section 1).
+/// The parts of a message (Q.713 section 1). The fixed part and the variable ones are lent where they stand, the optional
+/// parameters are copies.
 #[derive(Debug, Drop)]
-pub struct Parts {
+pub struct Parts<'a> {
     /// The type of the message.
     pub code: u8,
     /// The mandatory parameters of fixed length, one after the other.
-    pub fixed: Octets,
+    pub fixed: Part<'a>,
     /// The contents of the mandatory parameters of variable length, in the order of their pointers.
-    pub variable: List<Octets>,
+    pub variable: List<Part<'a>>,
     /// The optional parameters in the order of their list, repeats included.
     pub params: List<Param>,
 }

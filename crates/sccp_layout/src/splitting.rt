@@ -8,6 +8,7 @@ ghost use Rattle.sccp_layout.specs.declared.parts.Parts.{Parts};
 ghost use Rattle.sccp_layout.specs.Splitting.{Gives, part_at, params_at, parts_by, parts_of};
 
 use crate::param::Param;
+use crate::part::Part;
 use crate::parts::{Parts, SplitFault};
 use crate::shape::Layout;
 use crate::table::layout;
@@ -89,7 +90,11 @@ fn part_of<'a>(layout: &Layout, octets: &'a [u8], i: u8) -> Result<&'a [u8], Spl
 }
 
 // The variable parts in the order of their pointers.
-fn variable_of(alloc: Global, layout: &Layout, octets: &[u8]) -> Result<List<Octets>, SplitFault>
+fn variable_of<'a>(
+    alloc: Global,
+    layout: &Layout,
+    octets: &'a [u8],
+) -> Result<List<Part<'a>>, SplitFault>
     requires small { layout.now.variable < 8 }
     requires inside { after_pointers layout.now ≤ length octets.now }
     ensures { let l = layout.now in
@@ -98,7 +103,7 @@ fn variable_of(alloc: Global, layout: &Layout, octets: &[u8]) -> Result<List<Oct
     let mut variable = List::new(alloc);
     for i in 0..layout.variable {
         let part = part_of(layout, octets, i)?;
-        variable.push(Octets::from_vec(Vec::from_slice(alloc, part)?))?;
+        variable.push(Part::new(part))?;
     }
     Ok(variable)
 }
@@ -142,17 +147,19 @@ fn params_of(alloc: Global, layout: &Layout, octets: &[u8]) -> Result<List<Param
 
 // The parts by a layout.
 #[tactic(auto, unfolding(crate::specs::Splitting::parts_by))]
-fn parts_with(alloc: Global, code: u8, layout: &Layout, octets: &[u8]) -> Result<Parts, SplitFault>
+fn parts_with<'a>(
+    alloc: Global,
+    code: u8,
+    layout: &Layout,
+    octets: &'a [u8],
+) -> Result<Parts<'a>, SplitFault>
     requires small { layout.now.variable < 8 }
     ensures { Gives (λ x. x) result (parts_by code layout.now octets.now) }
 {
     if octets.len() < after_pointers_of(layout) {
         return Err(SplitFault::Short);
     }
-    let fixed = Octets::from_vec(Vec::from_slice(
-        alloc,
-        &octets[1..1 + usize::from(layout.fixed)],
-    )?);
+    let fixed = Part::new(&octets[1..1 + usize::from(layout.fixed)]);
     let variable = variable_of(alloc, layout, octets)?;
     let params = params_of(alloc, layout, octets)?;
     Ok(Parts {
@@ -164,7 +171,7 @@ fn parts_with(alloc: Global, code: u8, layout: &Layout, octets: &[u8]) -> Result
 }
 
 // The parts, by the one definition of what splitting gives; `split` says the same by where parts stand.
-fn parts(alloc: Global, octets: &[u8]) -> Result<Parts, SplitFault>
+fn parts<'a>(alloc: Global, octets: &'a [u8]) -> Result<Parts<'a>, SplitFault>
     ensures { Gives (λ p. p) result (parts_of octets.now) }
 {
     let [code, ..] = octets else {
@@ -179,8 +186,9 @@ fn parts(alloc: Global, octets: &[u8]) -> Result<Parts, SplitFault>
 /// The parts of a message (Q.713 sections 1 and 2), or the first fault in the order of `SplitFault`. The message without
 /// an octet is `Short`.
 ///
-/// Parts may stand in any order, overlap or leave gaps, and octets behind the last one are ignored.
-pub fn split(alloc: Global, octets: &[u8]) -> Result<Parts, SplitFault>
+/// Parts may stand in any order, overlap or leave gaps, and octets behind the last one are ignored. Only the optional
+/// parameters are copied.
+pub fn split<'a>(alloc: Global, octets: &'a [u8]) -> Result<Parts<'a>, SplitFault>
     ensures found { IfOk result (λ p. HasParts octets.now p) }
     ensures fits { IfOk result (λ p. FitsLayout p) }
     ensures only { (p : Parts) → HasParts octets.now p → Gives (λ p. p) result (Ok p) }

@@ -1,20 +1,23 @@
 -- What is written of a message: when it can be written, when octets are it, and that it says which message it is.
-use Rattle.std.proofs.Common.{◌≡◌, ℕ, Bool, true, List, Option, Some, None, Result, Ok, Err, refl, sym, ap, subst, ◌∙◌}
-use Rattle.std.specs.Prelude.{IfOk, IsTrue}
+use Rattle.std.proofs.Common.{◌≡◌, ℕ, Bool, true, false, eqb, List, [], ◌∷◌, length, Option, Some, None, Result, Ok, Err, refl, sym, ap, subst, ◌∙◌, inl, inr, arith}
+use Rattle.std.specs.Prelude.{IfOk, IsSome, IsTrue, option_map, ◌||◌, ◌&&◌}
+use Rattle.std.proofs.lemmas.Bool.{and_parts, eqb-true}
 use Rattle.std.proofs.lemmas.Slice.Eq.{bytes_eq-Decides}
 use Rattle.sccp_layout.specs.declared.shape.Layout.{Layout}
 use Rattle.sccp_layout.specs.declared.parts.Parts.{Parts}
 use Rattle.sccp_layout.specs.declared.parts.JoinFault.{JoinFault}
 use Rattle.sccp_layout.specs.declared.parts.JoinFault.TheVariants as joins
-use Rattle.sccp_layout.specs.Table.{layout_of}
+use Rattle.sccp_layout.specs.Table.{Row, row, layout_of}
+use Rattle.sccp_layout.specs.Parameter.{Parameter}
+use Rattle.sccp_layout.specs.Parts.{ParamsAre, HasParts, FitsLayout}
 use Rattle.sccp_layout.specs.Joining.{Gives as JoinGives, joined, join_fault, joining, unless}
 use Rattle.sccp_message.specs.declared.message.Message.{Message}
 use Rattle.sccp_message.specs.declared.fault.DecodeFault.{DecodeFault}
 use Rattle.sccp_message.specs.declared.encode_fault.EncodeFault.{EncodeFault}
 use Rattle.sccp_message.specs.Reading.{reading}
 use Rattle.sccp_message.specs.Reads.{Reads}
-use Rattle.sccp_message.specs.Written.{content, sevens, parts_from, message_octets, Sound, AreAddresses, AreNamed, AreSevens, IsMessage, Writable, Canonical}
-use Rattle.sccp_message.specs.Encoding.{Gives, as_join, encoding, is_written, is_written_of, canonical}
+use Rattle.sccp_message.specs.Written.{Content, content, sevens, parts_with, parts_from, message_octets, Sound, AreAddresses, AreNamed, AreSevens, IsMessage, Writable, Canonical}
+use Rattle.sccp_message.specs.Encoding.{Gives, as_join, encoding_by, encoding, fits_type, fits, is_written, is_written_of, canonical}
 use Rattle.sccp_message.proofs.Laws.{message_takes, message_again}
 use Rattle.sccp_message.proofs.Writing.{typed, written_reads}
 
@@ -24,18 +27,62 @@ encoding_at m = rw (typed m).of_type refl
 pub octets_at : (m : Message) → message_octets m ≡ joined (typed m).type.layout (parts_from m)
 octets_at m = rw (typed m).of_type refl
 
--- what join answers for the parts of a message
-gives_encoding : (m : Message) (r : Result (List ℕ) JoinFault) → JoinGives (λ octets. octets) r (joining (typed m).type.layout (parts_from m)) → Gives (λ octets. octets) (as_join r) (encoding m)
-gives_encoding m (Ok octets) h = encoding_at m ∙ ap as_join h
-gives_encoding m (Err (joins.TooLong part)) h = encoding_at m ∙ ap as_join h
-gives_encoding m (Err (joins.PointerTooFar i)) h = encoding_at m ∙ ap as_join h
-gives_encoding m (Err joins.OutOfMemory) h = tt
+-- what join answers for parts
+gives_joining : (r whole : Result (List ℕ) JoinFault) → JoinGives (λ octets. octets) r whole → Gives (λ octets. octets) (as_join r) (as_join whole)
+gives_joining (Ok octets) whole h = ap as_join h
+gives_joining (Err (joins.TooLong part)) whole h = ap as_join h
+gives_joining (Err (joins.PointerTooFar i)) whole h = ap as_join h
+gives_joining (Err joins.OutOfMemory) whole h = tt
 
-pub gives_from : (m : Message) (p : Parts) (r : Result (List ℕ) JoinFault) → p ≡ parts_from m → ((l : Layout) → layout_of p.code ≡ Some l → JoinGives (λ octets. octets) r (joining l p)) → Gives (λ octets. octets) (as_join r) (encoding m)
-gives_from m p r same exact =
-    let t = typed m in
-    let at : (l : Layout) → layout_of (parts_from m).code ≡ Some l → JoinGives (λ octets. octets) r (joining l (parts_from m)) = subst (λ (q : Parts). (l : Layout) → layout_of q.code ≡ Some l → JoinGives (λ octets. octets) r (joining l q)) same exact in
-    gives_encoding m r (at t.type.layout (rw t.of_type refl))
+gives_by : (o : Option Row) (p : Parts) (r : Result (List ℕ) JoinFault) → IsSome o → ((l : Layout) → option_map (λ line. line.layout) o ≡ Some l → JoinGives (λ octets. octets) r (joining l p)) → Gives (λ octets. octets) (as_join r) (encoding_by o p)
+gives_by None p r some exact = absurd cc
+gives_by (Some line) p r some exact = gives_joining r (joining line.layout p) (exact line.layout refl)
+
+some_by : (o : Option Row) (l : Layout) → option_map (λ line. line.layout) o ≡ Some l → IsSome o
+some_by None l e = absurd cc
+some_by (Some line) l e = refl
+
+pub gives_from : (p : Parts) (r : Result (List ℕ) JoinFault) → FitsLayout p → ((l : Layout) → layout_of p.code ≡ Some l → JoinGives (λ octets. octets) r (joining l p)) → Gives (λ octets. octets) (as_join r) (encoding_by (row p.code) p)
+gives_from p r h exact = gives_by (row p.code) p r (some_by (row p.code) h.layout h.of_type) exact
+
+-- ---- what a message is made of fits its type
+
+none_of : (params : List Parameter) → eqb (length params) 0 ≡ true → params ≡ []
+none_of [] t = refl
+none_of (p ∷ ps) t = absurd (omega (arith, eqb-true (length (p ∷ ps)) 0 t))
+
+none_unless : (optional : Bool) (params : List Parameter) → (optional || eqb (length params) 0) ≡ true → optional ≡ false → params ≡ []
+none_unless true params t no_list = absurd cc
+none_unless false params t no_list = none_of params t
+
+fits_by : (c : Content) (r : Row) → row c.code ≡ Some r → fits_type (Some r) c ≡ true → FitsLayout (parts_with c)
+fits_by c r e test =
+    let fixed = eqb (length c.fixed) r.layout.fixed in
+    let variable = eqb (length (parts_with c).variable) r.layout.variable in
+    let params = r.layout.optional || eqb (length c.params) 0 in
+    let both = and_parts (fixed && variable) params test in
+    let front = and_parts fixed variable both.0 in
+    record {
+      layout = r.layout;
+      of_type = rw e refl;
+      fits = record { fixed = eqb-true _ _ front.0; variable = eqb-true _ _ front.1; params = none_unless r.layout.optional c.params both.1 };
+    }
+
+fits_at : (c : Content) (o : Option Row) → row c.code ≡ o → fits_type o c ≡ true → FitsLayout (parts_with c)
+fits_at c None e test = absurd cc
+fits_at c (Some r) e test = fits_by c r e test
+
+pub fits_parts : (c : Content) → fits c ≡ true → FitsLayout (parts_with c)
+fits_parts c test = fits_at c (row c.code) refl test
+
+-- the names of parameters that are in a message aren't 0
+pub are_named : (r : Result (List ℕ) JoinFault) (p : Parts) → IfOk r (λ octets. HasParts octets p) → IfOk r (λ _. AreNamed p.params)
+are_named (Ok octets) p has = named has.layout octets p.params has.params
+  where
+    named : (l : Layout) (b : List ℕ) (params : List Parameter) → ParamsAre l b params → AreNamed params
+    named l b params (inl none) = subst AreNamed (sym none.1) tt
+    named l b params (inr listed) = listed.2.named
+are_named (Err e) p has = tt
 
 unless_ok : (o : Option JoinFault) (x octets : List ℕ) → as_join (unless o x) ≡ Ok octets → (o ≡ None) × (x ≡ octets)
 unless_ok None x octets e = (refl, cc)

@@ -1,7 +1,8 @@
 -- Writing a message, with the fault that keeps it from being written.
-use Rattle.std.specs.Prelude.{ℕ, Bool, true, false, List, [], Option, Some, None, Result, Ok, Err}
+use Rattle.std.specs.Prelude.{ℕ, ◌==◌, ◌&&◌, ◌||◌, Bool, true, false, List, [], length, Option, Some, None, Result, Ok, Err}
 use Rattle.std.specs.Str.{bytes_eq}
 use Rattle.sccp_base.specs.Answers.{Answers}
+use Rattle.sccp_layout.specs.declared.parts.Parts.{Parts}
 use Rattle.sccp_layout.specs.declared.parts.JoinFault.{JoinFault}
 use Rattle.sccp_layout.specs.declared.parts.JoinFault.TheVariants as joins
 use Rattle.sccp_layout.specs.Table.{Row, row}
@@ -11,7 +12,7 @@ use Rattle.sccp_message.specs.declared.fault.DecodeFault.{DecodeFault}
 use Rattle.sccp_message.specs.declared.encode_fault.EncodeFault.{EncodeFault}
 use Rattle.sccp_message.specs.declared.encode_fault.EncodeFault.TheVariants as faults
 use Rattle.sccp_message.specs.Reading.{reading}
-use Rattle.sccp_message.specs.Written.{content, parts_from}
+use Rattle.sccp_message.specs.Written.{Content, content, parts_with}
 
 abbrev pub is_memory : EncodeFault → Bool
 is_memory faults.OutOfMemory = true
@@ -27,13 +28,24 @@ as_join (Err (joins.TooLong part)) = Err (faults.TooLong part)
 as_join (Err (joins.PointerTooFar i)) = Err (faults.PointerTooFar i)
 as_join (Err joins.OutOfMemory) = Err faults.OutOfMemory
 
-abbrev pub encoding_by : Option Row → Message → Result (List ℕ) EncodeFault
-encoding_by None m = Ok []
-encoding_by (Some r) m = as_join (joining r.layout (parts_from m))
+abbrev pub encoding_by : Option Row → Parts → Result (List ℕ) EncodeFault
+encoding_by None p = Ok []
+encoding_by (Some r) p = as_join (joining r.layout p)
+
+abbrev pub encoding_with : Content → Result (List ℕ) EncodeFault
+encoding_with c = encoding_by (row c.code) (parts_with c)
 
 -- the octets of a message, or the fault: a part or parameter that is too long for its length, else a pointer that doesn't fit
 abbrev pub encoding : Message → Result (List ℕ) EncodeFault
-encoding m = encoding_by (row (content m).code) m
+encoding m = encoding_with (content m)
+
+-- what a message is made of has as many octets and parts as its type, and parameters only where the type may have some
+abbrev pub fits_type : Option Row → Content → Bool
+fits_type None c = false
+fits_type (Some r) c = (length c.fixed == r.layout.fixed) && (length (parts_with c).variable == r.layout.variable) && (r.layout.optional || (length c.params == 0))
+
+abbrev pub fits : Content → Bool
+fits c = fits_type (row c.code) c
 
 -- ---- whether octets are those that are written of the message that they are
 

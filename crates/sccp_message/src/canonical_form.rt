@@ -1,4 +1,5 @@
-ghost use Rattle.std.specs.Prelude.{◌≡◌, IsTrue, IfOk};
+ghost use Rattle.std.specs.Prelude.{◌≡◌, IsTrue, Ok, IfOk};
+ghost use Rattle.sccp_message.specs.Reading.{reading};
 ghost use Rattle.sccp_message.specs.Written.{Canonical};
 ghost use Rattle.sccp_message.specs.Encoding.{encoding, is_written, canonical as canonical_octets};
 
@@ -21,12 +22,20 @@ fn is_written_of(alloc: Global, message: &Message, octets: &[u8]) -> Result<bool
     }
 }
 
+/// Whether octets are what `encode` writes for the message that they decode as.
+pub fn canonical_as(alloc: Global, message: &Message, octets: &[u8]) -> Result<bool, OutOfMemory>
+    requires { reading octets.now ≡ Ok message.now }
+    ensures { IfOk result (λ is. is ≡ canonical_octets octets.now) }
+{
+    is_written_of(alloc, message, octets)
+}
+
 // Whether octets decode, and are what is written of their message.
 fn is_canonical(alloc: Global, octets: &[u8]) -> Result<bool, OutOfMemory>
     ensures { IfOk result (λ is. is ≡ canonical_octets octets.now) }
 {
     match decode(alloc, octets) {
-        Ok(message) => is_written_of(alloc, &message, octets),
+        Ok(message) => canonical_as(alloc, &message, octets),
         Err(DecodeFault::OutOfMemory) => Err(OutOfMemory),
         Err(_) => Ok(false),
     }

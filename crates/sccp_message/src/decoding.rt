@@ -32,7 +32,7 @@ macro_rules! field {
         address($alloc, &$variable, $i)?
     };
     (($alloc:ident $fixed:ident $variable:ident $params:ident) data()) => {
-        data($variable)
+        data($alloc, &$variable)?
     };
     (($alloc:ident $fixed:ident $variable:ident $params:ident) known($($name:ident),*)) => {
         tested($alloc, &[$($name),*], $params)?
@@ -66,9 +66,9 @@ fn connectionless_code(code: u8) -> bool
 }
 
 #[tactic(auto, unfolding(crate::specs::Reading::message_in))]
-fn connectionless(alloc: Global, parts: Parts) -> Result<Message, DecodeFault>
+fn connectionless(alloc: Global, parts: Parts<'_>) -> Result<Message, DecodeFault>
     requires { FitsLayout parts }
-    ensures { Gives (λ m. m) result (message_if_of is_connectionless parts) }
+    ensures { Gives (λ m. m) result (message_if_of is_connectionless parts.entry) }
 {
     by_code! { parts, alloc;
         0x09 Udt { class: octet(0), called: address(0), calling: address(1), payload: data() }
@@ -88,9 +88,9 @@ fn code_with_parameters(code: u8) -> bool
 }
 
 #[tactic(auto, unfolding(crate::specs::Reading::message_in))]
-fn with_parameters(alloc: Global, parts: Parts) -> Result<Message, DecodeFault>
+fn with_parameters(alloc: Global, parts: Parts<'_>) -> Result<Message, DecodeFault>
     requires { FitsLayout parts }
-    ensures { Gives (λ m. m) result (message_if_of has_parameters parts) }
+    ensures { Gives (λ m. m) result (message_if_of has_parameters parts.entry) }
 {
     by_code! { parts, alloc;
         0x01 Cr { slr: reference(0), class: octet(3), called: address(0), params: known(CREDIT, CALLING, DATA, HOPS, IMPORTANCE) }
@@ -117,9 +117,9 @@ fn code_without_parameters(code: u8) -> bool
 }
 
 #[tactic(auto, unfolding(crate::specs::Reading::message_in))]
-fn without_parameters(parts: Parts) -> Result<Message, DecodeFault>
+fn without_parameters(alloc: Global, parts: Parts<'_>) -> Result<Message, DecodeFault>
     requires { FitsLayout parts }
-    ensures { Gives (λ m. m) result (message_if_of has_no_parameters parts) }
+    ensures { Gives (λ m. m) result (message_if_of has_no_parameters parts.entry) }
 {
     by_code! { parts, alloc;
         0x05 Rlc { dlr: reference(0), slr: reference(3) }
@@ -136,9 +136,9 @@ fn without_parameters(parts: Parts) -> Result<Message, DecodeFault>
 }
 
 // The message of parts, by the kind of its type.
-fn message(alloc: Global, parts: Parts) -> Result<Message, DecodeFault>
+fn message(alloc: Global, parts: Parts<'_>) -> Result<Message, DecodeFault>
     requires { FitsLayout parts }
-    ensures { Gives (λ m. m) result (message_in parts) }
+    ensures { Gives (λ m. m) result (message_in parts.entry) }
 {
     if connectionless_code(parts.code) {
         return connectionless(alloc, parts);
@@ -147,7 +147,7 @@ fn message(alloc: Global, parts: Parts) -> Result<Message, DecodeFault>
         return with_parameters(alloc, parts);
     }
     if code_without_parameters(parts.code) {
-        return without_parameters(parts);
+        return without_parameters(alloc, parts);
     }
     Err(DecodeFault::Split(SplitFault::UnknownType))
 }

@@ -1,15 +1,15 @@
-ghost use Rattle.std.specs.Prelude.{◌≡◌, ◌+◌, ◌*◌, ◌/◌, ◌%◌, ◌++◌, map, Some, Ok, IfOk, unwrap_or, []};
-ghost use Rattle.std.specs.Option.{option_copied, option_to_list};
-ghost use Rattle.sccp_address.specs.Written.{written};
+ghost use Rattle.std.specs.Prelude.{◌≡◌, true, ◌+◌, ◌*◌, ◌/◌, ◌%◌, ◌∷◌, [], Some, None, Ok, IfOk};
+ghost use Rattle.sccp_layout.specs.Table.{row};
+ghost use Rattle.sccp_layout.specs.Parts.{parts_made, FitsLayout};
 ghost use Rattle.sccp_message.specs.Reads.{Reads};
-ghost use Rattle.sccp_message.specs.Written.{content, made_of, sevens, parts_from, parts_with, message_octets, Sound, Writable, AreAddresses, AreNamed, AreSevens};
-ghost use Rattle.sccp_message.specs.Encoding.{Gives, encoding};
+ghost use Rattle.sccp_message.specs.Written.{content, made_of, sevens, message_octets, Sound, Writable, AreAddresses, AreNamed, AreSevens};
+ghost use Rattle.sccp_message.specs.Encoding.{Gives, encoding_by, encoding_with, encoding, fits};
 
 use crate::encode_fault::EncodeFault;
 use crate::message::Message;
 use sccp_address::{Address, write};
-use sccp_base::{List, Octets, OutOfMemory, Reference};
-use sccp_layout::{JoinFault, Param, Parts, join};
+use sccp_base::{Octets, Reference};
+use sccp_layout::{JoinFault, Param, Part, join_parts};
 use std::alloc::Global;
 
 // The octets of a local reference, from the lowest on.
@@ -31,76 +31,105 @@ fn high(reference: &Reference) -> u8
     (reference.value() / 65536) as u8
 }
 
-// The variable parts in pointer order: the addresses, and the data behind them.
-fn variable(
-    alloc: Global,
-    called: Option<&Address>,
-    calling: Option<&Address>,
-    payload: Option<&Octets>,
-) -> Result<List<Octets>, OutOfMemory>
-    ensures { IfOk result (λ parts. parts
-        ≡ map written (option_to_list (option_copied called.entry) ++ option_to_list (option_copied calling.entry)) ++ option_to_list (option_copied payload.entry)) }
-{
-    let mut parts = List::new(alloc);
-    if let Some(called) = called {
-        parts.push(write(alloc, called)?)?;
-    }
-    if let Some(calling) = calling {
-        parts.push(write(alloc, calling)?)?;
-    }
-    if let Some(payload) = payload {
-        parts.push(payload.try_clone(alloc)?)?;
-    }
-    Ok(parts)
-}
-
-// A copy of parameters. A name of 0, which would end their list, has none of them.
-fn copied(alloc: Global, params: &List<Param>) -> Result<List<Param>, OutOfMemory>
-    ensures same { IfOk result (λ copy. copy ≡ params.now) }
-    ensures named { IfOk result (λ copy. AreNamed copy) }
-{
-    let mut copy = List::new(alloc);
-    for param in params.as_slice() {
-        let octets = Octets::from_vec(Vec::from_slice(alloc, param.octets())?);
-        copy.push(Param::new(param.name(), octets).unwrap())?;
-    }
-    Ok(copy)
-}
-
-// The parameters of a type that may have some.
-fn listed(alloc: Global, params: Option<&List<Param>>) -> Result<List<Param>, OutOfMemory>
-    ensures same { IfOk result (λ copy. copy ≡ unwrap_or (option_copied params.entry) []) }
-    ensures named { IfOk result (λ copy. AreNamed copy) }
-{
-    match params {
-        Some(params) => copied(alloc, params),
-        None => Ok(List::new(alloc)),
-    }
-}
-
-// The parts of a message that is made of these.
-fn parts(
+// The octets of parts.
+fn joined(
     alloc: Global,
     code: u8,
     fixed: &[u8],
-    called: Option<&Address>,
-    calling: Option<&Address>,
-    payload: Option<&Octets>,
-    params: Option<&List<Param>>,
-) -> Result<Parts, OutOfMemory>
-    ensures same { IfOk result (λ p. p
-        ≡ parts_with (made_of code fixed.now (option_to_list (option_copied called.entry) ++ option_to_list (option_copied calling.entry)) (option_copied payload.entry) (unwrap_or (option_copied params.entry) []))) }
-    ensures named { IfOk result (λ p. AreNamed p.params) }
+    variable: &[Part<'_>],
+    params: &[Param],
+) -> Result<Octets, EncodeFault>
+    requires { FitsLayout (parts_made code fixed.now variable.now params.now) }
+    ensures exact { Gives (λ octets. octets) result (encoding_by (row code) (parts_made code fixed.now variable.now params.now)) }
+    ensures named { IfOk result (λ _. AreNamed params.now) }
 {
-    let fixed = Octets::from_vec(Vec::from_slice(alloc, fixed)?);
-    let variable = variable(alloc, called, calling, payload)?;
-    let params = listed(alloc, params)?;
-    Ok(Parts {
-        code,
-        fixed,
-        variable,
-        params,
-    })
+    match join_parts(alloc, code, fixed, variable, params) {
+        Ok(octets) => Ok(octets),
+        Err(JoinFault::TooLong(part)) => Err(EncodeFault::TooLong(part)),
+        Err(JoinFault::PointerTooFar(i)) => Err(EncodeFault::PointerTooFar(i)),
+        Err(JoinFault::OutOfMemory) => Err(EncodeFault::OutOfMemory),
+    }
+}
+
+// The octets of three variable parts.
+fn joined_unit<'a>(
+    alloc: Global,
+    code: u8,
+    fixed: &[u8],
+    called: &'a Octets,
+    calling: &'a Octets,
+    payload: &'a Octets,
+    params: &[Param],
+) -> Result<Octets, EncodeFault>
+    requires { FitsLayout (parts_made code fixed.now (called.now ∷ calling.now ∷ payload.now ∷ []) params.now) }
+    ensures exact { Gives (λ octets. octets) result (encoding_by (row code) (parts_made code fixed.now (called.now ∷ calling.now ∷ payload.now ∷ []) params.now)) }
+    ensures named { IfOk result (λ _. AreNamed params.now) }
+{
+    let variable = [
+        Part::new(called.as_slice()),
+        Part::new(calling.as_slice()),
+        Part::new(payload.as_slice()),
+    ];
+    joined(alloc, code, fixed, &variable, params)
+}
+
+// The octets of a type with a called and a calling address, and data.
+fn unit(
+    alloc: Global,
+    code: u8,
+    fixed: &[u8],
+    called: &Address,
+    calling: &Address,
+    payload: &Octets,
+    params: &[Param],
+) -> Result<Octets, EncodeFault>
+    requires { fits (made_of code fixed.now (called.now ∷ calling.now ∷ []) (Some payload.now) params.now) ≡ true }
+    ensures exact { Gives (λ octets. octets) result (encoding_with (made_of code fixed.now (called.now ∷ calling.now ∷ []) (Some payload.now) params.now)) }
+    ensures named { IfOk result (λ _. AreNamed params.now) }
+{
+    let called = write(alloc, called)?;
+    let calling = write(alloc, calling)?;
+    joined_unit(alloc, code, fixed, &called, &calling, payload, params)
+}
+
+// The octets of a type with a called address.
+fn request(
+    alloc: Global,
+    code: u8,
+    fixed: &[u8],
+    called: &Address,
+    params: &[Param],
+) -> Result<Octets, EncodeFault>
+    requires { fits (made_of code fixed.now (called.now ∷ []) None params.now) ≡ true }
+    ensures exact { Gives (λ octets. octets) result (encoding_with (made_of code fixed.now (called.now ∷ []) None params.now)) }
+    ensures named { IfOk result (λ _. AreNamed params.now) }
+{
+    let called = write(alloc, called)?;
+    joined(alloc, code, fixed, &[Part::new(called.as_slice())], params)
+}
+
+// The octets of a type with data, and no address.
+fn data(
+    alloc: Global,
+    code: u8,
+    fixed: &[u8],
+    payload: &Octets,
+    params: &[Param],
+) -> Result<Octets, EncodeFault>
+    requires { fits (made_of code fixed.now [] (Some payload.now) params.now) ≡ true }
+    ensures exact { Gives (λ octets. octets) result (encoding_with (made_of code fixed.now [] (Some payload.now) params.now)) }
+    ensures named { IfOk result (λ _. AreNamed params.now) }
+{
+    joined(alloc, code, fixed, &[Part::new(payload.as_slice())], params)
+}
+
+// The octets of a type without a variable part.
+fn plain(alloc: Global, code: u8, fixed: &[u8], params: &[Param]) -> Result<Octets, EncodeFault>
+    requires { fits (made_of code fixed.now [] None params.now) ≡ true }
+    ensures exact { Gives (λ octets. octets) result (encoding_with (made_of code fixed.now [] None params.now)) }
+    ensures named { IfOk result (λ _. AreNamed params.now) }
+{
+    joined(alloc, code, fixed, &[], params)
 }
 
 // The octets of the fixed part, field by field from left to right.
@@ -125,75 +154,54 @@ macro_rules! fixed {
     };
 }
 
-// A part that a type has, or hasn't.
-macro_rules! part {
+// The parameters of a type that may have some, or none.
+macro_rules! list {
     (-) => {
-        None
+        &[]
     };
-    ($part:ident) => {
-        Some($part)
+    ($params:ident) => {
+        $params.as_slice()
     };
 }
 
-// The parts of a message: a line for each type, with its code, its fields, its fixed part, and what there is of called
-// address, calling address, data and parameters.
+// The octets of a message: a line for each type, with its code, its fields, its fixed part, what it has beside that, and its
+// parameters.
 macro_rules! by_type {
-    ($message:expr, $alloc:expr; $($code:literal $variant:ident { $($field:ident),* } [$($fixed:tt)*] $called:tt $calling:tt $payload:tt $params:tt)*) => {
+    ($message:expr, $alloc:expr; $($code:literal $variant:ident { $($field:ident),* } [$($fixed:tt)*] $kind:ident($($part:ident),*) $params:tt)*) => {
         match $message {
-            $(Message::$variant { $($field),* } => parts(
-                $alloc,
-                $code,
-                fixed!([] $($fixed)*),
-                part!($called),
-                part!($calling),
-                part!($payload),
-                part!($params),
-            ),)*
+            $(Message::$variant { $($field),* } => {
+                $kind($alloc, $code, fixed!([] $($fixed)*), $($part,)* list!($params))
+            })*
         }
     };
 }
 
-fn message_parts(alloc: Global, message: &Message) -> Result<Parts, OutOfMemory>
-    ensures same { IfOk result (λ p. p ≡ parts_from message.now) }
-    ensures named { IfOk result (λ p. AreNamed p.params) }
-    ensures sevens_fit { AreSevens (sevens message.now) }
-{
-    by_type! { message, alloc;
-        0x01 Cr { slr, class, called, params } [reference(slr) octet(class)] called - - params
-        0x02 Cc { dlr, slr, class, params } [reference(dlr) reference(slr) octet(class)] - - - params
-        0x03 Cref { dlr, cause, params } [reference(dlr) octet(cause)] - - - params
-        0x04 Rlsd { dlr, slr, cause, params } [reference(dlr) reference(slr) octet(cause)] - - - params
-        0x05 Rlc { dlr, slr } [reference(dlr) reference(slr)] - - - -
-        0x06 Dt1 { dlr, more, payload } [reference(dlr) more(more)] - - payload -
-        0x07 Dt2 { dlr, send, receive, more, payload } [reference(dlr) sequence(send) sequence(receive, more)] - - payload -
-        0x08 Ak { dlr, receive, credit } [reference(dlr) sequence(receive) octet(credit)] - - - -
-        0x09 Udt { class, called, calling, payload } [octet(class)] called calling payload -
-        0x0A Udts { cause, called, calling, payload } [octet(cause)] called calling payload -
-        0x0B Ed { dlr, payload } [reference(dlr)] - - payload -
-        0x0C Ea { dlr } [reference(dlr)] - - - -
-        0x0D Rsr { dlr, slr, cause } [reference(dlr) reference(slr) octet(cause)] - - - -
-        0x0E Rsc { dlr, slr } [reference(dlr) reference(slr)] - - - -
-        0x0F Err { dlr, cause } [reference(dlr) octet(cause)] - - - -
-        0x10 It { dlr, slr, class, send, receive, more, credit } [reference(dlr) reference(slr) octet(class) sequence(send) sequence(receive, more) octet(credit)] - - - -
-        0x11 Xudt { class, hops, called, calling, payload, params } [octet(class) octet(hops)] called calling payload params
-        0x12 Xudts { cause, hops, called, calling, payload, params } [octet(cause) octet(hops)] called calling payload params
-        0x13 Ludt { class, hops, called, calling, payload, params } [octet(class) octet(hops)] called calling payload params
-        0x14 Ludts { cause, hops, called, calling, payload, params } [octet(cause) octet(hops)] called calling payload params
-    }
-}
-
-// The octets of a message, beside what its types keep.
 fn whole(alloc: Global, message: &Message) -> Result<Octets, EncodeFault>
     ensures exact { Gives (λ octets. octets) result (encoding message.now) }
     ensures named { IfOk result (λ _. AreNamed (content message.now).params) }
     ensures sevens_fit { AreSevens (sevens message.now) }
 {
-    let parts = message_parts(alloc, message)?;
-    match join(alloc, &parts) {
-        Ok(octets) => Ok(octets),
-        Err(JoinFault::TooLong(part)) => Err(EncodeFault::TooLong(part)),
-        Err(JoinFault::PointerTooFar(i)) => Err(EncodeFault::PointerTooFar(i)),
-        Err(JoinFault::OutOfMemory) => Err(EncodeFault::OutOfMemory),
+    by_type! { message, alloc;
+        0x01 Cr { slr, class, called, params } [reference(slr) octet(class)] request(called) params
+        0x02 Cc { dlr, slr, class, params } [reference(dlr) reference(slr) octet(class)] plain() params
+        0x03 Cref { dlr, cause, params } [reference(dlr) octet(cause)] plain() params
+        0x04 Rlsd { dlr, slr, cause, params } [reference(dlr) reference(slr) octet(cause)] plain() params
+        0x05 Rlc { dlr, slr } [reference(dlr) reference(slr)] plain() -
+        0x06 Dt1 { dlr, more, payload } [reference(dlr) more(more)] data(payload) -
+        0x07 Dt2 { dlr, send, receive, more, payload } [reference(dlr) sequence(send) sequence(receive, more)] data(payload) -
+        0x08 Ak { dlr, receive, credit } [reference(dlr) sequence(receive) octet(credit)] plain() -
+        0x09 Udt { class, called, calling, payload } [octet(class)] unit(called, calling, payload) -
+        0x0A Udts { cause, called, calling, payload } [octet(cause)] unit(called, calling, payload) -
+        0x0B Ed { dlr, payload } [reference(dlr)] data(payload) -
+        0x0C Ea { dlr } [reference(dlr)] plain() -
+        0x0D Rsr { dlr, slr, cause } [reference(dlr) reference(slr) octet(cause)] plain() -
+        0x0E Rsc { dlr, slr } [reference(dlr) reference(slr)] plain() -
+        0x0F Err { dlr, cause } [reference(dlr) octet(cause)] plain() -
+        0x10 It { dlr, slr, class, send, receive, more, credit } [reference(dlr) reference(slr) octet(class) sequence(send) sequence(receive, more) octet(credit)] plain() -
+        0x11 Xudt { class, hops, called, calling, payload, params } [octet(class) octet(hops)] unit(called, calling, payload) params
+        0x12 Xudts { cause, hops, called, calling, payload, params } [octet(cause) octet(hops)] unit(called, calling, payload) params
+        0x13 Ludt { class, hops, called, calling, payload, params } [octet(class) octet(hops)] unit(called, calling, payload) params
+        0x14 Ludts { cause, hops, called, calling, payload, params } [octet(cause) octet(hops)] unit(called, calling, payload) params
     }
 }
 

@@ -1,11 +1,12 @@
-ghost use Rattle.std.specs.Prelude.{◌≡◌, ◌≤◌, ◌<◌, ◌+◌, ◌-◌, length, slice_get, Some};
+ghost use Rattle.std.specs.Prelude.{◌≡◌, ◌≤◌, ◌<◌, ◌+◌, ◌-◌, length, slice_get, Some, IfOk};
 ghost use Rattle.sccp_base.specs.Bits.{bit, bits};
 ghost use Rattle.sccp_message.specs.Fields.{reference_at};
 ghost use Rattle.sccp_message.specs.Reading.{Gives, address_in};
 
 use crate::fault::DecodeFault;
 use sccp_address::{Address, AddressFault};
-use sccp_base::{List, Octets, Reference, Seven};
+use sccp_base::{List, Octets, OutOfMemory, Reference, Seven};
+use sccp_layout::Part;
 use std::alloc::Global;
 
 // A local reference, whose first octet is the lowest.
@@ -34,7 +35,7 @@ pub fn is_more(octet: u8) -> bool
 }
 
 // The address in a variable part.
-pub fn address(alloc: Global, variable: &List<Octets>, i: u8) -> Result<Address, DecodeFault>
+pub fn address(alloc: Global, variable: &List<Part<'_>>, i: u8) -> Result<Address, DecodeFault>
     requires { i + 1 ≤ length variable.now }
     ensures { Gives (λ a. a) result (address_in variable.now i) }
 {
@@ -47,9 +48,11 @@ pub fn address(alloc: Global, variable: &List<Octets>, i: u8) -> Result<Address,
 }
 
 // The data, which are the last variable part.
-pub fn data(variable: List<Octets>) -> Octets
-    requires { 0 < length variable }
-    ensures { slice_get variable (length variable - 1) ≡ Some result }
+pub fn data(alloc: Global, variable: &List<Part<'_>>) -> Result<Octets, OutOfMemory>
+    requires { 0 < length variable.now }
+    ensures { IfOk result (λ octets. slice_get variable.now (length variable.now - 1) ≡ Some octets) }
 {
-    variable.into_vec().pop().unwrap()
+    let parts = variable.as_slice();
+    let last = &parts[parts.len() - 1];
+    Ok(Octets::from_vec(Vec::from_slice(alloc, last.as_slice())?))
 }

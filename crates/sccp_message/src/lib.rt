@@ -20,7 +20,7 @@ mod params;
 mod round_trip;
 mod surveying;
 
-pub use canonical_form::canonical;
+pub use canonical_form::{canonical, canonical_as};
 pub use cause::{CauseTable, cause_text};
 pub use class::wants_return;
 pub use decoding::decode;

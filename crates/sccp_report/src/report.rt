@@ -5,7 +5,7 @@ use crate::fault::put_fault;
 use crate::message::put_message;
 use crate::text::Text;
 use sccp_base::{Octets, OutOfMemory};
-use sccp_message::{DecodeFault, canonical, decode};
+use sccp_message::{DecodeFault, canonical_as, decode};
 use std::alloc::Global;
 
 /// Appends the line on octets that are no message.
@@ -39,7 +39,7 @@ pub fn message_text(alloc: Global, octets: &[u8]) -> Result<Octets, OutOfMemory>
     match decode(alloc, octets) {
         Ok(message) => {
             put_message(&mut text, &message)?;
-            put_canonical(&mut text, canonical(alloc, octets)?)?
+            put_canonical(&mut text, canonical_as(alloc, &message, octets)?)?
         }
         Err(DecodeFault::OutOfMemory) => return Err(OutOfMemory),
         Err(fault) => put_undecodable(&mut text, fault)?,

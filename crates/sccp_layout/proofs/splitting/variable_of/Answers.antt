@@ -16,5 +16,5 @@ pub loop-i-preserved : goal.loop-i-preserved
 loop-i-preserved c =
     let f = part_at c.args.layout.now c.args.octets.now in
     let pushed : c.push.new.self ≡ c.loop-i.variable ++ c.in_ok-part.part.now ∷ [] =
-    c.in_ok-push.ensures.ok ∙ ap (λ part. c.loop-i.variable ++ part ∷ []) (c.from_vec.ensures ∙ c.in_ok-from_slice.ensures.items) in
+    c.in_ok-push.ensures.ok ∙ ap (λ part. c.loop-i.variable ++ part ∷ []) (c.new.ensures) in
     rw pushed (goes_on f c.loop-i.variable c.args.layout.now.variable c.loop-i.i c.in_ok-part.part.now (all_ok f (range_with_len 0 c.args.layout.now.variable)) c.loop-i-test.true c.in_ok-part.ensures c.loop-i.invariant)
