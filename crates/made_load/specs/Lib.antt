@@ -1,0 +1,4 @@
+pub mod Draws
+pub mod Relays
+pub mod Messages
+pub mod Loads
