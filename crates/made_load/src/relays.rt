@@ -68,16 +68,22 @@ fn cover(alloc: Global) -> Result<Cover, OutOfMemory>
     })
 }
 
+fn covers(alloc: Global) -> Result<List<Cover>, OutOfMemory>
+    ensures { IfOk result (λ cs. cs ≡ cover ∷ []) }
+{
+    let mut covers = List::new(alloc);
+    covers.push(cover(alloc)?)?;
+    Ok(covers)
+}
+
 /// The plan of a number: eight relays, each of which hands titles on to one of the next three or, where that one is closed,
 /// brings them to their destinations itself, and a cover of all titles of ten digits at the first relay.
-#[tactic(auto, unfolding(crate::specs::Relays::load_plan))]
 pub fn load_plan(alloc: Global, number: u32) -> Result<Plan, OutOfMemory>
     ensures plan { IfOk result (λ plan. plan ≡ load_plan number) }
     ensures sound { IfOk result IsPlan }
 {
     let nodes = relays(alloc, number)?;
-    let mut covers = List::new(alloc);
-    covers.push(cover(alloc)?)?;
+    let covers = covers(alloc)?;
     match Plan::build(nodes, covers) {
         Ok(plan) => Ok(plan),
         Err(_) => unreachable!(),

@@ -1,7 +1,7 @@
 //! The rows of a made relay.
 ghost use Rattle.std.specs.Prelude.{◌≡◌, ◌<◌, ◌++◌, [], ◌∷◌, map, IfOk};
 ghost use Rattle.std.specs.List.{range_with_len};
-ghost use Rattle.made_load.specs.Relays.{relay_point, end_point, selector, destination, next_relay, onward, first_target, targets, row_of, rows_of};
+ghost use Rattle.made_load.specs.Relays.{relay_point, end_point, selector, destination, next_relay, onward, first_target, row_of, rows_of};
 
 use plan_rules::{Row, RuleFault, Table, Target};
 use sccp_base::{Digits, List, OutOfMemory, PointCode, Selector};
@@ -86,20 +86,6 @@ fn first_target(number: u32, place: u8, digit: u8) -> Option<Target>
     }
 }
 
-/// The destination itself comes last.
-fn targets(alloc: Global, number: u32, place: u8, digit: u8) -> Result<List<Target>, OutOfMemory>
-    requires place { place < 8 }
-    requires digit { digit < 10 }
-    ensures { IfOk result (λ ts. ts ≡ targets number place digit) }
-{
-    let mut targets = List::new(alloc);
-    if let Some(first) = first_target(number, place, digit) {
-        targets.push(first)?;
-    }
-    targets.push(destination(digit))?;
-    Ok(targets)
-}
-
 /// No digit.
 pub(crate) fn no_digits() -> Digits
     ensures { result ≡ [] }
@@ -121,13 +107,19 @@ fn one_digit(digit: u8) -> Digits
     }
 }
 
+/// A row has the destination itself as its last target.
 fn row(alloc: Global, number: u32, place: u8, digit: u8) -> Result<Row, OutOfMemory>
     requires place { place < 8 }
     requires digit { digit < 10 }
     ensures { IfOk result (λ r. r ≡ row_of number place digit) }
 {
-    let targets = targets(alloc, number, place, digit)?;
-    match Row::new(selector(), None, one_digit(digit), targets) {
+    let selector = selector();
+    let mut targets = List::new(alloc);
+    if let Some(first) = first_target(number, place, digit) {
+        targets.push(first)?;
+    }
+    targets.push(destination(digit))?;
+    match Row::new(selector, None, one_digit(digit), targets) {
         Some(row) => Ok(row),
         None => unreachable!(),
     }
