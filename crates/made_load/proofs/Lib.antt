@@ -1,3 +1,4 @@
 mod Growing
 mod Faultless
 mod LaidOut
+mod Sending

@@ -1,5 +1,5 @@
 -- What becomes of the messages that are made from a number.
-use Rattle.std.specs.Prelude.{ℕ, zero, suc, ◌+◌, ◌/◌, ◌%◌, ◌==◌, List, length, if◌then◌else◌}
+use Rattle.std.specs.Prelude.{ℕ, zero, suc, ◌≡◌, ◌≤◌, ◌<◌, ◌+◌, ◌*◌, ◌/◌, ◌%◌, ◌^◌, ◌==◌, List, length, if◌then◌else◌}
 use Rattle.sccp_base.specs.Marks.{holds}
 use Rattle.sccp_base.specs.declared.mark.Mark.TheVariants.{PointCode}
 use Rattle.sccp_manage.specs.declared.event.Event.{Event}
@@ -8,11 +8,12 @@ use Rattle.plan_model.specs.Network.{Network}
 use Rattle.relay_net.specs.Journeys.{held_at, journey}
 use Rattle.relay_net.specs.States.{State, applied, first_states, markings_of}
 use Rattle.relay_net.specs.declared.happening.Happening.TheVariants.{Managed}
-use Rattle.relay_net.specs.declared.end.End.{End}
-use Rattle.relay_net.specs.declared.end.End.TheVariants as ends
 use Rattle.relay_net.specs.declared.travelled.Journey.{Journey}
 use Rattle.made_load.specs.declared.counts.Counts.{Counts}
+use Rattle.made_load.specs.declared.fate.Fate.{Fate}
+use Rattle.made_load.specs.declared.fate.Fate.TheVariants.{Ended, Returned, Other}
 use Rattle.made_load.specs.Draws.{after, drawn, after_digits}
+use Rattle.made_load.specs.Fates.{fate_of}
 use Rattle.made_load.specs.Messages.{made_octets, origin}
 use Rattle.made_load.specs.Relays.{end_point, load_plan}
 
@@ -21,14 +22,24 @@ use Rattle.made_load.specs.Relays.{end_point, load_plan}
 abbrev pub no_counts : Counts
 no_counts = record { messages = 0; ended = 0; returned = 0; translations = 0 }
 
-abbrev pub with_end : End → Counts → Counts
-with_end (ends.Ended pc ssn octets) c = record c { ended = c.ended + 1 }
-with_end (ends.Returned cause marks) c = record c { returned = c.returned + 1 }
-with_end end c = c
+abbrev pub with_fate : Fate → Counts → Counts
+with_fate Ended c = record c { ended = c.ended + 1 }
+with_fate Returned c = record c { returned = c.returned + 1 }
+with_fate Other c = c
 
--- a message, how it ends, and a translation at each node on its way
+-- one more message, with a translation at each node that it came to
+abbrev pub with_message : ℕ → Fate → Counts → Counts
+with_message nodes fate c = with_fate fate (record c { messages = c.messages + 1; translations = c.translations + nodes })
+
 abbrev pub counted : Journey → Counts → Counts
-counted j c = with_end j.end (record c { messages = c.messages + 1; translations = c.translations + length j.path })
+counted j c = with_message (length j.path) (fate_of j.end) c
+
+-- one more message can be counted
+pub record IsRoomy (c : Counts) : Type 0 where
+  pub messages : c.messages < 2 ^ 32
+  pub ended : c.ended < 2 ^ 32
+  pub returned : c.returned < 2 ^ 32
+  pub translations : c.translations < 2 ^ 36
 
 -- ---- one message after the other
 
@@ -74,3 +85,11 @@ begun number plan = record { at = number; states = first_states plan; counts = n
 -- the counts of so many messages that are made from a number, over the relays of the number's plan
 unfoldable pub load_counts : ℕ → ℕ → Counts
 load_counts number size = (all_sent (load_plan number) size 0 (begun number (load_plan number))).counts
+
+-- so many messages at most were counted, and there are eight relays
+pub record IsAfter (count : ℕ) (l : Load) : Type 0 where
+  pub states : length l.states ≡ 8
+  pub messages : l.counts.messages ≤ count
+  pub ended : l.counts.ended ≤ count
+  pub returned : l.counts.returned ≤ count
+  pub translations : l.counts.translations ≤ 15 * count

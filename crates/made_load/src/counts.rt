@@ -1,6 +1,6 @@
-ghost use Rattle.std.specs.Prelude.{◌≡◌, ◌≤◌, ◌<◌, ◌+◌, ◌^◌, length};
+ghost use Rattle.std.specs.Prelude.{◌≡◌, ◌≤◌};
 
-use relay_net::{End, Journey};
+use crate::fate::Fate;
 
 /// How many messages were sent, how many of them ended at a destination and how many came back, and how many translations
 /// were made on their ways. The ways of service messages don't count.
@@ -13,7 +13,7 @@ pub struct Counts {
 }
 
 impl Counts {
-    ghost use Rattle.made_load.specs.Loads.{no_counts, counted, HasRoom};
+    ghost use Rattle.made_load.specs.Loads.{no_counts, with_message, IsRoomy};
 
     /// Before the first message.
     pub(crate) fn none() -> Counts
@@ -27,18 +27,18 @@ impl Counts {
         }
     }
 
-    /// One more message, which had this journey.
-    pub(crate) fn add(&mut self, journey: &Journey)
-        requires path { length journey.now.path ≤ 15 }
-        requires room { HasRoom self.old }
-        ensures { self.new ≡ counted journey.now self.old }
+    /// One more message, which came to so many nodes and ended so.
+    pub(crate) fn add(&mut self, nodes: usize, fate: Fate)
+        requires few { nodes ≤ 15 }
+        requires room { IsRoomy self.old }
+        ensures { self.new ≡ with_message nodes fate self.old }
     {
         self.messages += 1;
-        self.translations += journey.path.as_slice().len();
-        match &journey.end {
-            End::Ended { .. } => self.ended += 1,
-            End::Returned { .. } => self.returned += 1,
-            _ => {}
+        self.translations += nodes;
+        match fate {
+            Fate::Ended => self.ended += 1,
+            Fate::Returned => self.returned += 1,
+            Fate::Other => {}
         }
     }
 }

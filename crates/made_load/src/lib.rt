@@ -4,13 +4,14 @@
 //! the journeys of exactly these messages, with relays that lose and find destinations on the way (ITU-T Q.714 sections 2 and 5).
 #![tactic(auto)]
 
-mod carrying;
 mod counts;
 mod draws;
+mod fate;
+mod load;
 mod messages;
 mod relays;
 mod rows;
 
-pub use carrying::load_counts;
 pub use counts::Counts;
+pub use load::load_counts;
 pub use relays::load_plan;
