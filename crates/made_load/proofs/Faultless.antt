@@ -1,18 +1,18 @@
 -- The made relays and their cover make a plan.
-use Rattle.std.proofs.Common.{◌≡◌, ℕ, zero, suc, ◌+◌, ◌*◌, ◌%◌, ◌<◌, ◌≤◌, Bool, true, false, List, [], ◌∷◌, ◌++◌, length, map, Option, Some, None, refl, sym, ◌∙◌, ap, subst, arith}
+use Rattle.std.proofs.Common.{◌≡◌, ℕ, zero, suc, ◌+◌, ◌%◌, ◌<◌, Bool, true, false, List, [], ◌∷◌, ◌++◌, map, Some, None, refl, sym, ◌∙◌, ap, arith}
 use Rattle.std.specs.Fmt.{digits}
 use Rattle.std.specs.List.{All, range_with_len}
-use Rattle.std.specs.Prelude.{nat_lt, if◌then◌else◌, min, option_to_list, codes, decimal, IfSome, AllPairs}
+use Rattle.std.specs.Prelude.{nat_lt, if◌then◌else◌, min, option_to_list, codes, decimal, IfSome}
 use Rattle.std.proofs.lemmas.List.Elements.{All-nil, All-cons, All-map}
 use Rattle.plan_rules.specs.Rule.{Rule, rule}
 use Rattle.plan_rules.specs.Target.{ssn_of}
 use Rattle.plan_rules.specs.declared.target.Target.{Target}
 use Rattle.plan_model.specs.Faults.{plan_fault, HasFewDigits}
-use Rattle.plan_model.specs.Network.{IsNode, NamesSubsystems, IsSubsystem, network}
+use Rattle.plan_model.specs.Network.{IsNode, NamesSubsystems, IsSubsystem}
 use Rattle.plan_model.specs.declared.cover.Cover.{Cover}
 use Rattle.plan_model.specs.declared.node.Node.{Node}
 use Rattle.plan_model.specs.declared.plan_fault.PlanFault.{PlanFault}
-use Rattle.made_load.specs.Relays.{selector, destination, onward, next_relay, first_target, targets, row_of, rows_of, relay_point, relay, relays, cover}
+use Rattle.made_load.specs.Relays.{selector, destination, onward, next_relay, row_of, relay_point, relay, relays, cover}
 
 -- the rows of a relay of which it is known whether it hands titles on
 abbrev targets_if : Bool → ℕ → ℕ → ℕ → List Target

@@ -1,5 +1,5 @@
 -- The octets of a made message, one by one.
-use Rattle.std.proofs.Common.{◌≡◌, ℕ, ◌/◌, ◌%◌, List, [], ◌∷◌, refl, sym, ◌∙◌, ap}
+use Rattle.std.proofs.Common.{◌≡◌, ℕ, ◌/◌, ◌%◌, List, [], ◌∷◌, refl, ◌∙◌, ap}
 use Rattle.made_load.specs.Draws.{after, pair}
 use Rattle.made_load.specs.Messages.{made_octets}
 

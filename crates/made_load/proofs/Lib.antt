@@ -2,3 +2,4 @@ mod Growing
 mod Faultless
 mod LaidOut
 mod Sending
+mod Worked

@@ -13,7 +13,7 @@ use Rattle.sccp_scrc.specs.Unitdata.{hops_of}
 use Rattle.sccp_scrc.specs.declared.arrival.Arrival.{Arrival}
 use Rattle.sccp_scrc.specs.declared.arrival.Arrival.TheVariants as arrivals
 use Rattle.relay_net.specs.Journeys.{held_at, onward, travel, most_arrivals, journey}
-use Rattle.relay_net.specs.States.{State, first_states, first_states_from, markings_of, happened, applied, applied_at}
+use Rattle.relay_net.specs.States.{State, first_states_from, markings_of, happened, applied, applied_at}
 use Rattle.relay_net.specs.declared.happening.Happening.{Happening}
 use Rattle.relay_net.specs.declared.happening.Happening.TheVariants.{Managed}
 use Rattle.relay_net.specs.declared.travelled.Journey.{Journey}

@@ -1,5 +1,3 @@
-use Rattle.relay_net.specs.States.{markings_of}
-use Rattle.made_load.specs.Messages.{origin}
 use Rattle.made_load.proofs.Sending.{few_of}
 use Rattle.made_load.proofs.load.carry.Goals as goal
 

@@ -1,4 +1,4 @@
-use Rattle.std.proofs.Common.{◌≡◌, ◌∙◌, length, ap, arith}
+use Rattle.std.proofs.Common.{◌∙◌, length, ap, arith}
 use Rattle.plan_model.specs.Network.{Network}
 use Rattle.made_load.specs.Loads.{Load, begun, before_message}
 use Rattle.made_load.proofs.Sending.{of_eight, ready_after, starts, goes_on, ends}

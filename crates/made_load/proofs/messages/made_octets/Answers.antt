@@ -1,5 +1,5 @@
-use Rattle.std.proofs.Common.{◌≡◌, ◌∙◌, ap}
-use Rattle.made_load.specs.Draws.{after, pair}
+use Rattle.std.proofs.Common.{◌∙◌, ap}
+use Rattle.made_load.specs.Draws.{after}
 use Rattle.made_load.proofs.LaidOut.{laid_out}
 use Rattle.made_load.proofs.messages.made_octets.Goals as goal
 

@@ -1,8 +1,8 @@
-use Rattle.std.proofs.Common.{◌≡◌, ◌∙◌, sym, ap, subst}
+use Rattle.std.proofs.Common.{◌∙◌, sym, ap, subst}
 use Rattle.std.specs.List.{All}
 use Rattle.plan_model.specs.Faults.{HasFewDigits}
 use Rattle.plan_model.specs.Network.{IsNode, IsPlan, network}
-use Rattle.made_load.specs.Relays.{cover, load_plan, relays}
+use Rattle.made_load.specs.Relays.{load_plan, relays}
 use Rattle.made_load.proofs.Faultless.{sound_relays, few_digits, never}
 use Rattle.made_load.proofs.relays.load_plan.Goals as goal
 

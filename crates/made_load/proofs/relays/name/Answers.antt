@@ -1,4 +1,4 @@
-use Rattle.std.proofs.Common.{◌≡◌, ◌∷◌, ap, ◌∙◌, sym, arith}
+use Rattle.std.proofs.Common.{◌∷◌, ap, ◌∙◌, sym, arith}
 use Rattle.std.proofs.lemmas.Fmt.{decimal_digit}
 use Rattle.made_load.proofs.relays.name.Goals as goal
 
