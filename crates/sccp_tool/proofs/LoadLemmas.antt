@@ -1,5 +1,5 @@
 -- What making a load from a number ends with, and what it tells.
-use Rattle.std.proofs.Common.{◌≡◌, ◌⊎◌, ℕ, List, ◌++◌, Option, Some, Result, IfOk, refl, sym, ◌∙◌, ap, subst, append-nil}
+use Rattle.std.proofs.Common.{◌≡◌, ℕ, List, ◌++◌, Option, Some, Result, IfOk, refl, sym, ◌∙◌, ap, subst, append-nil}
 use Rattle.std.specs.Io.KnownBytes.{append_known}
 use Rattle.plan_verify.specs.Lawful.{IsLawful}
 use Rattle.plan_verify.specs.declared.verdict.Verdict.{Verdict}
@@ -8,15 +8,15 @@ use Rattle.made_load.specs.Relays.{load_plan}
 use Rattle.sccp_io.specs.Files.{Contents}
 use Rattle.sccp_report.specs.Verdicts.{verdict_text}
 use Rattle.sccp_tool.specs.Ending.{Works}
-use Rattle.sccp_tool.specs.Load.{load_text, load_work, LoadCause, LoadSure, LoadTells}
+use Rattle.sccp_tool.specs.Load.{load_text, load_work, LoadCause, LoadSure}
 use Rattle.sccp_tool.specs.Moment.{Moment}
 use Rattle.sccp_tool.specs.ReplayEnds.{IsOnRefusal}
 use Rattle.sccp_tool.specs.Task.{Load}
-use Rattle.sccp_tool.specs.Verify.{status_of, IsBad, Tells}
+use Rattle.sccp_tool.specs.Verify.{status_of, Tells}
 use Rattle.sccp_tool.specs.Work.{answered, IsJudged, Ends}
 use Rattle.sccp_tool.specs.Writing.{Writes}
 use Rattle.sccp_tool.specs.declared.status.Status.{Status}
-use Rattle.sccp_tool.specs.declared.status.Status.TheVariants.{Done, Refused, Usage}
+use Rattle.sccp_tool.specs.declared.status.Status.TheVariants.{Done, Usage}
 use Rattle.sccp_tool.specs.declared.stop.Stop.{Stop}
 use Rattle.sccp_tool.proofs.Causes.{Causes}
 use Rattle.sccp_tool.proofs.ReplayLemmas.{on_verdict}
