@@ -12,6 +12,7 @@ use crate::change::change;
 use crate::command::{Command, parse};
 use crate::cuts::cuts;
 use crate::import::import;
+use crate::load::load;
 use crate::replay::replay;
 use crate::route::route;
 use crate::send_on::send_on;
@@ -26,7 +27,7 @@ use sccp_io::{Files, Sink};
 use std::alloc::Global;
 
 const USAGE: &[u8] =
-    b"usage: show-hex HEX | show FILE | verify PLAN | route PLAN NODE SELECTOR SSN DIGITS | replay PLAN TRACE WORKERS | cuts HEX | change OLD NEW | send-on PLAN NODE ORIGIN SIZE HEX | import PLAN FILE\n";
+    b"usage: show-hex HEX | show FILE | verify PLAN | route PLAN NODE SELECTOR SSN DIGITS | replay PLAN TRACE WORKERS | load NUMBER SIZE WORKERS | cuts HEX | change OLD NEW | send-on PLAN NODE ORIGIN SIZE HEX | import PLAN FILE\n";
 
 const READ_FAULT: &[u8] = b"read fault\n";
 
@@ -109,6 +110,7 @@ fn obey<F: Files, K: Sink>(
         Command::Verify(name) => verify(alloc, name, files, out),
         Command::Route(name, start) => route(alloc, name, start, files, out),
         Command::Replay(plan, trace) => replay(alloc, plan, trace, files, out),
+        Command::Load(number, size) => load(alloc, *number, *size, out),
         Command::Cuts(octets) => cuts(alloc, octets.as_slice(), out),
         Command::Import(plan, file) => import(alloc, plan, file, files, out),
         Command::Change(old, new) => change(alloc, old, new, files, out),

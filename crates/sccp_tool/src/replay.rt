@@ -57,7 +57,7 @@ fn replay_of<'a>(plan: &'a str, trace: &'a str, workers: &str) -> Option<Command
 }
 
 /// One to ten decimal digits that spell 1.
-fn is_one(word: &[u8]) -> bool
+pub fn is_one(word: &[u8]) -> bool
     ensures { result ≡ is_one word.now }
 {
     match decimal(word, 10) {
