@@ -1,0 +1,6 @@
+//! A running world.
+#![tactic(auto)]
+
+mod answering;
+mod link;
+mod offering;
