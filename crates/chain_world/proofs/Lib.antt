@@ -1,3 +1,5 @@
 pub mod Stored
 pub mod Few
 pub mod Answered
+pub mod Nodes
+pub mod Happens

@@ -1,35 +1,46 @@
 -- What the fields of a running world keep: they are those of the world that its history leaves.
-use Rattle.std.specs.Prelude.{◌≡◌, ℕ, ◌<◌, false, List, map, length, get_or}
+use Rattle.std.specs.Prelude.{◌≡◌, ℕ, ◌<◌, false, List, [], ◌∷◌, map, length, get_or, Option, Some, None}
 use Rattle.std.specs.List.{list_any, AllByRecursion}
+use Rattle.sccp_message.specs.declared.message.Message.{Message}
 use Rattle.sccp_message.specs.Written.{message_octets}
 use Rattle.sccp_scrc.specs.Arriving.{point_of}
 use Rattle.plan_model.specs.Network as plans
+use Rattle.plan_model.specs.Network.{IsPlan}
+use Rattle.sccp_couple.specs.Runs.{Moment}
+use Rattle.couple_chain.specs.declared.happening.Happening.{Happening}
 use Rattle.couple_chain.specs.Fit.{IsFit}
 use Rattle.couple_chain.specs.Line.{given}
 use Rattle.couple_chain.specs.Logged.{IsLogged}
 use Rattle.couple_chain.specs.Relays.{Relaying}
-use Rattle.couple_chain.specs.declared.happening.Happening.{Happening}
-use Rattle.couple_chain.specs.World.{Network, World, is_node, is_used, put_on, after}
-use Rattle.sccp_couple.specs.Runs.{Moment}
+use Rattle.couple_chain.specs.World.{World, is_node, is_used, put_on, after}
 use Rattle.chain_world.specs.declared.link.Link.{Link}
 use Rattle.chain_world.specs.Kept.{network_of}
 use Rattle.chain_world.specs.Links.{octets_on, gone_from}
 use Rattle.chain_world.specs.Offering.{offers_of}
 
--- a relay of the plan, and what its point's coupling is
+-- the oldest of the messages on a link
+abbrev pub oldest_of : List Message → Option Message
+oldest_of [] = None
+oldest_of (message ∷ rest) = Some message
+
+-- a relay is the one at this place of the plan, and has what its coupling is
 pub record IsRelay (node : ℕ) (m : Moment) (r : Relaying) : Type 0 where
   pub node_is : r.node ≡ node
   pub sections_are : r.sections ≡ m.sections
   pub passed_is : IsLogged m.pairs r.passed
-  pub given_is : r.given ≡ given m
+  pub given_are : r.given ≡ given m
 
-pub record IsWorld (plan : plans.Network) (relays : List Relaying) (links : List Link) (history : List Happening) : Type 0 where
+pub record Keeps (plan : plans.Network) (relays : List Relaying) (links : List Link) (history : List Happening) (w : World) : Type 0 where
+  pub is_plan : IsPlan plan
   pub count : length relays ≡ length plan.nodes
-  pub each : (node : ℕ) (d : Relaying) → node < length relays → IsRelay node ((after (network_of plan) history).moments (point_of plan node)) (get_or relays node d)
+  pub each : (node : ℕ) (d : Relaying) → node < length relays → IsRelay node (w.moments (point_of plan node)) (get_or relays node d)
   -- all that was put on a link, and how much of it has arrived
-  pub octets : (a b : ℕ) → octets_on links a b ≡ map message_octets (put_on (after (network_of plan) history) a b)
-  pub gone : (a b : ℕ) → gone_from links a b ≡ length ((after (network_of plan) history).arrived a b)
+  pub octets : (a b : ℕ) → octets_on links a b ≡ map message_octets (put_on w a b)
+  pub gone : (a b : ℕ) → gone_from links a b ≡ length (w.arrived a b)
   -- every message can be handled
-  pub fit : (a b : ℕ) → AllByRecursion IsFit (put_on (after (network_of plan) history) a b)
-  -- the references that ends used are those of the offers
-  pub used : (from own : ℕ) → is_node (network_of plan) from ≡ false → is_used (network_of plan) (after (network_of plan) history) from own ≡ list_any (offers_of from own) history
+  pub fit : (a b : ℕ) → AllByRecursion IsFit (put_on w a b)
+  -- the references that an end used are those of its offers
+  pub used : (from own : ℕ) → is_node (network_of plan) from ≡ false → is_used (network_of plan) w from own ≡ list_any (offers_of from own) history
+
+abbrev pub IsWorld : plans.Network → List Relaying → List Link → List Happening → Type 0
+IsWorld plan relays links history = Keeps plan relays links history (after (network_of plan) history)

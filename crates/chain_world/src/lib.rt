@@ -4,3 +4,6 @@
 mod answering;
 mod link;
 mod offering;
+mod world;
+
+pub use world::World;

@@ -26,7 +26,7 @@ pub(crate) fn octets_of(alloc: Global, message: &Message) -> Result<Option<Octet
 }
 
 /// The message that octets are, unless they are none.
-fn read(alloc: Global, octets: &[u8]) -> Result<Option<Message>, OutOfMemory>
+pub(crate) fn read(alloc: Global, octets: &[u8]) -> Result<Option<Message>, OutOfMemory>
     ensures value { IfOk result (λ message. message ≡ if_read (reading octets.now)) }
     ensures sound { IfOk result (λ message. IfSome message Sound) }
     ensures kept { IfOk result (λ message. IfSome message IsMessage) }
