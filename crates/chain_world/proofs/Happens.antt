@@ -1,8 +1,8 @@
 -- What one more happening does to the fields of a running world.
-use Rattle.std.specs.Prelude.{ℕ, ◌≡◌, ◌+◌, ◌<◌, ◌==◌, ◌⊎◌, Bool, true, false, not, cond, if◌then◌else◌, ◌&&◌, ◌||◌, List, [], ◌∷◌, ◌++◌, length, map, filter_map, All, Option, Some, None, is_some, is_none, Ok, slice_get, refl}
+use Rattle.std.specs.Prelude.{ℕ, ◌≡◌, ◌+◌, ◌<◌, ◌==◌, ◌⊎◌, Bool, true, false, not, cond, if◌then◌else◌, ◌&&◌, ◌||◌, List, [], ◌∷◌, ◌++◌, length, map, All, Option, Some, None, is_some, is_none, Ok, slice_get, refl}
 use Rattle.std.specs.List.{list_any, AllByRecursion, cons_option, range_with_len}
-use Rattle.std.proofs.Common.{zero, suc, sym, ◌∙◌, ap, subst, ⊎_elim, inl, inr, arith, get_or, set, append_assoc, zero-add}
-use Rattle.std.proofs.lemmas.Bool.{cases_eq, eq-eqb, eqb-true, ne_eqb, and_parts}
+use Rattle.std.proofs.Common.{suc, sym, ◌∙◌, ap, subst, ⊎_elim, inl, inr, arith, get_or, set, append_assoc, zero-add}
+use Rattle.std.proofs.lemmas.Bool.{cases_eq, eq-eqb, eqb-true, and_parts}
 use Rattle.std.proofs.lemmas.List.{get_or-set_same, get_or-set_other, length-set, map-append}
 use Rattle.std.proofs.lemmas.List.Folds.{list_any-append}
 use Rattle.std.proofs.lemmas.List.FromFn.{length-map-range_with_len, get_or-map-range_with_len}
@@ -12,7 +12,6 @@ use Rattle.sccp_layout.specs.declared.parts.JoinFault.{JoinFault}
 use Rattle.sccp_message.specs.declared.message.Message.{Message}
 use Rattle.sccp_message.specs.Reading.{reading}
 use Rattle.sccp_message.specs.Written.{message_octets, Sound}
-use Rattle.sccp_manage.specs.declared.sent.Sent.{Sent}
 use Rattle.sccp_scrc.specs.Arriving.{point_of}
 use Rattle.sccp_scrc.specs.Unitdata.{called_of, octets_of, write_fault}
 use Rattle.plan_model.specs.Network as plans
@@ -35,7 +34,7 @@ use Rattle.couple_chain.specs.Fit.{IsFit}
 use Rattle.couple_chain.specs.Relays.{Relaying, first_relay, relay_after}
 use Rattle.couple_chain.specs.World.{Network, World, is_node, is_used, put_on, start, put, left, handled, event_at, messages_to, names, name_of, uses_again, fault_by, unread, is_writable, offer_fault, offered_if, delivered_of, delivery_of, happens, run, after}
 use Rattle.couple_chain.proofs.Fit.{sent_fit}
-use Rattle.couple_chain.proofs.Noted.{IsNoted, noted_happens}
+use Rattle.couple_chain.proofs.Noted.{noted_happens}
 use Rattle.couple_chain.proofs.Worlds.{none_by, offered_cases, delivered_cases, accepted_parts, put_left, put_there, put_on_offer, put_on_else, moment_here, moment_there}
 use Rattle.chain_world.specs.declared.link.Link.{Link}
 use Rattle.chain_world.specs.Kept.{network_of}
@@ -200,8 +199,10 @@ named_on w from to message f own n =
     and_false : (b : Bool) → (b && false) ≡ false
     and_false true = refl
     and_false false = refl
+
     same_way : (m n : ℕ) → (m == n) ≡ (n == m)
     same_way m n = grind arith
+
     last : (x y : Bool) → x ≡ true → (y || false) ≡ ((x && y) && true)
     last true true h = refl
     last true false h = refl
@@ -385,8 +386,10 @@ handles plan relays links more history from to place message rest r after_r is q
     node_not : (b : Bool) → b ≡ true → b ≡ false → ⊥
     node_not true h k = let z : true ≡ false = k in cc
     node_not false h k = let z : false ≡ true = h in cc
+
     length_set : (rs : List Relaying) (i : ℕ) (x : Relaying) → length (set rs i x) ≡ length rs
     length_set rs i x = length-set rs i x
+
     first_waiting : (arrived : List Message) (m : Message) (rest : List Message) → AllByRecursion IsFit (arrived ++ m ∷ rest) → IsFit m
     first_waiting [] m rest h = h.0
     first_waiting (x ∷ arrived) m rest h = first_waiting arrived m rest h.1
@@ -422,7 +425,7 @@ behind : {A : Type 0} (P : A → Type 0) (xs ys : List A) → AllByRecursion P (
 behind P [] ys h = h
 behind P (x ∷ xs) ys h = behind P xs ys h.1
 
-front_is : (plan : plans.Network) (relays : List Relaying) (links : List Link) (history : List Happening) (from to : ℕ) → IsWorld plan relays links history →
+pub front_is : (plan : plans.Network) (relays : List Relaying) (links : List Link) (history : List Happening) (from to : ℕ) → IsWorld plan relays links history →
     slice_get (octets_on links from to) (gone_from links from to) ≡ slice_get (map message_octets ((after (network_of plan) history).waiting from to)) 0
 front_is plan relays links history from to is =
     let w : World = after (network_of plan) history in

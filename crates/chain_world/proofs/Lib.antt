@@ -3,3 +3,4 @@ pub mod Few
 pub mod Answered
 pub mod Nodes
 pub mod Happens
+pub mod Asked

@@ -1,9 +1,9 @@
 -- The nodes of a plan by their points.
-use Rattle.std.specs.Prelude.{ℕ, ◌≡◌, ◌≢◌, ◌+◌, ◌<◌, ◌≤◌, ◌==◌, nat_lt, Bool, true, false, not, cond, ◌||◌, List, [], ◌∷◌, length, map, position, Option, Some, None, is_some, slice_get, refl}
+use Rattle.std.specs.Prelude.{ℕ, ◌≡◌, ◌+◌, ◌<◌, ◌==◌, nat_lt, Bool, true, false, not, cond, ◌||◌, List, [], ◌∷◌, length, map, position, Some, None, is_some, refl}
 use Rattle.std.specs.List.{list_any, prefix_len, position_or_len}
 use Rattle.std.specs.Option.{option_map_or}
-use Rattle.std.proofs.Common.{zero, suc, sym, ◌∙◌, ap, subst, ⊎_elim, arith, get_or}
-use Rattle.std.proofs.lemmas.Bool.{eqb-true, eq-eqb, cases_eq, cases_Bool, ltb-false, ltb-true, lt-ltb}
+use Rattle.std.proofs.Common.{suc, sym, ◌∙◌, ap, ⊎_elim, arith, get_or}
+use Rattle.std.proofs.lemmas.Bool.{eqb-true, cases_Bool, ltb-false, ltb-true, lt-ltb}
 use Rattle.std.proofs.lemmas.List.Quantifiers.{position-Some}
 use Rattle.std.proofs.lemmas.Option.{slice_get-get_or}
 use Rattle.plan_model.specs.declared.node.Node.{Node}
@@ -56,7 +56,7 @@ with_node : (nodes : List Node) (i : ℕ) → i < length nodes → (P : Type 0) 
 with_node [] i lt P f = absurd (omega arith)
 with_node (n ∷ nodes) i lt P f = f n
 
-point_by : (plan : Network) (i : ℕ) (d : Node) → i < length plan.nodes → point_of plan i ≡ (get_or plan.nodes i d).pc
+pub point_by : (plan : Network) (i : ℕ) (d : Node) → i < length plan.nodes → point_of plan i ≡ (get_or plan.nodes i d).pc
 point_by plan i d lt = ap (λ o. option_map_or (λ (n : Node). n.pc) o 0) (slice_get-get_or plan.nodes i d lt)
 
 within_by : (nodes : List Node) (pc i : ℕ) → position (has_point pc) nodes ≡ Some i → i < length nodes

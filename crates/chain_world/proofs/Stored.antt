@@ -1,5 +1,5 @@
 -- A list of links as a function of two points.
-use Rattle.std.specs.Prelude.{ℕ, ◌≡◌, ◌+◌, ◌<◌, ◌≤◌, ◌==◌, nat_lt, Bool, true, false, not, cond, ◌&&◌, List, [], ◌∷◌, ◌++◌, length, position, Option, Some, None, refl}
+use Rattle.std.specs.Prelude.{ℕ, ◌≡◌, ◌+◌, ◌<◌, ◌≤◌, ◌==◌, nat_lt, Bool, true, false, not, cond, ◌&&◌, List, [], ◌∷◌, ◌++◌, length, position, Some, None, refl}
 use Rattle.std.specs.List.{prefix_len, position_or_len}
 use Rattle.std.proofs.Common.{zero, suc, sym, ◌∙◌, ap, ⊎_elim, arith, get_or, set}
 use Rattle.std.proofs.lemmas.Bool.{cases_Bool, and_parts, and_from, eq-eqb, eqb-true, ltb-false}

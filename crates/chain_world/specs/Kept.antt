@@ -1,5 +1,5 @@
 -- What a running world is to its callers: its plan and its history.
-use Rattle.std.specs.Prelude.{ℕ, List, [], map}
+use Rattle.std.specs.Prelude.{List, [], map}
 use Rattle.plan_model.specs.Network as plans
 use Rattle.plan_model.specs.Network.{node_of}
 use Rattle.sccp_couple.specs.Ways.{way_of}

@@ -1,5 +1,5 @@
 -- What the fields of a running world keep: they are those of the world that its history leaves.
-use Rattle.std.specs.Prelude.{◌≡◌, ℕ, ◌<◌, false, List, [], ◌∷◌, map, length, get_or, Option, Some, None}
+use Rattle.std.specs.Prelude.{◌≡◌, ℕ, ◌<◌, nat_lt, nat_le, ◌==◌, ◌&&◌, ◌||◌, if◌then◌else◌, Bool, false, List, [], ◌∷◌, map, length, sum, get_or, slice_get, Option, Some, None, is_some}
 use Rattle.std.specs.List.{list_any, AllByRecursion}
 use Rattle.sccp_message.specs.declared.message.Message.{Message}
 use Rattle.sccp_message.specs.Written.{message_octets}
@@ -12,7 +12,7 @@ use Rattle.couple_chain.specs.Fit.{IsFit}
 use Rattle.couple_chain.specs.Line.{given}
 use Rattle.couple_chain.specs.Logged.{IsLogged}
 use Rattle.couple_chain.specs.Relays.{Relaying}
-use Rattle.couple_chain.specs.World.{World, is_node, is_used, put_on, after}
+use Rattle.couple_chain.specs.World.{Network, World, is_node, is_used, put_on, after}
 use Rattle.chain_world.specs.declared.link.Link.{Link}
 use Rattle.chain_world.specs.Kept.{network_of}
 use Rattle.chain_world.specs.Links.{octets_on, gone_from}
@@ -22,6 +22,27 @@ use Rattle.chain_world.specs.Offering.{offers_of}
 abbrev pub oldest_of : List Message → Option Message
 oldest_of [] = None
 oldest_of (message ∷ rest) = Some message
+
+-- the link between the points of a link holds a message
+abbrev pub holds_on : List Link → Link → Bool
+holds_on links l = is_some (slice_get (octets_on links l.from l.to) (gone_from links l.from l.to))
+
+-- the first of two links, by their first point and then the second
+abbrev pub is_before : ℕ → ℕ → ℕ → ℕ → Bool
+is_before from to a b = nat_lt from a || ((from == a) && nat_le to b)
+
+abbrev pub lesser : Option (ℕ × ℕ) → ℕ → ℕ → ℕ × ℕ
+lesser None a b = (a, b)
+lesser (Some p) a b = if is_before p.0 p.1 a b then p else (a, b)
+
+-- the least of a list of links that hold a message, and of the best one so far
+abbrev pub best_of : List Link → Option (ℕ × ℕ) → List Link → Option (ℕ × ℕ)
+best_of links best [] = best
+best_of links best (l ∷ rest) = best_of links (if holds_on links l then Some (lesser best l.from l.to) else best) rest
+
+-- how many sections the relays have, all together
+abbrev pub sections_of : Network → World → ℕ
+sections_of network w = sum (map (λ node. length (w.moments node).sections) network.nodes)
 
 -- a relay is the one at this place of the plan, and has what its coupling is
 pub record IsRelay (node : ℕ) (m : Moment) (r : Relaying) : Type 0 where

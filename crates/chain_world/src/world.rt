@@ -1,4 +1,4 @@
-ghost use Rattle.std.specs.Prelude.{◌≡◌, ◌<◌, [], ◌∷◌, ◌++◌, ℕ, false, true, None, Some, List, map, length, position, ⊤, IfOk, IfErr, IfSome, OnOk, OnErr};
+ghost use Rattle.std.specs.Prelude.{◌≡◌, ◌↔◌, ◌<◌, [], ◌∷◌, ◌++◌, ℕ, false, true, None, Some, List, map, length, position, ⊤, IfOk, IfErr, IfNone, IfSome, OnOk, OnErr};
 ghost use Rattle.std.specs.Bool.{MatchBool};
 ghost use Rattle.std.specs.List.{range_with_len};
 ghost use Rattle.sccp_base.specs.Answers.{Answers};
@@ -9,12 +9,14 @@ ghost use Rattle.sccp_couple.specs.Sending.{HasShortParts};
 ghost use Rattle.couple_chain.specs.declared.happening.Happening.TheVariants.{Offers, Delivers};
 ghost use Rattle.couple_chain.specs.Fit.{IsFit};
 ghost use Rattle.couple_chain.specs.Relays.{first_relay};
-ghost use Rattle.couple_chain.specs.World.{is_node, name_of, uses_again, offer_fault, delivery};
+ghost use Rattle.couple_chain.specs.World.{is_node, name_of, uses_again, offer_fault, delivery, IsNextLink};
 ghost use Rattle.chain_world.specs.Kept.{kept, network_of, world_of};
 ghost use Rattle.chain_world.specs.Offering.{as_read, fault_of, fault_of_read, early_fault, answer_by, is_memory};
-ghost use Rattle.chain_world.specs.Running.{oldest_of};
+ghost use Rattle.couple_chain.specs.Line.{is_fresh, IsSettled};
+ghost use Rattle.chain_world.specs.Running.{oldest_of, sections_of};
 
 use crate::answering::take_in;
+use crate::asking::{are_fresh, are_idle, least, sections_in};
 use crate::link::{Link, oldest, pass, put};
 use crate::offering::{is_used, name_of, octets_of, read, read_again};
 use couple_chain::{Delivered, Happening, OfferFault, Relay};
@@ -178,12 +180,7 @@ impl World {
     }
 
     /// An offer of a message that octets say.
-    fn offer_read(
-        &mut self,
-        from: PointCode,
-        to: PointCode,
-        read: Signal,
-    ) -> Result<(), OfferFault>
+    fn offer_read(&mut self, from: PointCode, to: PointCode, read: Signal) -> Result<(), OfferFault>
         requires sound { Sound read }
         requires is_message { IsMessage read }
         ensures answer { Answers is_memory (λ u. u) result (answer_by (offer_fault (network_of self.old.plan) (world_of self.old) from to read)) }
@@ -228,11 +225,7 @@ impl World {
     }
 
     /// A link without a message has nothing to deliver.
-    fn deliver_nothing(
-        &mut self,
-        from: PointCode,
-        to: PointCode,
-    ) -> Result<Delivered, OutOfMemory>
+    fn deliver_nothing(&mut self, from: PointCode, to: PointCode) -> Result<Delivered, OutOfMemory>
         requires { (world_of self.old).waiting from to ≡ [] }
         ensures answer { IfOk result (λ d. d ≡ delivery (network_of self.old.plan) (world_of self.old) from to) }
         ensures ok { OnOk result (self.new ≡ kept self.old.plan (self.old.history ++ Delivers from to ∷ [])) }
@@ -299,11 +292,7 @@ impl World {
 
     /// A link delivers its oldest message: `Nothing` where it has none, `Handled` where a relay takes it, whose coupling then
     /// sends what it sends, and `Out` where an end is handed it. After want of memory all is as before.
-    pub fn deliver(
-        &mut self,
-        from: PointCode,
-        to: PointCode,
-    ) -> Result<Delivered, OutOfMemory>
+    pub fn deliver(&mut self, from: PointCode, to: PointCode) -> Result<Delivered, OutOfMemory>
         ensures answer { IfOk result (λ d. d ≡ delivery (network_of self.old.plan) (world_of self.old) from to) }
         ensures ok { OnOk result (self.new ≡ kept self.old.plan (self.old.history ++ Delivers from to ∷ [])) }
         ensures err { OnErr result (self.new ≡ self.old) }
@@ -315,5 +304,36 @@ impl World {
                 Some(node) => self.handle(node, from, to, &message),
             },
         }
+    }
+
+    /// Whether no relay gave one own reference to two sections. It takes no memory.
+    pub fn fresh(&self) -> bool
+        ensures { result ≡ is_fresh (network_of self.now.plan) (world_of self.now) }
+    {
+        are_fresh(self.relays.as_slice())
+    }
+
+    /// Whether no link holds a message. It takes no memory.
+    pub fn settled(&self) -> bool
+        ensures { (result ≡ true) ↔ IsSettled (world_of self.now) }
+    {
+        are_idle(self.links.as_slice())
+    }
+
+    /// The number of connection sections of all relays together. It takes no memory.
+    pub fn sections(&self) -> u32
+        ensures { result ≡ sections_of (network_of self.now.plan) (world_of self.now) }
+    {
+        sections_in(self.relays.as_slice())
+    }
+
+    /// Of the links that hold a message the least, by its first point and then its second; `None` where no link holds one. It
+    /// takes no memory.
+    pub fn next(&self) -> Option<(PointCode, PointCode)>
+        ensures some { IfSome result (λ l. IsNextLink (world_of self.now) l.0 l.1) }
+        ensures none { IfNone result (IsSettled (world_of self.now)) }
+        ensures settled { IsSettled (world_of self.now) → result ≡ None }
+    {
+        least(self.links.as_slice())
     }
 }

@@ -1,5 +1,4 @@
-use Rattle.std.proofs.Common.{◌≡◌, ℕ, List, map, ap, sym, ◌∙◌}
-use Rattle.sccp_manage.specs.declared.sent.Sent.{Sent}
+use Rattle.std.proofs.Common.{ap, sym, ◌∙◌}
 use Rattle.chain_world.specs.Links.{octets_on}
 use Rattle.chain_world.specs.Answering.{places}
 use Rattle.chain_world.proofs.Answered.{take_none_back, take_one_back, take_two_back}

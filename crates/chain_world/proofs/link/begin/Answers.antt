@@ -1,4 +1,4 @@
-use Rattle.std.proofs.Common.{◌≡◌, [], ◌∷◌, ◌++◌, ◌∙◌, ap, refl, List, ℕ}
+use Rattle.std.proofs.Common.{[], ◌∷◌, ◌++◌, ◌∙◌, ap, refl, List, ℕ}
 use Rattle.chain_world.specs.declared.link.Link.{Link}
 use Rattle.chain_world.specs.Links.{octets_on, gone_from}
 use Rattle.chain_world.proofs.Stored.{begun_octets, begun_gone}

@@ -1,4 +1,4 @@
-use Rattle.std.proofs.Common.{rules, ◌≡◌, [], List, ℕ, ap, sym, ◌∙◌, position, Some, slice_get, get_or}
+use Rattle.std.proofs.Common.{◌≡◌, [], List, ℕ, ap, sym, ◌∙◌, position, Some, slice_get}
 use Rattle.std.specs.Option.{option_copied}
 use Rattle.chain_world.specs.declared.link.Link.{Link}
 use Rattle.chain_world.specs.Links.{octets_on, gone_from, is_link}

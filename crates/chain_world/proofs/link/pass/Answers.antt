@@ -1,4 +1,4 @@
-use Rattle.std.proofs.Common.{◌≡◌, [], ◌∷◌, ◌++◌, ◌+◌, ap, sym, subst, ◌∙◌, List, ℕ, position, Some, ◌<◌, length, arith}
+use Rattle.std.proofs.Common.{◌≡◌, [], ◌+◌, ap, sym, subst, ◌∙◌, List, ℕ, position, Some, ◌<◌, length, arith}
 use Rattle.chain_world.specs.declared.link.Link.{Link}
 use Rattle.chain_world.specs.Links.{octets_on, gone_from, is_link}
 use Rattle.chain_world.proofs.Stored.{set_link, found_link, is_found, unset, nothing_found}

@@ -1,4 +1,4 @@
-use Rattle.std.proofs.Common.{◌≡◌, [], ◌∷◌, ◌++◌, ap, sym, ◌∙◌, List, ℕ, position, Some}
+use Rattle.std.proofs.Common.{◌≡◌, [], ap, sym, ◌∙◌, List, position, Some}
 use Rattle.chain_world.specs.declared.link.Link.{Link}
 use Rattle.chain_world.specs.Links.{octets_on, is_link}
 use Rattle.chain_world.proofs.Stored.{set_link, found_link, is_found, unset, nothing_found, no_message}

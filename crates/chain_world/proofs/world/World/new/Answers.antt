@@ -1,4 +1,4 @@
-use Rattle.std.proofs.Common.{◌≡◌, length, map, ℕ, ap, ◌∙◌}
+use Rattle.std.proofs.Common.{length, map, ℕ, ap, ◌∙◌}
 use Rattle.std.specs.List.{range_with_len}
 use Rattle.couple_chain.specs.Relays.{first_relay}
 use Rattle.chain_world.proofs.Happens.{begins}

@@ -1,4 +1,4 @@
-use Rattle.std.proofs.Common.{◌≡◌, ◌∙◌, ap, sym, subst, Option, Some, Result, Ok, Err, IfOk, IfSome, List, ℕ, slice_get}
+use Rattle.std.proofs.Common.{◌≡◌, ◌∙◌, ap, sym, subst, Option, Result, Ok, Err, IfOk, IfSome, List, ℕ, slice_get}
 use Rattle.sccp_message.specs.declared.message.Message.{Message}
 use Rattle.sccp_message.specs.Reading.{reading}
 use Rattle.sccp_couple.specs.Sending.{HasShortParts}

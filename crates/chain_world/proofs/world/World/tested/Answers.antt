@@ -1,4 +1,4 @@
-use Rattle.std.proofs.Common.{◌≡◌, List, ℕ, Bool, true, false, sym, subst, ap, ◌∙◌}
+use Rattle.std.proofs.Common.{List, ℕ, Bool, true, false, sym, subst, ◌∙◌}
 use Rattle.std.specs.Prelude.{⊤}
 use Rattle.std.specs.Bool.{MatchBool}
 use Rattle.sccp_message.specs.Reads.{Reads}
