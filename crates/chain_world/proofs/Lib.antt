@@ -4,3 +4,4 @@ pub mod Answered
 pub mod Nodes
 pub mod Happens
 pub mod Asked
+pub mod Readable

@@ -9,8 +9,10 @@
 
 mod answering;
 mod asking;
+mod laws;
 mod link;
 mod offering;
 mod world;
 
+pub use laws::offers_are_of_the_message;
 pub use world::World;
