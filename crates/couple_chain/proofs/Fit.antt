@@ -1,5 +1,5 @@
 -- What a relay sends for a message that it can handle is again such a message.
-use Rattle.std.specs.Prelude.{ℕ, ◌≡◌, ◌<◌, ◌≤◌, ◌==◌, nat_lt, Bool, true, false, not, cond, ◌&&◌, List, [], ◌∷◌, ◌++◌, length, find, Option, Some, None, is_none, option_map, IfSome, unwrap_or, Ok, refl}
+use Rattle.std.specs.Prelude.{ℕ, ◌≡◌, ◌<◌, ◌==◌, nat_lt, Bool, true, false, not, cond, ◌&&◌, List, [], ◌∷◌, ◌++◌, length, find, Option, Some, None, is_none, option_map, IfSome, unwrap_or, Ok, refl}
 use Rattle.std.specs.List.{list_any, AllByRecursion}
 use Rattle.std.proofs.Common.{sym, ◌∙◌, ap, subst, arith}
 use Rattle.std.proofs.lemmas.Bool.{eqb-true}
@@ -32,7 +32,7 @@ use Rattle.sccp_couple.specs.declared.section.Section.{Section}
 use Rattle.sccp_couple.specs.declared.way.Way.{Way}
 use Rattle.sccp_couple.specs.declared.way.Way.TheVariants.{Refused, Onward}
 use Rattle.sccp_couple.specs.Sections.{is_that, section_at, known, other_of, has_remote, is_established, is_near_of, changed, confirmed, released, without, without_both, with_pair, first_new, second_new}
-use Rattle.sccp_couple.specs.Events.{Event, Answer, Outcome}
+use Rattle.sccp_couple.specs.Events.{Answer, Outcome}
 use Rattle.sccp_couple.specs.Coupling.{coupled, on_message, request_goes, on_confirm, on_refusal, on_data, on_release, release, on_complete, toward, to_remote, to_one, only_sends}
 use Rattle.sccp_couple.specs.Ways.{counted, count_first, at_subsystem, after_step, translated, is_used_up, request_way, way_of, event_of}
 use Rattle.sccp_couple.proofs.Counting.{count_short}

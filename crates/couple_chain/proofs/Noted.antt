@@ -1,6 +1,6 @@
 -- What a relay notes of its messages is what the ledger of its pairs says.
 use Rattle.std.specs.Prelude.{ℕ, ◌≡◌, List, [], ◌∷◌, ◌++◌, map, All, flat_map, refl}
-use Rattle.std.proofs.Common.{sym, ◌∙◌, ap, subst, append_assoc}
+use Rattle.std.proofs.Common.{sym, ◌∙◌, ap, subst}
 use Rattle.sccp_couple.specs.declared.section.Section.{Section}
 use Rattle.sccp_couple.specs.Events.{Event}
 use Rattle.sccp_couple.specs.Coupling.{coupled}

@@ -22,4 +22,4 @@ pub use laws::{
 };
 pub use offer_fault::OfferFault;
 pub use passed::Passed;
-pub use relay::Relay;
+pub use relay::{Prepared, Relay};

@@ -2,7 +2,8 @@ ghost use Rattle.std.specs.Prelude.{◌≡◌, ◌<◌, map, length, IfOk, OnOk,
 ghost use Rattle.sccp_couple.specs.Coupling.{coupled};
 ghost use Rattle.sccp_couple.specs.Sending.{written_sent, HasShortParts};
 ghost use Rattle.sccp_couple.specs.Ways.{event_of};
-ghost use Rattle.couple_chain.specs.Relays.{first_relay, relay_after};
+ghost use Rattle.sccp_couple.specs.declared.way.Way.{Way};
+ghost use Rattle.couple_chain.specs.Relays.{event_with, first_relay, relay_after};
 
 use crate::noting::note;
 use crate::passed::Passed;
@@ -13,6 +14,13 @@ use sccp_manage::Sent;
 use sccp_message::Message;
 use std::alloc::Global;
 use std::marker::Model;
+
+/// What a message makes of a relay's coupling, and what is sent.
+#[derive(Drop)]
+pub struct Prepared {
+    pub exchange: Exchange,
+    pub sent: List<Sent>,
+}
 
 /// A relay of a chain: its coupling, the data that its sections passed on, and the own references that it gave.
 #[derive(Drop)]
@@ -44,6 +52,51 @@ impl Relay {
         }
     }
 
+    /// What a connection-oriented message from a point makes of the coupling, and what is sent. The relay stays as it is: it
+    /// has taken the message only once `commit` took what this answers.
+    pub fn prepare(
+        &self,
+        plan: &Plan,
+        marking: &Marking,
+        origin: PointCode,
+        message: &Message,
+    ) -> Result<Prepared, OutOfMemory>
+        requires node { self.now.node < length plan.now.nodes }
+        requires short { HasShortParts message.now }
+        ensures node { IfOk result (λ p. p.exchange.node ≡ self.now.node) }
+        ensures sections { IfOk result (λ p. p.exchange.sections ≡ (coupled self.now.sections (event_of plan.now self.now.node marking.now origin message.now)).sections) }
+        ensures sent { IfOk result (λ p. p.sent ≡ map written_sent (coupled self.now.sections (event_of plan.now self.now.node marking.now origin message.now)).sent) }
+    {
+        let mut exchange = self.exchange.try_clone()?;
+        let sent = exchange.on(plan, marking, origin, message)?;
+        Ok(Prepared { exchange, sent })
+    }
+
+    /// The relay has the coupling that a message made, and notes what its sections passed on and the references that it gave.
+    /// An error is want of memory, and leaves the relay as it was.
+    pub fn commit(
+        &mut self,
+        exchange: Exchange,
+        origin: PointCode,
+        message: &Message,
+    ) -> Result<(), OutOfMemory>
+        requires node { exchange.node ≡ self.old.node }
+        ensures ok { OnOk result ((way : Way) → exchange.sections ≡ (coupled self.old.sections (event_with origin message.now way)).sections → self.new ≡ relay_after self.old (event_with origin message.now way)) }
+        ensures err { OnErr result (self.new ≡ self.old) }
+    {
+        note(
+            self.alloc,
+            &mut self.passed,
+            &mut self.given,
+            &self.exchange,
+            &exchange,
+            origin,
+            message,
+        )?;
+        self.exchange = exchange;
+        Ok(())
+    }
+
     /// The relay takes a connection-oriented message from a point, and this is what it sends. An error is want of memory, and
     /// leaves the relay as it was.
     pub fn take(
@@ -59,19 +112,8 @@ impl Relay {
         ensures sent { IfOk result (λ sent. sent ≡ map written_sent (coupled self.old.sections (event_of plan.now self.old.node marking.now origin message.now)).sent) }
         ensures err { OnErr result (self.new ≡ self.old) }
     {
-        let alloc = self.alloc;
-        let mut exchange = self.exchange.try_clone()?;
-        let sent = exchange.on(plan, marking, origin, message)?;
-        note(
-            alloc,
-            &mut self.passed,
-            &mut self.given,
-            &self.exchange,
-            &exchange,
-            origin,
-            message,
-        )?;
-        self.exchange = exchange;
+        let Prepared { exchange, sent } = self.prepare(plan, marking, origin, message)?;
+        self.commit(exchange, origin, message)?;
         Ok(sent)
     }
 

@@ -1,6 +1,4 @@
 use Rattle.std.proofs.Common.{◌++◌, ℕ, List, ap, ◌∙◌, arith}
-use Rattle.sccp_couple.specs.declared.section.Section.{Section}
-use Rattle.sccp_couple.specs.Events.{Event}
 use Rattle.couple_chain.specs.Relays.{event_with}
 use Rattle.couple_chain.proofs.Bounds.{at_most}
 use Rattle.couple_chain.proofs.Grown.{then_passed, then_given, else_passed, else_given}

@@ -1,0 +1,5 @@
+pub mod Kept
+pub mod Links
+pub mod Answering
+pub mod Offering
+pub mod Running
