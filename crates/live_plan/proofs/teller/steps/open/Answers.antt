@@ -1,0 +1,28 @@
+use Rattle.std.proofs.Common.{rules, arith, ◌≡◌, ◌++◌, [], ◌∷◌, ap, ◌∙◌, sym, subst}
+use Rattle.std.specs.Arc.{arc_value}
+use Rattle.live_plan.specs.declared.known.Known.{Known}
+use Rattle.live_plan.specs.declared.published.Published.{Published}
+use Rattle.live_plan.specs.declared.published.Shown.{Shown}
+use Rattle.live_plan.specs.Plans.{HasPlan}
+use Rattle.live_plan.specs.Published.{newcomer, seen_of}
+use Rattle.live_plan.specs.Seats.{known_by}
+use Rattle.live_plan.proofs.Turning.{begins}
+use Rattle.live_plan.proofs.Telling.{last_shown, first_here}
+use Rattle.live_plan.proofs.teller.steps.open.Goals as goal
+
+pub publish_as-writer-requires : goal.publish_as-writer-requires
+publish_as-writer-requires g c next is =
+    let y : Shown = arc_value c.in_ok-begun.begun in
+    let x : Published = c.append.new.self.desk.shown.value in
+    let v : Known = known_by c.append.new.self.desk.place in
+    let e : arc_value next.shown ≡ y = last_shown _ _ _ _ _ is c.in-Ok.ensures.pending in
+    let told : v ≡ newcomer = ap (λ d. known_by d.place) c.in-Ok.ensures.desk ∙ c.in_ok-writer.ensures.2 in
+    let before : (arc_value x.shown).batch ≡ 1 = search rules in
+    let after : y.batch ≡ 2 = search rules in
+    let number : y.number ≡ 1 = search rules in
+    let coming : y.coming.value ≡ c.args.first ∷ [] = search rules in
+    let plan : arc_value y.plan ≡ c.args.first = search rules in
+    let now : (arc_value next.shown).batch ≡ y.batch = ap (λ (s : Shown). s.batch) e in
+    let here = first_here y c.args.first number coming plan in
+    let there = subst (λ (k : Known). HasPlan (seen_of k ++ y.coming.value) y.number (arc_value y.plan)) (sym told) here in
+    begins (λ (p : Published). arc_value p.shown) _ v x next (omega (arith, before, after, now)) (subst (λ (s : Shown). HasPlan (seen_of v ++ s.coming.value) s.number (arc_value s.plan)) (sym e) there)

@@ -1,0 +1,47 @@
+-- The live plan as a machine, whose events are atomic steps of the running system: the list of published plans, and for each worker the number of the plan
+-- that it keeps.
+use Rattle.std.specs.Prelude.{ℕ, ◌≤◌, max, List, [], ◌∷◌, ◌++◌, length, slice_index, slice_set, fold}
+use mathlib.Core.List.{IsPrefix}
+use Rattle.plan_check.specs.Verified.{Verified}
+
+pub record Machine : Type 0 where
+  pub plans : List Verified
+  pub numbers : List ℕ
+
+-- a plan is published behind the others; a worker enters and takes the last one; a worker learns that so many are published
+pub data Event : Type 0 where
+  Publish : Verified → Event
+  Enter : ℕ → Event
+  Learn : ℕ → ℕ → Event
+
+abbrev pub with_number : Machine → ℕ → ℕ → Machine
+with_number m worker n = record { plans = m.plans; numbers = slice_set m.numbers worker n }
+
+-- the machine after an event
+abbrev pub after_event : Machine → Event → Machine
+after_event m (Publish plan) = record { plans = m.plans ++ plan ∷ []; numbers = m.numbers }
+after_event m (Enter worker) = with_number m worker (length m.plans)
+after_event m (Learn worker n) = with_number m worker (max (slice_index m.numbers worker) n)
+
+-- a worker learns a length that the list has had
+abbrev pub MayCome : Machine → Event → Type 0
+MayCome m (Publish plan) = Unit {0}
+MayCome m (Enter worker) = Unit {0}
+MayCome m (Learn worker n) = n ≤ length m.plans
+
+abbrev pub MayAllCome : Machine → List Event → Type 0
+MayAllCome m [] = Unit {0}
+MayAllCome m (e ∷ es) = MayCome m e × MayAllCome (after_event m e) es
+
+abbrev pub after_events : Machine → List Event → Machine
+after_events = fold after_event
+
+-- no number passes the length of the list
+abbrev pub IsValid : Machine → Type 0
+IsValid m = (worker : ℕ) → slice_index m.numbers worker ≤ length m.plans
+
+-- each worker's number is no less, each plan has its number still, and no number passes the length of the list
+pub record IsLater (m after : Machine) : Type 0 where
+  pub plans : IsPrefix m.plans after.plans
+  pub numbers : (worker : ℕ) → slice_index m.numbers worker ≤ slice_index after.numbers worker
+  pub valid : IsValid after

@@ -1,0 +1,184 @@
+//! A batch of jobs, beside which plans are published.
+ghost use Rattle.std.specs.Prelude.{◌≡◌, ℕ, ◌+◌, ◌^◌, ◌<◌, ◌≤◌, ◌++◌, List, All, length, slice_index_or, IfOk, OnOk};
+ghost use Rattle.std.specs.Thread.{IsSync};
+ghost use mathlib.Core.List.{IsPrefix};
+ghost use Rattle.live_plan.specs.Plans.{HaveNodes};
+ghost use Rattle.live_plan.specs.Batches.{AllPairs, AreServed, Counted, Follows, HasServed, Lasts};
+ghost use Rattle.live_plan.specs.Publishing.{HasPublished};
+ghost use Rattle.live_plan.specs.Tellers.{plans_of, due_of};
+
+use crate::briefing::brief_all;
+use crate::collecting::collect;
+use crate::gate::Gate;
+use crate::live_place::LivePlace;
+use crate::publishing::publish_all;
+use crate::share::keep_share;
+use crate::teller::Teller;
+use crate::worker::Worker;
+use plan_check::Accepted;
+use relay_net::{Job, NodeState, Served};
+use sccp_base::{List, OutOfMemory};
+use std::alloc::Global;
+use std::collections::VecDeque;
+use std::sync::Wait;
+use std::thread;
+use std::thread::Threads;
+
+// Each worker serves its share.
+fn serve_all<R: Threads + Sync, G: Gate + Sync>(
+    rt: &R,
+    alloc: Global,
+    threads: usize,
+    states: &[NodeState],
+    jobs: &[Job],
+    gate: &G,
+    workers: &mut [Worker<LivePlace>],
+)
+    requires threads { 0 < threads }
+    requires count { (0 < length workers.old) × (length workers.old ≤ 16) }
+    requires states { All (λ w. w.place.nodes ≡ length states.now) workers.old }
+    requires entries { All (λ job. job.entry < length states.now) jobs.now }
+    ensures { (i : ℕ) (d : _) → i < length workers.old → HasServed states.now jobs.now (length workers.old) i (slice_index_or workers.old i d) (slice_index_or workers.new i d) }
+{
+    let count = workers.len();
+    thread::for_each_mut(
+        rt,
+        workers,
+        threads,
+        &|share: usize, worker: &mut Worker<LivePlace>|
+            requires { (0 < count) × (count ≤ 16) × (share < count) × (worker.now.place.nodes ≡ length states.now) × All (λ job. job.entry < length states.now) jobs.now }
+            ensures { HasServed states.entry.now jobs.entry.now count share worker.entry.now worker.exit.now }
+        { keep_share(alloc, count, share, states, jobs, gate, worker) },
+    );
+}
+
+// The plans are published beside the workers.
+fn serve_beside<R: Threads + Wait + Sync, G: Gate + Sync>(
+    rt: &R,
+    alloc: Global,
+    threads: usize,
+    states: &[NodeState],
+    jobs: &[Job],
+    gate: &G,
+    teller: &mut Teller,
+    plans: &mut VecDeque<Accepted>,
+    workers: &mut [Worker<LivePlace>],
+) -> Result<(), OutOfMemory>
+    requires threads { 0 < threads }
+    requires due { due_of teller.old ≡ plans_of teller.old ++ plans.old.items }
+    requires count { (0 < length workers.old) × (length workers.old ≤ 16) }
+    requires states { All (λ w. w.place.nodes ≡ length states.now) workers.old }
+    requires entries { All (λ job. job.entry < length states.now) jobs.now }
+    ensures published { HasPublished teller.old teller.new result }
+    ensures served { (i : ℕ) (d : _) → i < length workers.old → HasServed states.now jobs.now (length workers.old) i (slice_index_or workers.old i d) (slice_index_or workers.new i d) }
+{
+    if plans.is_empty() {
+        serve_all(rt, alloc, threads, states, jobs, gate, workers);
+        return Ok(());
+    }
+    let (published, ()) = thread::join_mut(
+        rt,
+        &mut || -> Result<(), OutOfMemory>
+            requires { due_of teller.now ≡ plans_of teller.now ++ plans.now.items }
+            ensures { HasPublished teller.entry.now teller.exit.now result }
+        { publish_all(rt, gate, teller, plans) },
+        &mut ||
+            requires { IsSync R.row × IsSync G.row × (0 < threads) × (0 < length workers.now) × (length workers.now ≤ 16) × All (λ w. w.place.nodes ≡ length states.now) workers.now × All (λ job. job.entry < length states.now) jobs.now }
+            ensures { (i : ℕ) (d : _) → i < length workers.entry.now → HasServed states.entry.now jobs.entry.now (length workers.entry.now) i (slice_index_or workers.entry.now i d) (slice_index_or workers.exit.now i d) }
+        { serve_all(rt, alloc, threads, states, jobs, gate, workers) },
+    );
+    published
+}
+
+// Few jobs are served sooner than a thread is made: there is one for eight of them, and a second one from four jobs on.
+fn threads_for(jobs: usize) -> usize
+    ensures { 0 < result }
+{
+    if jobs < 4 { 1 } else { (jobs / 8).clamp(2, 16) }
+}
+
+// Briefs the workers, serves the jobs while these plans are published, and collects the answers.
+fn serve_batch<R: Threads + Wait + Sync, G: Gate + Sync>(
+    rt: &R,
+    alloc: Global,
+    states: &[NodeState],
+    jobs: &[Job],
+    gate: &G,
+    teller: &mut Teller,
+    plans: &mut VecDeque<Accepted>,
+    workers: &mut [Worker<LivePlace>],
+) -> Result<List<Served>, OutOfMemory>
+    requires due { due_of teller.old ≡ plans_of teller.old ++ plans.old.items }
+    requires count { (0 < length workers.old) × (length workers.old ≤ 16) }
+    requires made { All (λ w. w.place.nodes ≡ teller.old.nodes) workers.old }
+    requires states { length states.now ≡ teller.old.nodes }
+    requires entries { All (λ job. job.entry < teller.old.nodes) jobs.now }
+    ensures published { OnOk result (plans_of teller.new ≡ due_of teller.old) }
+    ensures served { IfOk result (λ answers. AreServed (plans_of teller.new) states.now jobs.now (length workers.old) (length (plans_of teller.old)) answers) }
+    ensures counted { OnOk result ((i : ℕ) (d : _) → i < length workers.old → i < length jobs.now → Counted (slice_index_or workers.old i d) (slice_index_or workers.new i d)) }
+    ensures follows { OnOk result ((i : ℕ) (d : _) → i < length workers.old → Follows (plans_of teller.new) (slice_index_or workers.new i d)) }
+    ensures lasts { AllPairs (Lasts (length (plans_of teller.old))) workers.old workers.new }
+    ensures begins { IsPrefix (plans_of teller.old) (plans_of teller.new) }
+    ensures within { IsPrefix (plans_of teller.new) (due_of teller.old) }
+    ensures nodes { teller.new.nodes ≡ teller.old.nodes }
+{
+    brief_all(workers, teller)?;
+    serve_beside(
+        rt,
+        alloc,
+        threads_for(jobs.len()),
+        states,
+        jobs,
+        gate,
+        teller,
+        plans,
+        workers,
+    )?;
+    collect(alloc, jobs.len(), workers)
+}
+
+/// Serves a batch of jobs while these plans are published beside it, one after the other, and answers each job with the
+/// number of its plan, in the order of the jobs.
+///
+/// Job i belongs to share i modulo the number of workers, and worker k serves share k in order. Each message goes over all its
+/// relays under one plan: the last one of before the batch, or one that is published in it, and along a share no earlier
+/// one follows. Where memory is wanting the first so many of the plans may be published, and jobs may have been served.
+pub fn run_batch<R: Threads + Wait + Sync, G: Gate + Sync>(
+    rt: &R,
+    alloc: Global,
+    teller: &mut Teller,
+    workers: &mut List<Worker<LivePlace>>,
+    states: &[NodeState],
+    jobs: &List<Job>,
+    plans: List<Accepted>,
+    gate: &G,
+) -> Result<List<Served>, OutOfMemory>
+    requires count { (0 < length workers.old) × (length workers.old ≤ 16) }
+    requires made { All (λ w. w.place.nodes ≡ teller.old.nodes) workers.old }
+    requires states { length states.now ≡ teller.old.nodes }
+    requires entries { All (λ job. job.entry < teller.old.nodes) jobs.now }
+    requires nodes { HaveNodes teller.old.nodes plans }
+    requires room { length (plans_of teller.old) + length plans < 2 ^ 32 }
+    ensures published { OnOk result (plans_of teller.new ≡ plans_of teller.old ++ plans) }
+    ensures served { IfOk result (λ answers. AreServed (plans_of teller.new) states.now jobs.now (length workers.old) (length (plans_of teller.old)) answers) }
+    ensures counted { OnOk result ((i : ℕ) (d : _) → i < length workers.old → i < length jobs.now → Counted (slice_index_or workers.old i d) (slice_index_or workers.new i d)) }
+    ensures follows { OnOk result ((i : ℕ) (d : _) → i < length workers.old → Follows (plans_of teller.new) (slice_index_or workers.new i d)) }
+    ensures lasts { AllPairs (Lasts (length (plans_of teller.old))) workers.old workers.new }
+    ensures begins { IsPrefix (plans_of teller.old) (plans_of teller.new) }
+    ensures within { IsPrefix (plans_of teller.new) (plans_of teller.old ++ plans) }
+    ensures nodes { teller.new.nodes ≡ teller.old.nodes }
+{
+    teller.begin(rt, &plans)?;
+    let mut coming = VecDeque::from_vec(plans.into_vec());
+    let jobs = jobs.as_slice();
+    serve_batch(
+        rt,
+        alloc,
+        states,
+        jobs,
+        gate,
+        teller,
+        &mut coming,
+        workers.as_mut_slice(),
+    )
+}

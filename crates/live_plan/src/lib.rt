@@ -1,0 +1,38 @@
+//! A plan that is replaced while workers route by it.
+//!
+//! A `Teller` publishes accepted plans one after the other, each under the next number, and `Worker`s look at the published
+//! plans beside it. A message goes over all its relays (ITU-T Q.714 section 2) under the one plan that its worker had when
+//! it began. `run_batch` serves a batch of messages by up to sixteen workers, while further plans are published.
+//!
+//! The crates above may rely on this: each message is routed wholly under one published plan, which its answer names by
+//! number; that is the last plan of before the batch, or one that was published in it; no worker goes back to an earlier plan;
+//! plans keep their numbers. That threads really run beside each other, and when a worker sees a new plan, is not promised.
+#![tactic(auto)]
+
+mod batch;
+mod briefing;
+mod collecting;
+mod gate;
+mod known;
+mod laws;
+mod list_place;
+mod live;
+mod live_place;
+mod nodes;
+mod place;
+mod published;
+mod publishing;
+mod rule;
+mod share;
+mod teller;
+mod worker;
+
+pub use batch::run_batch;
+pub use gate::{Gate, OpenGate};
+pub use laws::{numbers_never_fall, passes_go_on};
+pub use list_place::ListPlace;
+pub use live::Live;
+pub use live_place::LivePlace;
+pub use place::{Entry, Place};
+pub use teller::Teller;
+pub use worker::Worker;

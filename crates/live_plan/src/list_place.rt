@@ -1,0 +1,106 @@
+ghost use Rattle.std.specs.Prelude.{◌≡◌, ℕ, ◌+◌, ◌-◌, ◌^◌, ◌<◌, ◌≤◌, List, length, map, slice_get, Some, IfSome};
+ghost use Rattle.std.specs.Arc.{arc_value};
+ghost use Rattle.plan_check.specs.Verified.{Verified};
+ghost use Rattle.live_plan.specs.Plans.{HasPlan, HaveNodes, nodes_of};
+
+use crate::nodes::count_nodes;
+use crate::place::{Entry, Place, raised};
+use plan_check::Accepted;
+use sccp_base::List;
+use std::sync::Arc;
+
+// One more plan, where there is one.
+fn one_more(seen: usize, all: usize) -> usize
+    requires { seen ≤ all }
+    ensures more { seen ≤ result }
+    ensures most { result ≤ all }
+    ensures next { seen < all → result ≡ seen + 1 }
+{
+    if seen < all { seen + 1 } else { seen }
+}
+
+// The entry at the plan of this number, counted from 1.
+fn entry_at(plans: &[Arc<Accepted>], number: usize) -> Option<Entry>
+    requires { (0 < number) × (number ≤ length plans.now) × (length plans.now < 2 ^ 32) }
+    ensures number { IfSome result (λ e. e.number ≡ number) }
+    ensures plan { IfSome result (λ e. HasPlan (map arc_value plans.now) number (arc_value e.plan)) }
+{
+    match Arc::try_clone(&plans[number - 1]) {
+        Ok(plan) => Some(Entry {
+            number: number as u32,
+            plan,
+        }),
+        Err(_) => None,
+    }
+}
+
+/// A place over a list in memory, of which each entry sees one plan more, up to the whole list.
+#[derive(Drop)]
+pub struct ListPlace {
+    plans: List<Arc<Accepted>>,
+    refusing: List<u64>,
+    nodes: u8,
+    seen: usize,
+    calls: u64,
+    entries: u64,
+    refusals: u64,
+    ghost within: { (0 < seen) × (seen ≤ length plans) × (length plans < 2 ^ 32) },
+    ghost alike: { HaveNodes nodes (map arc_value plans) },
+}
+
+impl ListPlace {
+    /// The place that has seen the first plan. The calls of `enter` that `refusing` names, counted from 0, are refused.
+    pub fn new(plans: List<Arc<Accepted>>, refusing: List<u64>) -> ListPlace
+        requires within { (0 < length plans) × (length plans < 2 ^ 32) }
+        requires alike { (first : Verified) → slice_get (map arc_value plans) 0 ≡ Some first → HaveNodes (nodes_of first) (map arc_value plans) }
+        ensures plans { result.plans ≡ plans }
+        ensures refusing { result.refusing ≡ refusing }
+        ensures seen { result.seen ≡ 1 }
+        ensures counts { (result.calls ≡ 0) × (result.entries ≡ 0) × (result.refusals ≡ 0) }
+    {
+        let nodes = count_nodes(&plans.as_slice()[0]);
+        ListPlace {
+            plans,
+            refusing,
+            nodes,
+            seen: 1,
+            calls: 0,
+            entries: 0,
+            refusals: 0,
+        }
+    }
+}
+
+impl Place for ListPlace {
+    ghost plans = { λ p. Some (map arc_value p.plans) };
+
+    ghost seen = { λ p. p.seen };
+
+    ghost nodes = { λ p. p.nodes };
+
+    ghost entries = { λ p. p.entries };
+
+    ghost refusals = { λ p. p.refusals };
+
+    fn enter(&mut self) -> Option<Entry> {
+        let call = self.calls;
+        self.calls = self.calls.saturating_add(1);
+        if self.refusing.as_slice().contains(&call) {
+            self.refusals = raised(self.refusals);
+            return None;
+        }
+        let plans = self.plans.as_slice();
+        let seen = one_more(self.seen, plans.len());
+        match entry_at(plans, seen) {
+            Some(entry) => {
+                self.seen = seen;
+                self.entries = raised(self.entries);
+                Some(entry)
+            }
+            None => {
+                self.refusals = raised(self.refusals);
+                None
+            }
+        }
+    }
+}

@@ -1,0 +1,103 @@
+ghost use Rattle.std.specs.Prelude.{◌≡◌, ◌⊎◌, ◌<◌, ◌≤◌, length, None, IfOk, IfSome};
+ghost use Rattle.std.specs.Arc.{arc_value};
+ghost use Rattle.live_plan.specs.Plans.{HasPlan, IsKept, Rose, nodes_of};
+ghost use Rattle.live_plan.specs.Routed.{journey_under};
+
+use crate::gate::Gate;
+use crate::nodes::count_nodes;
+use crate::place::{Entry, Place};
+use relay_net::{Job, NodeState, Served, journey};
+use sccp_base::OutOfMemory;
+use std::alloc::Global;
+use std::collections::VecDeque;
+
+// A job is routed over all its relays under one plan.
+fn route(alloc: Global, by: &Entry, states: &[NodeState], job: &Job) -> Result<Served, OutOfMemory>
+    requires entry { job.now.entry < nodes_of (arc_value by.now.plan) }
+    requires states { length states.now ≡ nodes_of (arc_value by.now.plan) }
+    ensures number { IfOk result (λ served. served.number ≡ by.now.number) }
+    ensures journey { IfOk result (λ served. served.journey ≡ journey_under (arc_value by.now.plan) states.now job.now) }
+{
+    let journey = journey(
+        alloc,
+        &by.plan,
+        states,
+        job.entry,
+        job.origin,
+        job.octets.as_slice(),
+    )?;
+    Ok(Served {
+        number: by.number,
+        journey,
+    })
+}
+
+/// A worker with its place, and the plan that it keeps and routes by.
+#[derive(Drop)]
+pub struct Worker<P: Place> {
+    pub(crate) index: u32,
+    pub(crate) place: P,
+    pub(crate) kept: Entry,
+    /// The answers of its share of a batch, until they are collected.
+    pub(crate) answers: Option<VecDeque<Served>>,
+    ghost keeps: { IsKept (P.plans place) (P.seen place) (P.nodes place) kept.number (arc_value kept.plan) },
+}
+
+impl<P: Place> Worker<P> {
+    /// A worker over a place, which keeps the plan that it is handed. It tells gates its index.
+    pub fn over(index: u32, place: P, first: Entry) -> Worker<P>
+        requires { IsKept (P.plans place) (P.seen place) (P.nodes place) first.number (arc_value first.plan) }
+        ensures { (result.index ≡ index) × (result.place ≡ place) × (result.kept ≡ first) }
+    {
+        Worker {
+            index,
+            place,
+            kept: first,
+            answers: None,
+        }
+    }
+
+    /// The number of the plan that it keeps.
+    pub fn seen(&self) -> u32
+        ensures { result ≡ self.now.kept.number }
+    {
+        self.kept.number
+    }
+
+    /// The number of nodes of each plan that it routes by.
+    pub fn nodes(&self) -> u8
+        ensures { result ≡ P.nodes self.now.place }
+    {
+        count_nodes(&self.kept.plan)
+    }
+
+    /// Passes the gate, enters the published plans once, and routes the job over all its relays under the plan that it keeps
+    /// then: the one of this entry or, where that was refused, the one of before. Where memory is wanting a new plan may be kept.
+    pub fn serve<G: Gate>(
+        &mut self,
+        alloc: Global,
+        states: &[NodeState],
+        job: &Job,
+        gate: &G,
+    ) -> Result<Served, OutOfMemory>
+        requires entry { job.now.entry < P.nodes self.old.place }
+        requires states { length states.now ≡ P.nodes self.old.place }
+        ensures index { self.new.index ≡ self.old.index }
+        ensures nodes { P.nodes self.new.place ≡ P.nodes self.old.place }
+        ensures plans { P.plans self.new.place ≡ P.plans self.old.place }
+        ensures entered { Rose (P.entries self.old.place) (P.entries self.new.place) ⊎ Rose (P.refusals self.old.place) (P.refusals self.new.place) }
+        ensures counts { (P.entries self.old.place ≤ P.entries self.new.place) × (P.refusals self.old.place ≤ P.refusals self.new.place) }
+        ensures seen { P.seen self.old.place ≤ P.seen self.new.place }
+        ensures told { IfSome (P.plans self.new.place) (λ l. (self.new.kept.number ≡ P.seen self.new.place) × HasPlan l self.new.kept.number (arc_value self.new.kept.plan)) }
+        ensures untold { P.plans self.old.place ≡ None → self.new.kept ≡ self.old.kept }
+        ensures rises { self.old.kept.number ≤ self.new.kept.number }
+        ensures number { IfOk result (λ served. served.number ≡ self.new.kept.number) }
+        ensures journey { IfOk result (λ served. served.journey ≡ journey_under (arc_value self.new.kept.plan) states.now job.now) }
+    {
+        gate.pass(self.index, job.index);
+        if let Some(entry) = self.place.enter() {
+            self.kept = entry;
+        }
+        route(alloc, &self.kept, states, job)
+    }
+}
