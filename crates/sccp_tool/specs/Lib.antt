@@ -18,6 +18,8 @@ pub mod ReplayEnds
 pub mod Replayers
 pub mod Replaying
 pub mod Route
+pub mod Routers
+pub mod Routings
 pub mod Run
 pub mod Settling
 pub mod Show

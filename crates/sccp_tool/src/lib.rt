@@ -8,9 +8,11 @@
 //! passes on the words.
 #![tactic(auto)]
 
+mod alone;
 mod batch;
 mod change;
 mod command;
+mod crew;
 mod cuts;
 mod gathered;
 mod import;
@@ -24,6 +26,7 @@ mod reading;
 mod replay;
 mod replayer;
 mod route;
+mod router;
 mod settle;
 mod settled;
 mod show;
@@ -35,7 +38,8 @@ mod taking;
 mod tell;
 mod tracing;
 mod verify;
+mod workers;
 mod writing;
 
-pub use program::run;
+pub use program::{run, run_gated};
 pub use status::Status;
