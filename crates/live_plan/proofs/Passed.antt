@@ -1,7 +1,8 @@
 -- Plans of a list by their numbers.
-use Rattle.std.proofs.Common.{Option, None, ◌≡◌, ◌⊎◌, inl, inr, ⊎_elim, ℕ, ◌+◌, ◌-◌, ◌<◌, ◌≤◌, zero, suc, List, [], ◌∷◌, ◌++◌, length, map, take, slice_get, Some, refl, ap, sym, subst, get_or, arith}
-use Rattle.std.proofs.lemmas.Option.{slice_get_within}
+use Rattle.std.proofs.Common.{Option, None, ◌≡◌, ◌⊎◌, inl, inr, ⊎_elim, ℕ, ◌+◌, ◌-◌, ◌<◌, ◌≤◌, zero, suc, List, [], ◌∷◌, ◌++◌, length, map, take, slice_get, Some, refl, ap, sym, ◌∙◌, subst, get_or, arith}
+use Rattle.std.proofs.lemmas.Option.{slice_get_within, slice_get-get_or}
 use mathlib.Core.List.{IsPrefix}
+use Rattle.plan_model.proofs.Cutting.{get_front}
 use Rattle.plan_check.specs.Verified.{Verified}
 use Rattle.live_plan.specs.Plans.{Extends, IsEnd, HasPlan, HaveNodes, nodes_of, pass_of}
 use Rattle.live_plan.proofs.Prefixes.{prefix_get}
@@ -23,20 +24,13 @@ take_length xs zero le = refl
 take_length [] (suc n) le = absurd (omega arith)
 take_length (x ∷ xs) (suc n) le = ap suc (take_length xs n (omega arith))
 
-take_last : {A : Type 0} (xs : List A) (n : ℕ) (x : A) → slice_get xs n ≡ Some x → slice_get (take (suc n) xs) n ≡ Some x
-take_last [] n x at = absurd cc
-take_last (y ∷ ys) zero x at = at
-take_last (y ∷ ys) (suc n) x at = take_last ys n x at
-
 pub get_map : {A B : Type 0} (f : A → B) (xs : List A) (n : ℕ) (x : A) → slice_get xs n ≡ Some x → slice_get (map f xs) n ≡ Some (f x)
 get_map f [] n x at = absurd cc
 get_map f (y ∷ ys) zero x at = cc at
 get_map f (y ∷ ys) (suc n) x at = get_map f ys n x at
 
 pub get_here : {A : Type 0} (xs : List A) (n : ℕ) (x : A) → n < length xs → x ≡ get_or xs n x → slice_get xs n ≡ Some x
-get_here [] n x lt at = absurd (omega arith)
-get_here (y ∷ ys) zero x lt at = cc at
-get_here (y ∷ ys) (suc n) x lt at = get_here ys n x (omega arith) at
+get_here xs n x lt at = slice_get-get_or xs n x lt ∙ ap Some (sym at)
 
 pub has_within : (xs : List Verified) (n : ℕ) (x : Verified) → HasPlan xs n x → n ≤ length xs
 has_within xs n x h = let lt = slice_get_within xs (n - 1) x h.1 in let some = h.0 in omega arith
@@ -49,7 +43,7 @@ has_taken xs zero x h = let none = h.0 in absurd (omega arith)
 has_taken xs (suc n) x h =
     let same : suc n - 1 ≡ n = omega arith in
     let at : slice_get xs n ≡ Some x = subst (λ k. slice_get xs k ≡ Some x) same h.1 in
-    (h.0, subst (λ k. slice_get (take (suc n) xs) k ≡ Some x) (sym same) (take_last xs n x at))
+    (h.0, subst (λ k. slice_get (take (suc n) xs) k ≡ Some x) (sym same) (get_front xs (suc n) n x (omega arith) at))
 
 -- the pass as long as the number ends with the plan
 pub has_end : (xs : List Verified) (n : ℕ) (x : Verified) → HasPlan xs n x → IsEnd n x (take n xs)
@@ -70,10 +64,14 @@ get_behind [] rest x = refl
 get_behind (y ∷ ys) rest x = get_behind ys rest x
 
 -- the plan behind so many
-pub has_behind : (xs rest : List Verified) (x : Verified) → HasPlan (xs ++ x ∷ rest) (length xs + 1) x
+has_behind : (xs rest : List Verified) (x : Verified) → HasPlan (xs ++ x ∷ rest) (length xs + 1) x
 has_behind xs rest x =
     let same : length xs + 1 - 1 ≡ length xs = omega arith in
     (omega arith, subst (λ k. slice_get (xs ++ x ∷ rest) k ≡ Some x) (sym same) (get_behind xs rest x))
+
+-- the first of those that are to come
+pub has_due : (due plans items rest : List Verified) (next : Verified) → due ≡ plans ++ items → items ≡ next ∷ rest → HasPlan due (length plans + 1) next
+has_due due plans items rest next all here = subst (λ l. HasPlan l (length plans + 1) next) (sym (all ∙ ap (λ l. plans ++ l) here)) (has_behind plans rest next)
 
 pub get_append : {A : Type 0} (xs ys : List A) (i : ℕ) → i < length xs → slice_get (xs ++ ys) i ≡ slice_get xs i
 get_append [] ys i lt = absurd (omega arith)

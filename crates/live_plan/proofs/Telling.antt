@@ -8,10 +8,10 @@ use Rattle.plan_check.specs.Verified.{Verified}
 use Rattle.live_plan.specs.declared.known.Known.{Known}
 use Rattle.live_plan.specs.declared.published.Shown.{Shown}
 use Rattle.live_plan.specs.declared.published.Published.{Published}
-use Rattle.live_plan.specs.Plans.{HasPlan, HaveNodes}
+use Rattle.live_plan.specs.Plans.{HasPlan, HaveNodes, nodes_of}
 use Rattle.live_plan.specs.Published.{newcomer, seen_of, begun, advanced}
 use Rattle.live_plan.specs.Seats.{IsTelling}
-use Rattle.live_plan.proofs.Passed.{has_within, has_more, has_taken, take_length}
+use Rattle.live_plan.proofs.Passed.{has_within, has_more, has_taken, have_one, take_length}
 
 abbrev pub shown_next : Shown → Published → Shown
 shown_next s op = arc_value op.shown
@@ -95,3 +95,16 @@ module _ (nodes : ℕ) (s : Shown) (v : Known) (y : Shown) (t : IsTelling nodes 
 -- the first plan alone
 pub first_here : (y : Shown) (first : Verified) → y.number ≡ 1 → y.coming.value ≡ first ∷ [] → arc_value y.plan ≡ first → HasPlan (seen_of newcomer ++ y.coming.value) y.number (arc_value y.plan)
 first_here y first number coming plan = rw number (rw coming (rw plan (omega arith, refl)))
+
+pub first_telling : (nodes : ℕ) (y : Shown) (first : Verified) → y.number ≡ 1 → y.coming.value ≡ first ∷ [] → arc_value y.plan ≡ first → nodes_of first ≡ nodes → IsTelling nodes y (begun newcomer y)
+first_telling nodes y first number coming plan same = record {
+  batch_is = refl;
+  number_is = refl;
+  plan_is = first_here y first number coming plan;
+  alike = subst (HaveNodes nodes) (sym coming) (have_one nodes first same);
+  bounded = let e = ap length coming in omega (arith, e);
+}
+
+-- what an answer that is Ok tells
+pub ok_match : {A E : Type 0} (r : Result A E) (P : A → Type 0) (Q : E → Type 0) (x : A) → r ≡ Ok x → MatchResult r P Q → P x
+ok_match r P Q x is h = subst (λ o. MatchResult o P Q) is h

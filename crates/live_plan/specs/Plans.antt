@@ -39,4 +39,3 @@ Extends None None = Unit {0}
 pub record IsKept (plans : Option (List Verified)) (seen nodes n : ℕ) (plan : Verified) : Type 0 where
   pub nodes_are : nodes_of plan ≡ nodes
   pub last : ForSome plans (λ l. (n ≡ seen) × HasPlan l n plan)
-  pub positive : 0 < n

@@ -71,6 +71,24 @@ impl<P: Place> Worker<P> {
         count_nodes(&self.kept.plan)
     }
 
+    // Enters the published plans once, and keeps the plan of that entry, or the one of before where it was refused.
+    fn look(&mut self)
+        ensures index { self.new.index ≡ self.old.index }
+        ensures nodes { P.nodes self.new.place ≡ P.nodes self.old.place }
+        ensures plans { P.plans self.new.place ≡ P.plans self.old.place }
+        ensures entered { Rose (P.entries self.old.place) (P.entries self.new.place) ⊎ Rose (P.refusals self.old.place) (P.refusals self.new.place) }
+        ensures counts { (P.entries self.old.place ≤ P.entries self.new.place) × (P.refusals self.old.place ≤ P.refusals self.new.place) }
+        ensures seen { P.seen self.old.place ≤ P.seen self.new.place }
+        ensures told { IfSome (P.plans self.new.place) (λ l. (self.new.kept.number ≡ P.seen self.new.place) × HasPlan l self.new.kept.number (arc_value self.new.kept.plan)) }
+        ensures untold { P.plans self.old.place ≡ None → self.new.kept ≡ self.old.kept }
+        ensures rises { self.old.kept.number ≤ self.new.kept.number }
+        ensures routes { nodes_of (arc_value self.new.kept.plan) ≡ P.nodes self.old.place }
+    {
+        if let Some(entry) = self.place.enter() {
+            self.kept = entry;
+        }
+    }
+
     /// Passes the gate, enters the published plans once, and routes the job over all its relays under the plan that it keeps
     /// then: the one of this entry or, where that was refused, the one of before. Where memory is wanting a new plan may be kept.
     pub fn serve<G: Gate>(
@@ -95,9 +113,7 @@ impl<P: Place> Worker<P> {
         ensures journey { IfOk result (λ served. served.journey ≡ journey_under (arc_value self.new.kept.plan) states.now job.now) }
     {
         gate.pass(self.index, job.index);
-        if let Some(entry) = self.place.enter() {
-            self.kept = entry;
-        }
+        self.look();
         route(alloc, &self.kept, states, job)
     }
 }
