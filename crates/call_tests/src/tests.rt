@@ -4,3 +4,4 @@ mod limits;
 mod memory_io;
 mod replays;
 mod wide_plans;
+mod workers;

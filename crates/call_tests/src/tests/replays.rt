@@ -27,7 +27,7 @@ end 5
 ";
 
 /// The plan as `f`, and a trace as `g`.
-fn with_trace(alloc: Global, trace: &[u8]) -> Result<SoundFiles, AllocError> {
+pub fn with_trace(alloc: Global, trace: &[u8]) -> Result<SoundFiles, AllocError> {
     let mut files = Vec::new(alloc);
     files.push(("f".to_string(alloc)?, BACKED.as_bytes().to_vec(alloc)?))?;
     files.push(("g".to_string(alloc)?, trace.to_vec(alloc)?))?;
