@@ -1,10 +1,11 @@
 -- The messages of a batch that several workers routed, or one.
-use Rattle.std.proofs.Common.{◌≡◌, ◌≢◌, ◌<◌, ◌≤◌, ◌+◌, ◌-◌, ◌%◌, ℕ, zero, suc, List, [], ◌∷◌, ◌++◌, length, map, Option, Some, None, refl, sym, ◌∙◌, ap, subst, arith, inl, inr, length-append, append_assoc, append-nil, get_or}
+use Rattle.std.proofs.Common.{◌≡◌, ◌≢◌, ◌<◌, ◌≤◌, ◌+◌, ◌-◌, ◌%◌, ℕ, zero, suc, List, [], ◌∷◌, ◌++◌, length, map, drop, Option, Some, None, Result, Ok, Err, refl, sym, ◌∙◌, ap, subst, arith, inl, inr, length-append, append_assoc, append-nil, get_or}
 use Rattle.std.proofs.lemmas.List.{length-map, map-append}
 use Rattle.std.proofs.lemmas.List.Elements.{All-nil, All-cons, All-append, All-head, All-tail, All-from_get_or, All-get_or}
 use Rattle.std.proofs.lemmas.Option.{slice_get_within, slice_get_read}
 use Rattle.std.specs.List.{All, AllByRecursion, filter_map}
-use Rattle.std.specs.Prelude.{slice_get, slice_index, slice_index_or}
+use Rattle.std.specs.Prelude.{IfOk, OnOk, slice_get, slice_index, slice_index_or}
+use mathlib.Core.List.{IsPrefix}
 use Rattle.plan_check.specs.Verified.{Verified}
 use Rattle.plan_model.specs.Network.{Network}
 use Rattle.relay_net.specs.Batches.{Incoming}
@@ -18,7 +19,7 @@ use Rattle.live_plan.specs.Plans.{HasPlan, HaveNodes}
 use Rattle.sccp_tool.specs.Numbers.{AreNumbers, NeverFall}
 use Rattle.sccp_tool.specs.Replay.{Standing, Settled, prints, routes, accepted, accepted_before, batch_of, plan_at}
 use Rattle.sccp_tool.specs.Replayers.{AreRouted, ComesToNode, IsRouted, RoutesBatch, RoutesLine, job_of, jobs_from, number_in, numbers_of, settled_in}
-use Rattle.sccp_tool.specs.Routings.{Routing, ArePlans, IsPlanOf, ahead, plan_in, routing, standing}
+use Rattle.sccp_tool.specs.Routings.{Routing, ArePlans, IsCrew, IsPlanOf, ahead, plan_in, routing, standing}
 use Rattle.sccp_tool.specs.declared.settled as code
 use Rattle.sccp_tool.specs.declared.settled.Settled.TheVariants.{Prints, Routes}
 use Rattle.sccp_tool.proofs.ReplayerLemmas.{all_ahead, has_plan, is_routed}
@@ -71,11 +72,48 @@ coming_nodes nodes (a ∷ later) coming all = coming_nodes nodes later coming (A
 coming_nodes nodes [] [] all = λ i plan at. absurd cc
 coming_nodes nodes [] (a ∷ coming) all = both_nodes nodes a coming (All-head (IsPlanOf nodes) a.plan (map plan_in coming) all).1 (coming_nodes nodes [] coming (All-tail (IsPlanOf nodes) a.plan (map plan_in coming) all))
 
--- what stays of each worker
-pub all_last : {W : Type 0} (f : W → ℕ) (n : ℕ) (ws ws' : List W) → length ws' ≡ length ws → ((i : ℕ) (d : W) → i < length ws → f (slice_index_or ws' i d) ≡ f (slice_index_or ws i d)) → All (λ w. f w ≡ n) ws → All (λ w. f w ≡ n) ws'
-all_last f n ws [] long each all = All-nil (λ w. f w ≡ n)
-all_last f n ws (w ∷ ws') long each all =
-    All-from_get_or (λ v. f v ≡ n) (w ∷ ws') w (λ i lt. let within : i < length ws = omega (arith, lt, long) in each i w within ∙ All-get_or (λ v. f v ≡ n) ws i w within all)
+pub crew_entries : (first : Network) (nodes : ℕ) (settled : List code.Settled.Settled) (jobs : List Job) → nodes ≡ length first.nodes → jobs ≡ jobs_from 0 (map settled_in settled) → All (ComesToNode first) settled → All (λ (job : Job). job.entry < nodes) jobs
+crew_entries first nodes settled jobs same is fits =
+    subst (λ js. All (λ (job : Job). job.entry < nodes) js) (sym is) (subst (λ n. All (λ (job : Job). job.entry < n) (jobs_from 0 (map settled_in settled))) (sym same) (entries_fit first 0 settled fits))
+
+-- ---- what stays of several workers
+
+pub all_last : {W : Type 0} (ws ws' : List W) (f : W → ℕ) (n n' : ℕ) → n' ≡ n → length ws' ≡ length ws → ((i : ℕ) (d : W) → i < length ws → f (slice_index_or ws' i d) ≡ f (slice_index_or ws i d)) → All (λ w. f w ≡ n) ws → All (λ w. f w ≡ n') ws'
+all_last ws [] f n n' same long each all = All-nil (λ w. f w ≡ n')
+all_last ws (w ∷ ws') f n n' same long each all =
+    All-from_get_or (λ v. f v ≡ n') (w ∷ ws') w (λ i lt. let within : i < length ws = omega (arith, lt, long) in each i w within ∙ All-get_or (λ v. f v ≡ n) ws i w within all ∙ sym same)
+
+all_front : {X : Type 0} (P : X → Type 0) (xs ys : List X) → All P (xs ++ ys) → All P xs
+all_front P [] ys all = All-nil P
+all_front P (x ∷ xs) ys all = All-cons P x xs (All-head P x (xs ++ ys) all) (all_front P xs ys (All-tail P x (xs ++ ys) all))
+
+fewer_plans : (first : Network) (xs ys : List Network) → ArePlans first (xs ++ ys) → ArePlans first xs
+fewer_plans first xs ys are = record { few = let few = are.few in omega (arith, few, length-append xs ys); sound = are.sound; alike = all_front (IsPlanOf (length first.nodes)) xs ys are.alike }
+
+-- so many of the plans were published
+pub crew_stays : (plans plans' coming : List Verified) (nodes nodes' workers workers' : ℕ) (first : Verified) → IsCrew plans nodes workers first (drop 1 plans) → ArePlans first.plan (map plan_in (drop 1 plans) ++ map plan_in coming)
+    → IsPrefix plans plans' → IsPrefix plans' (plans ++ coming) → nodes' ≡ nodes → workers' ≡ workers → IsCrew plans' nodes' workers' first (drop 1 plans')
+crew_stays plans plans' coming nodes nodes' workers workers' first is are p q same_nodes same_workers =
+    let later : List Verified = drop 1 plans in
+    let later' : List Verified = drop 1 plans' in
+    let long : plans' ≡ first ∷ (later ++ p.0) = sym p.1 ∙ ap (λ ps. ps ++ p.0) is.begins in
+    let begins : plans' ≡ first ∷ later' = long ∙ ap (λ l. first ∷ l) (sym (ap (drop 1) long)) in
+    let tails : later' ++ q.0 ≡ later ++ coming = sym (ap (λ ps. drop 1 (ps ++ q.0)) begins) ∙ ap (drop 1) q.1 ∙ ap (λ ps. drop 1 (ps ++ coming)) is.begins in
+    let nets : map plan_in later' ++ map plan_in q.0 ≡ map plan_in later ++ map plan_in coming = sym (map-append plan_in later' q.0) ∙ ap (map plan_in) tails ∙ map-append plan_in later coming in
+    record {
+      several = subst (λ n. 1 < n) (sym same_workers) is.several;
+      few = subst (λ n. n ≤ 16) (sym same_workers) is.few;
+      begins = begins;
+      nodes_are = same_nodes ∙ is.nodes_are;
+      plans_are = fewer_plans first.plan (map plan_in later') (map plan_in q.0) (subst (ArePlans first.plan) (sym nets) are);
+    }
+
+pub crew_at : {A E : Type 0} (r : Result A E) (plans plans' coming : List Verified) (workers workers' : ℕ) (first : Verified) (states : List State) (now : Routing) → plans ≡ first ∷ drop 1 plans → routing workers first (drop 1 plans) ≡ now → workers' ≡ workers
+    → OnOk r (plans' ≡ plans ++ coming) → OnOk r (standing (routing workers' first (drop 1 plans')) states ≡ ahead (standing now states) coming)
+crew_at (Ok x) plans plans' coming workers workers' first states now begins view same e =
+    let tails : drop 1 plans' ≡ drop 1 plans ++ coming = ap (drop 1) e ∙ ap (λ ps. drop 1 (ps ++ coming)) begins in
+    ap (λ n. standing (routing n first (drop 1 plans')) states) same ∙ ap (λ l. standing (routing workers first l) states) tails ∙ all_ahead workers first (drop 1 plans) coming states ∙ ap (λ r. ahead (standing r states) coming) view
+crew_at (Err fault) plans plans' coming workers workers' first states now begins view same e = tt
 
 -- ---- the answers of several
 
@@ -164,3 +202,14 @@ module _ (r : Routing) (states : List State) (settled : List code.Settled.Settle
       shares = never_fall r.workers served h.rising;
     });
   }
+
+pub crew_served : {E : Type 0} (result : Result (List Served) E) (plans plans' coming : List Verified) (workers : ℕ) (first : Verified) (states : List State) (now : Routing) (settled : List code.Settled.Settled) (jobs : List Job) → 1 < workers
+    → plans ≡ first ∷ drop 1 plans → routing workers first (drop 1 plans) ≡ now → OnOk result (plans' ≡ plans ++ coming) → jobs ≡ jobs_from 0 (map settled_in settled) → ArePlans now.first.plan (ahead (standing now states) coming).later
+    → All (ComesToNode now.first.plan) settled → IfOk result (AreServed plans' states jobs workers (length plans)) → IfOk result (RoutesBatch (standing now states) (ahead (standing now states) coming) (map settled_in settled))
+crew_served (Ok served) plans plans' coming workers first states now settled jobs several begins view e is are fits h =
+    subst (λ r. RoutesBatch (standing r states) (ahead (standing r states) coming) (map settled_in settled) served) view
+    (served_batch (routing workers first (drop 1 plans)) states settled coming plans served several begins
+    (subst (λ r. ArePlans r.first.plan (ahead (standing r states) coming).later) (sym view) are)
+    (subst (λ r. All (ComesToNode r.first.plan) settled) (sym view) fits)
+    (subst (λ js. AreServed (plans ++ coming) states js workers (length plans) served) is (subst (λ ps. AreServed ps states jobs workers (length plans) served) e h)))
+crew_served (Err fault) plans plans' coming workers first states now settled jobs several begins view e is are fits h = tt

@@ -139,6 +139,8 @@ impl Crew {
         ensures at { OnOk result (standing self.new states.now ≡ ahead (standing self.old states.now) coming) }
         ensures served { IfOk result (RoutesBatch (standing self.old states.now) (ahead (standing self.old states.now) coming) (map settled_in settled.now)) }
     {
+        // It ensures that the plans are sound.
+        let _first = self.first();
         let jobs = jobs_of(alloc, settled)?;
         run_batch(
             rt,
