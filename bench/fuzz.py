@@ -1,7 +1,7 @@
 #!/usr/bin/env python3
 """Hands drawn and mutated messages, plan texts and traces to the built program, and ends by itself after a given count.
 
-  bench/fuzz.py [--program PROGRAM] [--count N] [--seed N] [--jobs N] [messages] [plans] [traces]
+  bench/fuzz.py [--program PROGRAM] [--count N] [--seed N] [--jobs N] [messages] [plans] [traces] [relays]
 
 Of each kind N inputs are made (100,000 if not given) and handed over through files:
 
@@ -13,6 +13,8 @@ Of each kind N inputs are made (100,000 if not given) and handed over through fi
   has to be 0, 1, 65 or 67, and the first word of the output has to fit it.
 - traces to `replay` of a plan that is accepted: lines drawn from every form, and changed as texts are. The status has to be
   0, 65, 66, 67, 68 or 74 (a plan line may name an absent file), and the last line has to fit it.
+- messages to `send-on`, one a call, over two plans: every third one drawn as above, the others with a called title of the
+  plan, most of them long. What is printed has to be what the second maker (send_on.py) says, to the octet, and the status 0.
 
 A kind whose command the program hasn't is left out, and said so. Nothing may come on standard error, no call may end by a
 signal or take more than a minute, twice. The first ten faults are printed with the file that shows each, which is kept; the last
@@ -29,10 +31,12 @@ import shutil
 import subprocess
 import sys
 import tempfile
+import tomllib
 
 TOP = os.path.dirname(os.path.dirname(os.path.abspath(__file__)))
 sys.path.insert(0, os.path.join(TOP, "bench"))
 import reference  # noqa: E402
+import send_on  # noqa: E402
 
 PLAN = """version = 1
 [[node]]
@@ -313,6 +317,46 @@ def replay_one(program, folder, seed):
     return collections.Counter({status: 1}), [(f"replay: {why}", path)] if why else []
 
 
+def titled_message(draw, node):
+    """A message with a called title that a row of the node begins, mostly; long ones for the most part."""
+    code = draw.choice([0x13] * 6 + [0x11, 0x12, 0x14, 0x09, 0x0A])
+    row = draw.choice(node["row"])
+    begins = [int(digit) for digit in row["prefix"]] if draw.randrange(8) else [5]
+    digits = begins + [draw.randrange(10) for _ in range(draw.choice([0, 1, 8, 10, 28]))]
+    title = row["selector"], digits
+    called = draw.random() < 0.2, draw.random() < 0.1, draw.choice([None, 2057]), draw.choice([None, 1, 6, 8]), title
+    calling = False, True, draw.choice([None, 2057]), draw.choice([None, 8]), None
+    short = code in (0x09, 0x0A)
+    fixed = [draw.choice([0, 1, 0x80, 0xF1])] + ([] if short else [draw.choice([15, 15, 15, 2, 200, 1])])
+    size = draw.choice([0, 1, 5, 40, 300, 1500, 3800]) if code in reference.LONG else draw.randrange(100)
+    params = []
+    if not short:
+        segment = [draw.choice([0x80, 0x80, 0xC0, 0xB0, 0x81, 0]), 1, 2, draw.randrange(256)]
+        drawn = [(0x10, segment), (0x12, [3]), (0x7F, [7] * draw.choice([0, 1, 200, 220])), (0x10, [0x80, 9, 9, 9])]
+        params = draw.sample(drawn, draw.choice([0, 0, 1, 2, 4]))
+    return send_on.joined(code, fixed, [called, calling], draw.randbytes(size), params)
+
+
+def relay_one(program, folder, seed):
+    draw = random.Random(seed)
+    name = draw.choice(["p.toml", "p.toml", "q.toml"])
+    plan = tomllib.loads(PLAN if name == "p.toml" else SECOND)
+    node = draw.choice(plan["node"])
+    octets = None if draw.randrange(3) == 0 else titled_message(draw, node)
+    octets = bytes(drawn_message(draw) if octets is None else octets)
+    size = draw.choice([1, 2, 20, 100, 200, 238, 240, 255])
+    entry = node["name"] if draw.randrange(50) else "c"
+    status, output, why = call(program, folder, "send-on", name, entry, "1-0-1", str(size), octets.hex())
+    if (status, output) != (0, send_on.text(plan, entry, size, octets).encode()):
+        why = why or f"status {status}, or another text"
+    if why is None:
+        return collections.Counter({status: 1}), []
+    path = os.path.join(folder, f"r{seed}.txt")
+    with open(path, "w") as made:
+        made.write(f"{name} {entry} 1-0-1 {size} {octets.hex()}\n")
+    return collections.Counter({status: 1}), [(f"send-on: {why}", path)]
+
+
 def main():
     words = argparse.ArgumentParser(usage=__doc__)
     words.add_argument("--program", default=os.path.join(TOP, "crates/sccp/out/sccp"))
@@ -322,7 +366,7 @@ def main():
     words.add_argument("kinds", nargs="*", default=[])
     given = words.parse_args()
     program = os.path.abspath(given.program)
-    kinds = given.kinds or ["messages", "plans", "traces"]
+    kinds = given.kinds or ["messages", "plans", "traces", "relays"]
     batch = 2_000
     faults = Faults(os.path.join(tempfile.gettempdir(), f"sccp_fuzz_{os.getpid()}"))
     with tempfile.TemporaryDirectory() as folder:
@@ -334,12 +378,17 @@ def main():
             if kind == "traces" and call(program, folder, "replay", "p.toml", "p.toml", "1")[0] == 64:
                 print("traces: left out, the program has no replay")
                 continue
+            if kind == "relays" and call(program, folder, "send-on", "p.toml", "a", "1-0-1", "1", "05")[0] == 64:
+                print("relays: left out, the program has no send-on")
+                continue
             with concurrent.futures.ThreadPoolExecutor(given.jobs) as pool:
                 if kind == "messages":
                     turns = pool.map(lambda i: show_batch(program, folder, first + i, min(batch, given.count - i * batch)),
                                      range(-(-given.count // batch)))
                 elif kind == "plans":
                     turns = pool.map(lambda i: verify_one(program, folder, first + i), range(given.count))
+                elif kind == "relays":
+                    turns = pool.map(lambda i: relay_one(program, folder, first + i), range(given.count))
                 else:
                     turns = pool.map(lambda i: replay_one(program, folder, first + i), range(given.count))
                 told = collections.Counter()

@@ -1,5 +1,5 @@
 -- What the comparing of two plans ends with.
-use Rattle.std.proofs.Common.{◌≡◌, ◌⊎◌, ◌≤◌, ℕ, List, [], ◌++◌, length, Option, Some, None, Bool, true, false, Result, Ok, Err, IfOk, IfSome, refl, sym, ◌∙◌, ap, subst, inl, inr, arith, append-nil}
+use Rattle.std.proofs.Common.{◌≡◌, ◌⊎◌, ◌≤◌, ℕ, List, ◌++◌, length, Option, Some, None, Bool, true, false, Result, Ok, Err, IfOk, IfSome, refl, sym, ◌∙◌, ap, subst, inl, inr, arith, append-nil}
 use Rattle.std.specs.Prelude.{if◌then◌else◌, is_err, OnOk}
 use Rattle.std.specs.Io.{StartsWith}
 use Rattle.std.specs.Io.KnownBytes.{append_known}
@@ -20,15 +20,15 @@ use Rattle.plan_verify.specs.declared.verdict.Verdict.TheVariants as verdicts
 use Rattle.sccp_io.specs.Files.{Contents, Reads}
 use Rattle.sccp_report.specs.Changes.{change_text}
 use Rattle.sccp_report.specs.Verdicts.{verdict_text}
-use Rattle.sccp_tool.specs.Change.{plan_told, accepted_on, read_on_plan, with_accepted, old_word, new_word, change_status, mixed_work, change_work, IsAnswered, IsSurelySafe, IsMixable, IsUnmixable, IsWideMixture, HavePlans, HasEither, ChangeCause, ChangeSure, TellsPlan, is_refused, is_wide, is_accepted, TellsMixture, is_other, is_told, TellsChange}
-use Rattle.sccp_tool.specs.Ending.{Goes, IsCut, Stops, Works, early}
-use Rattle.sccp_tool.specs.Limit.{IsThere, HasFile, HasLongFile}
+use Rattle.sccp_tool.specs.Change.{plan_told, accepted_on, read_on_plan, with_accepted, old_word, new_word, change_status, mixed_work, change_work, IsAnswered, IsSurelySafe, IsMixable, IsUnmixable, IsWideMixture, HavePlans, ChangeCause, ChangeSure, TellsPlan, is_refused, is_wide, is_accepted, TellsMixture, is_other, is_told, TellsChange}
+use Rattle.sccp_tool.specs.Ending.{IsCut, Stops, Works, early}
+use Rattle.sccp_tool.specs.Limit.{IsThere, HasLongFile}
 use Rattle.sccp_tool.specs.Moment.{Moment}
 use Rattle.sccp_tool.specs.Plans.{bad_plan, HasPlan, HasBadPlan}
 use Rattle.sccp_tool.specs.Task.{Change as asked}
 use Rattle.sccp_tool.specs.Texts.{other_nodes}
 use Rattle.sccp_tool.specs.Verify.{IsSafe, IsBad, IsWide, IsOnVerdict}
-use Rattle.sccp_tool.specs.Work.{Work, print, judge, mix, answered, IsJudged, IsCompared, Ends, HasFiles}
+use Rattle.sccp_tool.specs.Work.{Work, mix, answered, IsJudged, IsCompared, Ends, HasFiles}
 use Rattle.sccp_tool.specs.Writing.{Writes}
 use Rattle.sccp_tool.specs.declared.status.Status.{Status}
 use Rattle.sccp_tool.specs.declared.status.Status.TheVariants.{Done, Refused, Usage, BadPlan, TooWide, TooLong, OtherNodes}

@@ -1,21 +1,20 @@
 -- What making a trace of a file of DATA messages ends with.
-use Rattle.std.proofs.Common.{◌≡◌, ◌≤◌, ◌++◌, [], ℕ, List, length, Option, Some, Result, Ok, Err, refl, sym, ◌∙◌, ap, subst, inl, inr, ◌⊎◌}
+use Rattle.std.proofs.Common.{◌≡◌, ◌≤◌, ◌++◌, ℕ, List, length, Option, Some, Result, Ok, Err, refl, sym, ◌∙◌, ap, subst, inl, inr}
 use Rattle.std.specs.Prelude.{IsOk, IsErr, is_ok, is_err}
 use Rattle.std.specs.Io.KnownBytes.{append_known}
 use Rattle.std.proofs.lemmas.List.{append-nil}
 use Rattle.m3ua_trace.proofs.Loop.{is_traced}
 use Rattle.m3ua_trace.specs.Traces.{trace_of, IsTraceOf}
 use Rattle.plan_model.specs.Network.{Network}
-use Rattle.plan_text.specs.PlanText.{plan_of}
 use Rattle.sccp_io.specs.Files.{Contents, Reads}
 use Rattle.trace_text.specs.declared.line_fault.LineFault.{LineFault}
-use Rattle.sccp_tool.specs.Import.{import_answer, trace_work, import_work, HasBoth, ImportCause, ImportTells}
-use Rattle.sccp_tool.specs.Limit.{within_limit, IsThere, HasFile, HasLongFile}
-use Rattle.sccp_tool.specs.Plans.{with_plan, HasPlan}
+use Rattle.sccp_tool.specs.Import.{import_answer, trace_work, import_work, HasBoth, ImportCause}
+use Rattle.sccp_tool.specs.Limit.{within_limit, HasFile, HasLongFile}
+use Rattle.sccp_tool.specs.Plans.{HasPlan}
 use Rattle.sccp_tool.specs.Show.{answer_for}
 use Rattle.sccp_tool.specs.Task.{Import}
 use Rattle.sccp_tool.specs.Verify.{IsOnVerdict}
-use Rattle.sccp_tool.specs.Work.{answered, Ends, HasFiles}
+use Rattle.sccp_tool.specs.Work.{answered, Ends}
 use Rattle.sccp_tool.specs.declared.status.Status.{Status}
 use Rattle.sccp_tool.specs.declared.status.Status.TheVariants.{Done, Usage, BadPlan, BadTrace, TooLong}
 use Rattle.sccp_tool.proofs.Causes.{Causes}

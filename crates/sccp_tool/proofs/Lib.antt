@@ -19,6 +19,7 @@ mod ReplayerLemmas
 mod RoseLemmas
 mod RouteLemmas
 mod RunLemmas
+mod SendOnLemmas
 mod SettleSteps
 mod Settling
 mod ShowHexLemmas

@@ -8,11 +8,11 @@ use Rattle.sccp_io.specs.Files.{Contents, Reads}
 use Rattle.sccp_tool.specs.Ending.{Works, early}
 use Rattle.sccp_tool.specs.Limit.{IsThere, HasFile, HasLongFile}
 use Rattle.sccp_tool.specs.Moment.{Moment}
-use Rattle.sccp_tool.specs.Plans.{bad_plan, planned, with_plan, HasPlan, HasBadPlan}
+use Rattle.sccp_tool.specs.Plans.{bad_plan, planned, with_plan, HasPlan, HasBadPlan, TextCause}
 use Rattle.sccp_tool.specs.Work.{Work, answered, Ends, HasFiles}
 use Rattle.sccp_tool.specs.Writing.{Writes}
 use Rattle.sccp_tool.specs.declared.status.Status.{Status}
-use Rattle.sccp_tool.specs.declared.status.Status.TheVariants.{BadPlan, TooLong}
+use Rattle.sccp_tool.specs.declared.status.Status.TheVariants.{Done, BadPlan, TooLong}
 use Rattle.sccp_tool.specs.declared.stop.Stop.{Stop}
 use Rattle.sccp_tool.proofs.LimitLemmas.{FileEnds, Ends-within_limit, at_file, not_long, limit_files}
 use Rattle.sccp_tool.proofs.LimitLemmas as file
@@ -94,3 +94,30 @@ plan_files c name next go there = limit_files c name (λ octets. planned (plan_o
   by : (r : Result Network PlanFault) → HasFiles c (planned r next)
   by (Ok plan) = go plan
   by (Err fault) = tt
+
+-- ---- a command that prints a text about the plan
+
+abbrev IsDone : Network → Status → Type 0
+IsDone plan s = s ≡ Done
+
+text_ends : (contents : Option Contents) (name : List ℕ) (line : Network → List ℕ) (s : Status) (text : List ℕ) → Ends contents (with_plan name (λ plan. answered (Done, line plan))) s text → PlanEnds contents name IsDone s
+text_ends contents name line s text h = Ends-with_plan IsDone contents name (λ plan. answered (Done, line plan)) s text (λ plan e. e.2.0) h
+
+text_caused : (contents : Option Contents) (name : List ℕ) (s : Status) → PlanEnds contents name IsDone s → TextCause contents name s
+text_caused contents name TooLong (long h) = h
+text_caused contents name BadPlan (bad h) = h
+text_caused contents name s (good h) = subst (TextCause contents name) (sym h.3.2) (h.0, h.1, h.2, ap is_ok h.3.1)
+
+-- its answer has its cause
+pub text_only : (contents : Option Contents) (name : List ℕ) (line : Network → List ℕ) (s : Status) (text : List ℕ) → Ends contents (with_plan name (λ plan. answered (Done, line plan))) s text → TextCause contents name s
+text_only contents name line s text h = text_caused contents name s (text_ends contents name line s text h)
+
+answers : (c : Contents) (name : List ℕ) (t s : Status) → TextCause (Some c) name t → PlanEnds (Some c) name IsDone s → s ≡ t
+answers c name Done s has ends = (if_plan c name IsDone s ends has).2
+answers c name BadPlan s has ends = if_bad c name IsDone s ends has
+answers c name TooLong s has ends = if_long c name IsDone s ends has
+answers c name t s has ends = absurd has
+
+-- a cause has its answer
+pub text_always : (c : Contents) (name : List ℕ) (line : Network → List ℕ) (t s : Status) (text : List ℕ) → TextCause (Some c) name t → Ends (Some c) (with_plan name (λ plan. answered (Done, line plan))) s text → s ≡ t
+text_always c name line t s text cause h = answers c name t s cause (text_ends (Some c) name line s text h)

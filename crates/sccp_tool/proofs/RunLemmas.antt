@@ -5,7 +5,7 @@ use Rattle.sccp_io.specs.Files.{Contents}
 use Rattle.sccp_tool.specs.Ending.{IsCut, Answers, Outcome}
 use Rattle.sccp_tool.specs.Moment.{Moment}
 use Rattle.sccp_tool.specs.Run.{work_of, Cause, SureCause, TellsAnswer, TellsJourneys, HasNamedFiles, UsageCause, ExactlyWhere, ComesWhere, RefusedWhere}
-use Rattle.sccp_tool.specs.Task.{Task, ShowHex, Show, Verify, Route, Replay, Cuts, Import, Change}
+use Rattle.sccp_tool.specs.Task.{Task, ShowHex, Show, Verify, Route, Replay, Cuts, Import, Change, SendOn}
 use Rattle.sccp_tool.specs.Verify.{IsOnVerdict}
 use Rattle.sccp_tool.specs.Work.{Work, Ends, HasFiles}
 use Rattle.sccp_tool.specs.declared.status.Status.{Status}
@@ -16,6 +16,7 @@ use Rattle.sccp_tool.proofs.ImportLemmas.{import_causes}
 use Rattle.sccp_tool.proofs.ChangeLemmas.{change_causes}
 use Rattle.sccp_tool.proofs.ReplayLemmas.{replay_causes}
 use Rattle.sccp_tool.proofs.RouteLemmas.{route_causes}
+use Rattle.sccp_tool.proofs.SendOnLemmas.{send_on_causes}
 use Rattle.sccp_tool.proofs.ShowHexLemmas.{show_hex_causes}
 use Rattle.sccp_tool.proofs.ShowLemmas.{show_causes}
 use Rattle.sccp_tool.proofs.VerifyLemmas.{verify_causes}
@@ -47,6 +48,7 @@ causes (Some (Replay plan trace workers)) = replay_causes plan trace workers
 causes (Some (Cuts octets)) = cuts_causes octets
 causes (Some (Import plan file)) = import_causes plan file
 causes (Some (Change old new)) = change_causes old new
+causes (Some (SendOn name incoming)) = send_on_causes name incoming
 
 if_some : {C : Type 0} (o : Option C) (P : C → Type 0) → ((c : C) → o ≡ Some c → P c) → IfSome o P
 if_some None P f = tt

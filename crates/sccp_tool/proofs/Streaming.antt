@@ -4,7 +4,6 @@ use Rattle.std.proofs.lemmas.List.{length-append}
 use Rattle.sccp_report.specs.Roles.{Role, routed, later, aside, alone, role_of}
 use Rattle.trace_text.specs.Told.{ahead, beginning, with_front}
 use Rattle.trace_text.specs.Told as reading
-use Rattle.trace_text.specs.declared.fed.Fed.{Fed}
 use Rattle.trace_text.specs.declared.line.Numbered.{Numbered}
 use Rattle.sccp_tool.specs.Replay.{Standing, closing_of, is_full, batch_printed, line_work, lines_work, trace_work}
 use Rattle.sccp_tool.specs.Replaying.{rest_work, work_behind}
@@ -25,17 +24,6 @@ piece_taken count at batch waiting reader reader' piece rest lines e =
     ap (work_behind count at batch waiting) e
     ∙ ap (λ n. lines_work (closing_of n (ahead reader' true rest).fault) at batch (waiting ++ (lines ++ (ahead reader' true rest).lines))) (omega (arith, length-append lines (ahead reader' true rest).lines))
     ∙ ap (λ ls. lines_work (closing_of (count + length lines + length (ahead reader' true rest).lines) (ahead reader' true rest).fault) at batch ls) (sym (append_assoc waiting lines (ahead reader' true rest).lines))
-
--- a line that waited
-pub line_taken : (count : ℕ) (at : Standing) (batch waiting : List Numbered) (line : Numbered) (reader : reading.Standing) (rest : List ℕ)
-    → rest_work count at batch (line ∷ waiting) reader rest ≡ line_work at batch line (role_of at.first line.line) (λ at' batch'. rest_work count at' batch' waiting reader rest)
-unfolding lines_work
-line_taken count at batch waiting line reader rest = refl
-
--- at the end of the file: what `finish` tells
-pub end_taken : (count : ℕ) (at : Standing) (batch waiting : List Numbered) (reader : reading.Standing) (fed : Fed) → fed ≡ ahead reader true []
-    → rest_work count at batch waiting reader [] ≡ work_behind count at batch waiting fed
-end_taken count at batch waiting reader fed e = ap (work_behind count at batch waiting) (sym e)
 
 gathered_reads : (k : Option Contents) (at : Standing) (batch : List Numbered) (next : Standing → List Numbered → Work) → ComesToReading k (next at batch) []
     → ComesToReading k (cond (is_full batch) (batch_printed at batch (λ at'. next at' [])) (next at batch)) []

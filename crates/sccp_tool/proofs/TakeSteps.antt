@@ -1,9 +1,8 @@
 -- The lines of a trace, one after the other, whatever comes behind them.
-use Rattle.std.proofs.Common.{◌≡◌, ℕ, ◌+◌, List, [], ◌∷◌, ◌++◌, length, drop, Bool, true, false, cond, Option, Some, None, Result, Ok, Err, refl, sym, ◌∙◌, ap, subst, append_assoc, append-nil, arith}
-use Rattle.std.proofs.Math.Seq.{drop-length}
+use Rattle.std.proofs.Common.{◌≡◌, ℕ, ◌+◌, List, [], ◌∷◌, ◌++◌, length, true, false, cond, Option, Some, None, Result, Ok, Err, refl, sym, ◌∙◌, ap, subst, append-nil, arith}
 use Rattle.std.specs.Prelude.{OnOk, IfOk}
 use Rattle.std.specs.Io.KnownBytes.{append_known, IsAtEnd}
-use Rattle.relay_net.specs.Batches.{Due, Incoming}
+use Rattle.relay_net.specs.Batches.{Due}
 use Rattle.sccp_report.specs.Events.{event_text}
 use Rattle.sccp_report.specs.Roles.{Role, routed, later, aside, alone, role_of}
 use Rattle.trace_text.specs.Told.{ahead, only}
@@ -11,7 +10,7 @@ use Rattle.trace_text.specs.Told as reading
 use Rattle.trace_text.specs.declared.fed.Fed.{Fed}
 use Rattle.trace_text.specs.declared.line.Numbered.{Numbered}
 use Rattle.trace_text.specs.declared.line_fault.LineFault.{LineFault}
-use Rattle.sccp_tool.specs.Ending.{Goes, IsCut, Works}
+use Rattle.sccp_tool.specs.Ending.{IsCut, Works}
 use Rattle.sccp_tool.specs.Moment.{Moment}
 use Rattle.sccp_tool.specs.Replay.{Standing, is_full, done_alone, alone_work, batch_work, batch_printed, gathered, line_work, lines_work, closing_of}
 use Rattle.sccp_tool.specs.Replaying.{EndsAs, BatchGives, BatchStops, MayCome, rest_work, work_behind, GoesOn}
@@ -131,9 +130,6 @@ takes_alone at at' batch batch' line d (Err stop) first now e stands none = λ n
 abbrev pub LinesLeft : Standing → List Numbered → List Numbered → Standing → List Numbered → List Numbered → Moment → Moment → Type 0
 LinesLeft at batch lines at' batch' left first now = (closing : Status × List ℕ) (more : List Numbered) → EndsAs (lines_work closing at batch (lines ++ more)) (lines_work closing at' batch' (left ++ more)) first now
 
-pub none_taken : (at : Standing) (batch lines : List Numbered) (m : Moment) → LinesLeft at batch lines at batch lines m m
-none_taken at batch lines m = λ closing more result after h. h
-
 pub line_taken : (at at' at'' : Standing) (batch batch' batch'' lines left : List Numbered) (line : Numbered) (first mid now : Moment) → LinesLeft at batch lines at' batch' (line ∷ left) first mid
     → TakesLine {T = Unit {0}} at' batch' line (Ok tt) at'' batch'' mid now → LinesLeft at batch lines at'' batch'' left first now
 unfolding lines_work
@@ -145,12 +141,6 @@ pub line_stopped : (at at' at'' : Standing) (batch batch' batch'' lines left : L
 unfolding lines_work
 line_stopped at at' at'' batch batch' batch'' lines left line stop first mid now all takes = λ closing more.
     all closing more (Err stop) now (takes (λ a b. lines_work closing a b (left ++ more)))
-
--- all of them were taken
-pub lines_taken : (at at' : Standing) (batch batch' lines yielded : List Numbered) (first now : Moment) → yielded ≡ lines → LinesLeft at batch lines at' batch' (drop (length yielded) lines) first now
-    → TakesLines {T = Unit {0}} at batch lines (Ok tt) at' batch' first now
-lines_taken at at' batch batch' lines yielded first now is all = λ closing more result after h.
-    all closing more result after (subst (λ l. Works (lines_work closing at' batch' (l ++ more)) result now after) (sym (ap (λ y. drop (length y) lines) is ∙ drop-length lines)) h)
 
 -- ---- a piece of the trace
 
@@ -193,10 +183,6 @@ pub fault_ends : (work : Work) (count : ℕ) (at : Standing) (batch : List Numbe
 fault_ends work count at batch reader left fault result first mid now all stands h =
     let may = may_come left in
     all may.0 may.1 result now (subst (λ w. Works w result mid now) (sym (ap (work_behind count at batch []) (stands may.0) ∙ behind_nothing count at batch fault)) h)
-
-pub end_comes : (work : Work) (count : ℕ) (at : Standing) (batch : List Numbered) (reader : reading.Standing) (left : Option (List ℕ)) (result : Result Status Stop) (first mid now : Moment)
-    → GoesOn work count at batch [] reader left first mid → IsAtEnd left → Works (rest_work count at batch [] reader []) result mid now → Works work result first now
-end_comes work count at batch reader left result first mid now all end h = all [] (may_end left end) result now h
 
 -- the last lines were told and taken
 pub last_taken : (count : ℕ) (at at' : Standing) (batch batch' : List Numbered) (reader : reading.Standing) (fed : Fed) (n : ℕ) (result : Result Status Stop) (first mid now : Moment) → fed ≡ ahead reader true []

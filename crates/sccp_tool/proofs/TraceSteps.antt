@@ -1,36 +1,29 @@
 -- The steps of the loop over a trace that comes in pieces.
-use Rattle.std.proofs.Common.{◌≡◌, ℕ, ◌+◌, ◌≤◌, List, [], ◌∷◌, ◌++◌, length, take, Bool, true, false, cond, Option, Some, None, Result, Ok, Err, IsTrue, refl, sym, ◌∙◌, ap, subst, append-nil, arith}
+use Rattle.std.proofs.Common.{◌≡◌, ℕ, ◌+◌, List, [], ◌++◌, length, take, Bool, true, false, Option, Some, None, Result, Ok, Err, IsTrue, sym, ◌∙◌, ap, subst}
 use Rattle.std.specs.Prelude.{is_some}
 use Rattle.std.specs.Io.KnownBytes.{prepend_known}
-use Rattle.relay_net.specs.Batches.{Due}
 use Rattle.sccp_io.specs.Faults.{Rose, HasCause}
 use Rattle.sccp_io.specs.Files.{Contents, Reads, whole, lacks, BeginsFile, TakesNext}
 use Rattle.sccp_io.specs.declared.fault.IoFault.{IoFault}
-use Rattle.sccp_report.specs.Events.{event_text}
-use Rattle.sccp_report.specs.Roles.{Role, routed, later, aside, alone, role_of}
 use Rattle.trace_text.specs.Told.{ahead, beginning, with_front, only}
 use Rattle.trace_text.specs.Told as reading
 use Rattle.trace_text.proofs.ReaderLemmas.{ahead-fault}
-use Rattle.trace_text.specs.declared.fed.Fed.{Fed}
 use Rattle.trace_text.specs.declared.line.Numbered.{Numbered}
 use Rattle.trace_text.specs.declared.line_fault.LineFault.{LineFault}
-use Rattle.sccp_tool.specs.Ending.{Goes, Works}
+use Rattle.sccp_tool.specs.Ending.{Works}
 use Rattle.sccp_tool.specs.Moment.{Moment}
-use Rattle.sccp_tool.specs.Replay.{Standing, closing_of, is_full, done_alone, alone_work, batch_work, batch_printed, gathered, line_work, lines_work, trace_work}
+use Rattle.sccp_tool.specs.Replay.{Standing, closing_of, lines_work, trace_work}
 use Rattle.sccp_tool.specs.Reading.{reading_stop}
-use Rattle.sccp_tool.specs.Replaying.{BatchGives, BatchStops, MayCome, rest_work, work_behind, GoesOn}
+use Rattle.sccp_tool.specs.Replaying.{MayCome, rest_work, GoesOn}
 use Rattle.sccp_tool.specs.Trace.{trace_of}
-use Rattle.sccp_tool.specs.Work.{Work, print, read, read_on, answered}
+use Rattle.sccp_tool.specs.Work.{Work, read}
 use Rattle.sccp_tool.specs.declared.status.Status.{Status}
 use Rattle.sccp_tool.specs.declared.stop.Stop.{Stop}
 use Rattle.sccp_tool.specs.declared.stop.Stop.TheVariants.{Answered, Read, Write, Memory}
 use Rattle.sccp_tool.proofs.ReadingLemmas.{reading_stop-Read, reading_stop-Write, reading_stop-Answered}
-use Rattle.sccp_tool.proofs.Streaming.{at_beginning, piece_taken, line_taken, reads_on}
+use Rattle.sccp_tool.proofs.Streaming.{at_beginning, piece_taken, reads_on}
 use Rattle.sccp_tool.proofs.TakeSteps.{may_come, may_end, fault_ends}
-use Rattle.sccp_tool.proofs.WorkLemmas.{Moved, Works-read, Works-reading, Works-read_on, Works-moved, Works-failed, Works-print}
-
-same : (m : Moment) → Moved m m
-same m = record { contents = refl; sound = refl; read_faults = omega arith; taken = refl; write_faults = refl }
+use Rattle.sccp_tool.proofs.WorkLemmas.{Moved, Works-read, Works-reading, Works-moved, Works-failed}
 
 -- what was begun may come whole
 pub told_whole : (k : Option Contents) (name rest : List ℕ) (left : Option (List ℕ)) → lacks k name ≡ false → left ≡ whole k name → MayCome left rest → Reads k name rest
@@ -67,102 +60,6 @@ pub piece_fails : (work : Work) (count : ℕ) (at : Standing) (batch waiting : L
 piece_fails work count at batch waiting reader left rest stop first before now all may moved spared failed no_writing no_answer =
     all rest may (Err stop) now (Works-failed (rest_work count at batch waiting reader rest) stop before now moved spared
     (reads_on before.contents (closing_of (count + length (ahead reader true rest).lines) (ahead reader true rest).fault) (waiting ++ (ahead reader true rest).lines) at batch) failed no_writing no_answer)
-
--- ---- a line that waited
-
-abbrev IsGathered : Role → Type 0
-IsGathered (alone d) = ⊥
-IsGathered r = Unit {0}
-
-gathers : (at : Standing) (batch : List Numbered) (line : Numbered) (r : Role) (next : Standing → List Numbered → Work) → IsGathered r → line_work at batch line r next ≡ gathered at (batch ++ line ∷ []) next
-gathers at batch line (routed x) next h = refl
-gathers at batch line (later name) next h = refl
-gathers at batch line aside next h = refl
-gathers at batch line (alone d) next h = absurd h
-
--- it joins the batch that has begun
-pub line_joins : (work : Work) (count : ℕ) (at : Standing) (batch waiting : List Numbered) (line : Numbered) (reader : reading.Standing) (left : Option (List ℕ)) (first now : Moment)
-    → GoesOn work count at batch (line ∷ waiting) reader left first now → IsGathered (role_of at.first line.line) → is_full (batch ++ line ∷ []) ≡ false → GoesOn work count at (batch ++ line ∷ []) waiting reader left first now
-line_joins work count at batch waiting line reader left first now all role few = λ rest may result after h.
-    let next : Standing → List Numbered → Work = λ at' batch'. rest_work count at' batch' waiting reader rest in
-    let is : rest_work count at batch (line ∷ waiting) reader rest ≡ next at (batch ++ line ∷ []) =
-    line_taken count at batch waiting line reader rest ∙ gathers at batch line (role_of at.first line.line) next role ∙ ap (λ b. cond b (batch_printed at (batch ++ line ∷ []) (λ at'. next at' [])) (next at (batch ++ line ∷ []))) few in
-    all rest may result after (subst (λ w. Works w result now after) (sym is) h)
-
--- it fills the batch, which is done and printed
-pub line_fills : (work : Work) (count : ℕ) (at at' : Standing) (batch waiting : List Numbered) (line : Numbered) (reader : reading.Standing) (left : Option (List ℕ)) (text : List ℕ) (first before mid now : Moment)
-    → GoesOn work count at batch (line ∷ waiting) reader left first before → IsGathered (role_of at.first line.line) → is_full (batch ++ line ∷ []) ≡ true
-    → BatchGives at (batch ++ line ∷ []) at' text before mid → Goes mid now text → now.read_faults ≡ mid.read_faults → GoesOn work count at' [] waiting reader left first now
-line_fills work count at at' batch waiting line reader left text first before mid now all role full gives goes kept = λ rest may result after h.
-    let next : Standing → List Numbered → Work = λ a b. rest_work count a b waiting reader rest in
-    let is : rest_work count at batch (line ∷ waiting) reader rest ≡ batch_printed at (batch ++ line ∷ []) (λ a. next a []) =
-    line_taken count at batch waiting line reader rest ∙ gathers at batch line (role_of at.first line.line) next role ∙ ap (λ b. cond b (batch_printed at (batch ++ line ∷ []) (λ a. next a [])) (next at (batch ++ line ∷ []))) full in
-    all rest may result after (subst (λ w. Works w result before after) (sym is)
-    (Works-read_on (batch_work at (batch ++ line ∷ []) (λ a t. print t (next a []))) result before before after (same before) (λ s. refl)
-    (gives (λ a t. print t (next a [])) result after (Works-print text (next at' []) result mid now after goes kept h))))
-
--- it stands alone: the batch before it is done, and both are printed
-pub line_alone : (work : Work) (count : ℕ) (at at' : Standing) (batch waiting : List Numbered) (line : Numbered) (d : Option Due) (reader : reading.Standing) (left : Option (List ℕ)) (text : List ℕ) (first before mid now : Moment)
-    → GoesOn work count at batch (line ∷ waiting) reader left first before → role_of at.first line.line ≡ alone d → BatchGives at batch at' text before mid
-    → Goes mid now (text ++ event_text at'.first line (done_alone at' d).outcomes) → now.read_faults ≡ mid.read_faults → GoesOn work count (record at' { states = (done_alone at' d).states }) [] waiting reader left first now
-line_alone work count at at' batch waiting line d reader left text first before mid now all role gives goes kept = λ rest may result after h.
-    let next : Standing → List Numbered → Work = λ a b. rest_work count a b waiting reader rest in
-    let is : rest_work count at batch (line ∷ waiting) reader rest ≡ read_on (batch_work at batch (alone_work line d (λ a. next a []))) =
-    line_taken count at batch waiting line reader rest ∙ ap (λ r. line_work at batch line r next) role in
-    all rest may result after (subst (λ w. Works w result before after) (sym is)
-    (Works-read_on (batch_work at batch (alone_work line d (λ a. next a []))) result before before after (same before) (λ s. refl)
-    (gives (alone_work line d (λ a. next a [])) result after
-    (Works-print (text ++ event_text at'.first line (done_alone at' d).outcomes) (next (record at' { states = (done_alone at' d).states }) []) result mid now after goes kept h))))
-
--- the work stops in the batch that it fills or stands behind, or at its text: whatever is left of the line's own work ends so
-pub line_stops : (work : Work) (count : ℕ) (at : Standing) (batch waiting : List Numbered) (line : Numbered) (reader : reading.Standing) (left : Option (List ℕ)) (rest : List ℕ) (result : Result Status Stop) (first before now : Moment)
-    → GoesOn work count at batch (line ∷ waiting) reader left first before → MayCome left rest
-    → Works (line_work at batch line (role_of at.first line.line) (λ a b. rest_work count a b waiting reader rest)) result before now → Works work result first now
-line_stops work count at batch waiting line reader left rest result first before now all may h =
-    all rest may result now (subst (λ w. Works w result before now) (sym (line_taken count at batch waiting line reader rest)) h)
-
--- in the plan lines of a batch that a line fills
-pub full_batch_stops : (count : ℕ) (at : Standing) (batch : List Numbered) (line : Numbered) (next : Standing → List Numbered → Work) (result : Result Status Stop) (before now : Moment)
-    → IsGathered (role_of at.first line.line) → is_full (batch ++ line ∷ []) ≡ true → BatchStops at (batch ++ line ∷ []) result before now → Works (line_work at batch line (role_of at.first line.line) next) result before now
-full_batch_stops count at batch line next result before now role full stops =
-    let is : line_work at batch line (role_of at.first line.line) next ≡ batch_printed at (batch ++ line ∷ []) (λ a. next a []) =
-    gathers at batch line (role_of at.first line.line) next role ∙ ap (λ b. cond b (batch_printed at (batch ++ line ∷ []) (λ a. next a [])) (next at (batch ++ line ∷ []))) full in
-    subst (λ w. Works w result before now) (sym is)
-    (Works-read_on (batch_work at (batch ++ line ∷ []) (λ a t. print t (next a []))) result before before now (same before) (λ s. refl) (stops (λ a t. print t (next a []))))
-
--- in those of a batch that a lone line ends
-pub lone_batch_stops : (at : Standing) (batch : List Numbered) (line : Numbered) (d : Option Due) (next : Standing → List Numbered → Work) (result : Result Status Stop) (before now : Moment)
-    → role_of at.first line.line ≡ alone d → BatchStops at batch result before now → Works (line_work at batch line (role_of at.first line.line) next) result before now
-lone_batch_stops at batch line d next result before now role stops =
-    subst (λ r. Works (line_work at batch line r next) result before now) (sym role)
-    (Works-read_on (batch_work at batch (alone_work line d (λ a. next a []))) result before before now (same before) (λ s. refl) (stops (alone_work line d (λ a. next a []))))
-
--- ---- the end
-
--- the end of the trace was told: its last lines wait, and nothing more comes
-pub end_waits : (work : Work) (count : ℕ) (at : Standing) (batch waiting : List Numbered) (reader reader' : reading.Standing) (left : Option (List ℕ)) (fed : Fed) (first now : Moment)
-    → GoesOn work count at batch waiting reader left first now → MayCome left [] → fed ≡ ahead reader true [] → ahead reader' true [] ≡ only fed.fault
-    → GoesOn work (count + length fed.lines) at batch (waiting ++ fed.lines) reader' (Some []) first now
-end_waits work count at batch waiting reader reader' left fed first now all may is stops = λ rest none result after h.
-    let behind : with_front fed.lines (only fed.fault) ≡ fed = λ i. record { lines = append-nil fed.lines i; fault = fed.fault } in
-    let told : ahead reader true ([] ++ []) ≡ with_front fed.lines (ahead reader' true []) = sym is ∙ sym behind ∙ ap (with_front fed.lines) (sym stops) in
-    all [] may result after (subst (λ w. Works w result now after) (sym (piece_taken count at batch waiting reader reader' [] [] fed.lines told))
-    (subst (λ r. Works (rest_work (count + length fed.lines) at batch (waiting ++ fed.lines) reader' r) result now after) (sym none) h))
-
--- no line waits, and the reader tells no more than a fault or none: the last batch, and the closing line behind its text
-pub last_batch : (work : Work) (count : ℕ) (at at' : Standing) (batch : List Numbered) (reader : reading.Standing) (left : Option (List ℕ)) (rest : List ℕ) (fault : Option LineFault) (text : List ℕ) (result : Result Status Stop) (first before mid after : Moment)
-    → GoesOn work count at batch [] reader left first before → MayCome left rest → ahead reader true rest ≡ only fault → BatchGives at batch at' text before mid
-    → Works (answered ((closing_of count fault).0, text ++ (closing_of count fault).1)) result mid after → Works work result first after
-unfolding lines_work
-last_batch work count at at' batch reader left rest fault text result first before mid after all may is gives h =
-    let closing : Status × List ℕ = closing_of count fault in
-    let w : Work = read_on (batch_work at batch (λ a t. answered (closing.0, t ++ closing.1))) in
-    let zero_more : count + 0 ≡ count = omega arith in
-    let same_work : rest_work count at batch [] reader rest ≡ w =
-    ap (work_behind count at batch []) is ∙ ap (λ n. lines_work (closing_of n fault) at batch []) zero_more in
-    all rest may result after (subst (λ w. Works w result before after) (sym same_work)
-    (Works-read_on (batch_work at batch (λ a t. answered (closing.0, t ++ closing.1))) result before before after (same before) (λ s. refl)
-    (gives (λ a t. answered (closing.0, t ++ closing.1)) result after h)))
 
 -- ---- the calls of the files
 

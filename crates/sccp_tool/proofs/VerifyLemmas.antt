@@ -3,7 +3,7 @@ use Rattle.std.proofs.Common.{◌≡◌, ◌⊎◌, ℕ, List, ◌++◌, Option,
 use Rattle.std.specs.Io.KnownBytes.{append_known}
 use Rattle.plan_model.proofs.SafeWays.{safe_not_bad}
 use Rattle.plan_model.specs.Network.{Network}
-use Rattle.plan_verify.specs.Lawful.{IsLawful, plan_of}
+use Rattle.plan_verify.specs.Lawful.{IsLawful}
 use Rattle.plan_verify.specs.Witnesses.{IsWitness}
 use Rattle.plan_verify.specs.declared.verdict.Verdict.{Verdict}
 use Rattle.plan_verify.specs.declared.verdict.Verdict.TheVariants as verdicts
@@ -41,12 +41,6 @@ Works-verdict plan verdict status text result b a judged of spelt writes is cont
     let answer = subst (λ t. IfOk result (λ s. s ≡ t)) of is in
     Works-judge plan (λ v. answered (status_of v, verdict_text plan v)) verdict result b a judged
     (Works-answered (status_of verdict, verdict_text plan verdict) result b a (not_cut verdict) whole answer contents sound read_faults)
-
--- a verdict is printed, and that is all
-pub Works-told : (verdict : Verdict) (result : Result Status Stop) (b a : Moment) → Writes (verdict_text (plan_of verdict) verdict) result b.taken a.taken b.write_faults a.write_faults → IfOk result (λ s. s ≡ status_of verdict)
-    → a.contents ≡ b.contents → a.sound ≡ b.sound → a.read_faults ≡ b.read_faults → Works (answered (status_of verdict, verdict_text (plan_of verdict) verdict)) result b a
-Works-told verdict result b a writes is contents sound read_faults =
-    Works-answered (status_of verdict, verdict_text (plan_of verdict) verdict) result b a (not_cut verdict) writes is contents sound read_faults
 
 -- ---- how the command ends
 

@@ -7,6 +7,7 @@ use Rattle.sccp_tool.specs.Cuts.{cuts_words}
 use Rattle.sccp_tool.specs.Import.{import_words}
 use Rattle.sccp_tool.specs.Change.{change_words}
 use Rattle.sccp_tool.specs.Route.{route_words}
+use Rattle.sccp_tool.specs.SendOn.{send_on_words}
 use Rattle.sccp_tool.specs.Show.{show_words}
 use Rattle.sccp_tool.specs.ShowHex.{show_hex_words}
 use Rattle.sccp_tool.specs.Task.{Task}
@@ -23,6 +24,7 @@ command_of name words =
     else if bytes_eq name (codes "cuts") then cuts_words words
     else if bytes_eq name (codes "import") then import_words words
     else if bytes_eq name (codes "change") then change_words words
+    else if bytes_eq name (codes "send-on") then send_on_words words
     else None
 
 -- none where the words have none of the shapes

@@ -1,5 +1,5 @@
 -- The command that makes a trace of a file of DATA messages.
-use Rattle.std.specs.Prelude.{◌≡◌, ◌⊎◌, ℕ, List, [], ◌∷◌, Option, Some, None, option_map, option_and_then, IsOk, IsErr}
+use Rattle.std.specs.Prelude.{◌≡◌, ◌⊎◌, ℕ, List, [], ◌∷◌, Option, None, option_map, option_and_then, IsOk, IsErr}
 use Rattle.std.specs.Io.KnownBytes.{append_known}
 use Rattle.m3ua_trace.specs.Traces.{trace_of, IsTraceOf}
 use Rattle.plan_model.specs.Network.{Network}

@@ -21,6 +21,7 @@ pub mod Route
 pub mod Routers
 pub mod Routings
 pub mod Run
+pub mod SendOn
 pub mod Settling
 pub mod Show
 pub mod ShowHex

@@ -8,12 +8,14 @@ use Rattle.sccp_tool.specs.Cuts.{cuts_work, CutsCause}
 use Rattle.sccp_tool.specs.Ending.{IsCut}
 use Rattle.sccp_tool.specs.Import.{import_work, ImportCause, ImportTells}
 use Rattle.sccp_tool.specs.Limit.{IsThere}
+use Rattle.sccp_tool.specs.Plans.{TextCause}
 use Rattle.sccp_tool.specs.Replay.{replay_work}
 use Rattle.sccp_tool.specs.ReplayEnds.{ReplayCause, ReplaySure, ReplayTells, LaterPlansThere}
-use Rattle.sccp_tool.specs.Route.{route_work, RouteCause}
+use Rattle.sccp_tool.specs.Route.{route_work}
+use Rattle.sccp_tool.specs.SendOn.{send_on_work}
 use Rattle.sccp_tool.specs.Show.{show_work, ShowCause}
 use Rattle.sccp_tool.specs.ShowHex.{show_hex_work, ShowHexCause}
-use Rattle.sccp_tool.specs.Task.{Task, ShowHex, Show, Verify, Route, Replay, Cuts, Import, Change}
+use Rattle.sccp_tool.specs.Task.{Task, ShowHex, Show, Verify, Route, Replay, Cuts, Import, Change, SendOn}
 use Rattle.sccp_tool.specs.Texts.{usage}
 use Rattle.sccp_tool.specs.Trace.{lines_in}
 use Rattle.sccp_tool.specs.Verify.{verify_work, VerifyCause, VerifySure, VerifyTells}
@@ -31,6 +33,7 @@ work_of (Some (Replay plan trace workers)) = replay_work plan trace workers
 work_of (Some (Cuts octets)) = cuts_work octets
 work_of (Some (Import plan file)) = import_work plan file
 work_of (Some (Change old new)) = change_work old new
+work_of (Some (SendOn name incoming)) = send_on_work name incoming
 
 -- words of no shape
 abbrev pub UsageCause : Status → Type 0
@@ -43,11 +46,12 @@ Cause c None answer = UsageCause answer
 Cause c (Some (ShowHex octets)) answer = ShowHexCause answer
 Cause c (Some (Show name)) answer = ShowCause (Some c) name answer
 Cause c (Some (Verify name)) answer = VerifyCause (Some c) name answer
-Cause c (Some (Route name start)) answer = RouteCause (Some c) name answer
+Cause c (Some (Route name start)) answer = TextCause (Some c) name answer
 Cause c (Some (Replay plan trace workers)) answer = ReplayCause c plan trace answer
 Cause c (Some (Cuts octets)) answer = CutsCause answer
 Cause c (Some (Import plan file)) answer = ImportCause (Some c) plan file answer
 Cause c (Some (Change old new)) answer = ChangeCause (Some c) old new answer
+Cause c (Some (SendOn name incoming)) answer = TextCause (Some c) name answer
 
 -- where this holds, the answer comes, but for a fault or want of memory before it
 abbrev pub SureCause : Contents → Option Task → Status → Type 0
@@ -79,6 +83,7 @@ HasNamedFiles c (Some (Route name start)) = IsThere c name
 HasNamedFiles c (Some (Replay plan trace workers)) = IsThere c plan × IsThere c trace × LaterPlansThere c (lines_in c trace)
 HasNamedFiles c (Some (Import plan file)) = IsThere c plan × IsThere c file
 HasNamedFiles c (Some (Change old new)) = IsThere c old × IsThere c new
+HasNamedFiles c (Some (SendOn name incoming)) = IsThere c name
 HasNamedFiles c task = Unit {0}
 
 -- this answer comes exactly where the cause holds, but for a fault or want of memory before it

@@ -8,6 +8,7 @@ use crate::cuts::cuts_words;
 use crate::import::import_words;
 use crate::replay::replay_words;
 use crate::route::route_words;
+use crate::send_on::{Incoming, send_on_words};
 use crate::show::show_words;
 use crate::show_hex::show_hex_words;
 use crate::start::Start;
@@ -35,6 +36,8 @@ pub enum Command<'a> {
     Import(&'a str, &'a str),
     /// To tell whether relays may hold either of the plans of the files of these names, the old one and the new one.
     Change(&'a str, &'a str),
+    /// To tell what becomes of octets at a relay of the plan of the file of this name, and to cut a long message that leaves it.
+    SendOn(&'a str, Incoming),
 }
 
 /// What the words ask for, or none where they have none of the shapes.
@@ -72,6 +75,8 @@ fn command_of<'a>(
         Ok(import_words(words))
     } else if name == "change" {
         Ok(change_words(words))
+    } else if name == "send-on" {
+        send_on_words(alloc, words)
     } else {
         Ok(None)
     }

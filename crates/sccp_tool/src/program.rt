@@ -14,6 +14,7 @@ use crate::cuts::cuts;
 use crate::import::import;
 use crate::replay::replay;
 use crate::route::route;
+use crate::send_on::send_on;
 use crate::show::show;
 use crate::show_hex::show_hex;
 use crate::status::Status;
@@ -28,7 +29,7 @@ use std::sync::Wait;
 use std::thread::Threads;
 
 const USAGE: &[u8] =
-    b"usage: show-hex HEX | show FILE | verify PLAN | route PLAN NODE SELECTOR SSN DIGITS | replay PLAN TRACE WORKERS | cuts HEX | import PLAN FILE | change OLD NEW\n";
+    b"usage: show-hex HEX | show FILE | verify PLAN | route PLAN NODE SELECTOR SSN DIGITS | replay PLAN TRACE WORKERS | cuts HEX | change OLD NEW | send-on PLAN NODE ORIGIN SIZE HEX | import PLAN FILE\n";
 
 const READ_FAULT: &[u8] = b"read fault\n";
 
@@ -177,6 +178,7 @@ fn obey<R: Threads + Wait + Sync, G: Gate + Sync, F: Files, K: Sink>(
         Command::Cuts(octets) => cuts(alloc, octets.as_slice(), out),
         Command::Import(plan, file) => import(alloc, plan, file, files, out),
         Command::Change(old, new) => change(alloc, old, new, files, out),
+        Command::SendOn(name, incoming) => send_on(alloc, name, incoming, files, out),
     }
 }
 

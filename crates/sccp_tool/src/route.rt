@@ -20,7 +20,8 @@ use sccp_report::hops_text;
 use std::alloc::Global;
 use trace_text::is_file_name;
 
-const UNKNOWN_NODE: &[u8] = b"unknown node\n";
+/// The line on a name that no node has.
+pub const UNKNOWN_NODE: &[u8] = b"unknown node\n";
 
 /// How many hops are followed.
 const MOST_HOPS: u8 = 15;

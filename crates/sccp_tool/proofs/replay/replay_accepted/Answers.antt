@@ -1,4 +1,4 @@
-use Rattle.std.proofs.Common.{◌≡◌, ◌∙◌, List, ℕ, Ok, Err, refl, sym, subst}
+use Rattle.std.proofs.Common.{◌∙◌, List, ℕ, Ok, Err, refl, subst}
 use Rattle.std.proofs.lemmas.Result.{err_from_is_err_and}
 use Rattle.sccp_tool.specs.Ending.{Works}
 use Rattle.sccp_tool.specs.LaterPlans.{first_plan_line}

@@ -1,4 +1,4 @@
-use Rattle.std.proofs.Common.{◌≡◌, ℕ, List, ◌++◌, ◌∙◌, Option, refl, sym, ap, subst, Err}
+use Rattle.std.proofs.Common.{ℕ, List, ◌++◌, ◌∙◌, Option, refl, ap, subst}
 use Rattle.std.proofs.lemmas.Result.{err_from_is_err_and}
 use Rattle.std.specs.Option.{option_map}
 use Rattle.relay_net.specs.Batches.{Due}
@@ -7,7 +7,6 @@ use Rattle.sccp_report.specs.Roles.{as_due}
 use Rattle.sccp_tool.specs.Moment.{Moment, moment}
 use Rattle.sccp_tool.specs.Replay.{Standing, alone_work}
 use Rattle.sccp_tool.specs.Replaying.{BatchGives}
-use Rattle.sccp_tool.specs.Writing.{Writes}
 use Rattle.sccp_tool.proofs.TakeSteps.{batch_memory, alone_written}
 use Rattle.sccp_tool.proofs.taking.stand_alone.Goals as goal
 

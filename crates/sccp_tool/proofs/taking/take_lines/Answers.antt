@@ -1,11 +1,11 @@
-use Rattle.std.proofs.Common.{◌≡◌, ◌+◌, ◌∙◌, ◌∷◌, ◌++◌, [], List, length, drop, sym, ap, subst, Err, length-append}
+use Rattle.std.proofs.Common.{◌≡◌, ◌+◌, ◌∙◌, ◌∷◌, ◌++◌, [], List, length, drop, ap, subst, length-append}
 use Rattle.std.proofs.lemmas.Iterator.Adapters.{YieldsList-from_vec}
 use Rattle.std.proofs.lemmas.Iterator.Consumers.{YieldsList-turn}
 use Rattle.std.proofs.lemmas.Result.{err_from_is_err_and}
 use Rattle.trace_text.specs.declared.line.Numbered.{Numbered}
 use Rattle.sccp_tool.specs.Moment.{Moment, moment}
 use Rattle.sccp_tool.proofs.BatchSteps.{dropped}
-use Rattle.sccp_tool.proofs.TakeSteps.{LinesLeft, line_taken, line_stopped, lines_taken}
+use Rattle.sccp_tool.proofs.TakeSteps.{LinesLeft, line_taken, line_stopped}
 use Rattle.sccp_tool.proofs.taking.take_lines.Goals as goal
 
 pub returns-in_err-take_line-clause-takes : goal.returns-in_err-take_line-clause-takes

@@ -1,7 +1,6 @@
-use Rattle.std.proofs.Common.{◌≡◌, ◌++◌, ◌∙◌, refl, sym, subst}
+use Rattle.std.proofs.Common.{◌∙◌, refl, subst}
 use Rattle.std.proofs.lemmas.Result.{err_from_is_err_and}
 use Rattle.sccp_tool.specs.Moment.{Moment, moment}
-use Rattle.sccp_tool.specs.Replay.{closing_of}
 use Rattle.sccp_tool.specs.Replaying.{BatchGives}
 use Rattle.sccp_tool.proofs.TakeSteps.{closing_memory, closing_written}
 use Rattle.sccp_tool.proofs.tracing.write_last.Goals as goal

@@ -1,4 +1,4 @@
-use Rattle.std.proofs.Common.{◌≡◌, sym, ap, subst, refl, Err}
+use Rattle.std.proofs.Common.{sym, ap, subst, refl, Err}
 use Rattle.std.proofs.lemmas.Result.{err_from_is_err_and}
 use Rattle.plan_model.specs.Network.{IsPlan}
 use Rattle.plan_verify.specs.Lawful.{IsLawful, plan_of}

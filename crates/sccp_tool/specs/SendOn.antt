@@ -1,0 +1,124 @@
+-- The command that sends a message on over a link that carries no long messages (LUDT).
+use Rattle.std.specs.Prelude.{◌≡◌, ℕ, ◌&&◌, nat_lt, List, [], ◌∷◌, ◌++◌, codes, Option, Some, None, option_and_then, option_map, Result, Ok, Err, if◌then◌else◌}
+use Rattle.std.specs.List.{flat_map, position}
+use Rattle.long_segments.specs.Sending.{sending}
+use Rattle.long_segments.specs.declared.long_fault.LongFault.{LongFault}
+use Rattle.long_segments.specs.declared.long_fault.LongFault.TheVariants.{NotLong, AlreadySegment, ZeroSize, TooMany, NotWritable, OutOfMemory}
+use Rattle.plan_model.specs.Network.{Network, has_name}
+use Rattle.sccp_base.specs.Names.{name_of}
+use Rattle.sccp_base.specs.Text.{cut_at, decimal_of, point_code_of}
+use Rattle.sccp_message.specs.Reading.{reading}
+use Rattle.sccp_message.specs.declared.message.Message.{Message}
+use Rattle.sccp_report.specs.Events.{coupling_words}
+use Rattle.sccp_report.specs.Hops.{marks_text}
+use Rattle.sccp_report.specs.MessageText.{undecodable_line}
+use Rattle.sccp_report.specs.Values.{numbered, octets_text, point_code_text}
+use Rattle.sccp_scrc.specs.Arriving.{arrival}
+use Rattle.sccp_scrc.specs.Unitdata.{called_of}
+use Rattle.sccp_scrc.specs.declared.arrival.Arrival.{Arrival}
+use Rattle.sccp_scrc.specs.declared.arrival.Arrival.TheVariants.{Relayed, Ended, Local, Returned, Connection, Management, Undecodable}
+use Rattle.trace_text.specs.Forms.{file_name}
+use Rattle.trace_text.specs.Hex.{hex_word}
+use Rattle.sccp_tool.specs.Plans.{with_plan}
+use Rattle.sccp_tool.specs.Task.{Task, SendOn}
+use Rattle.sccp_tool.specs.Texts.{unknown_node}
+use Rattle.sccp_tool.specs.Work.{Work, answered}
+use Rattle.sccp_tool.specs.declared.send_on.Incoming.{Incoming}
+use Rattle.sccp_tool.specs.declared.status.Status.TheVariants.{Done}
+
+-- ---- the words
+
+-- a number from 1 to 255 of one to ten decimal digits
+abbrev pub size_of : List ℕ → Option ℕ
+size_of word = option_and_then (λ n. if nat_lt 0 n && nat_lt n 256 then Some n else None) (decimal_of 10 word)
+
+-- octets that come to the node of a name from a point, and how many octets of data a segment may have
+unfoldable pub incoming_of : List ℕ → List ℕ → List ℕ → List ℕ → Option Incoming
+incoming_of node origin size digits =
+    option_and_then (λ name. option_and_then (λ pc. option_and_then (λ n. option_and_then (λ octets.
+    Some (record { node = name; origin = pc; size = n; octets = octets }))
+    (hex_word digits)) (size_of size)) (point_code_of origin)) (name_of node)
+
+unfoldable pub send_on_of : List ℕ → List ℕ → List ℕ → List ℕ → List ℕ → Option Task
+send_on_of plan node origin size digits = option_and_then (λ name. option_map (SendOn name) (incoming_of node origin size digits)) (file_name plan)
+
+-- PLAN NODE ORIGIN SIZE HEX
+unfoldable pub send_on_words : List (List ℕ) → Option Task
+send_on_words (plan ∷ node ∷ origin ∷ size ∷ digits ∷ []) = send_on_of plan node origin size digits
+send_on_words words = None
+
+-- ---- the lines
+
+-- octets that go to a point
+unfoldable pub to_line : ℕ → List ℕ → List ℕ
+to_line pc octets = codes "to " ++ point_code_text pc ++ codes " " ++ octets_text octets ++ codes "\n"
+
+-- What isn't cut: octets that are no long message go as they are, and another fault of a long message is told. A size is
+-- never 0, and want of memory has no line.
+unfoldable pub uncut_lines : ℕ → List ℕ → LongFault → List ℕ
+uncut_lines pc octets NotLong = to_line pc octets
+uncut_lines pc octets AlreadySegment = codes "not split already segment\n"
+uncut_lines pc octets TooMany = codes "not split too many\n"
+uncut_lines pc octets (NotWritable fault) = codes "not split not writable\n"
+uncut_lines pc octets ZeroSize = []
+uncut_lines pc octets OutOfMemory = []
+
+-- a line for each segment of a long message
+abbrev pub cut_lines : ℕ → List ℕ → Result (List (List ℕ)) LongFault → List ℕ
+cut_lines pc octets (Ok segments) = flat_map (to_line pc) segments
+cut_lines pc octets (Err fault) = uncut_lines pc octets fault
+
+-- octets that leave for a point: a long message in segments of so many octets of data, with the reference 1 unless it has its own
+abbrev pub leaving_lines : ℕ → ℕ → List ℕ → List ℕ
+leaving_lines size pc octets = cut_lines pc octets (sending octets size 1)
+
+-- a connection-oriented message
+unfoldable pub connection_line : Message → List ℕ
+connection_line m = coupling_words m ++ codes "\n"
+
+-- what becomes of octets at a relay
+unfoldable pub arrival_lines : ℕ → Arrival → List ℕ
+arrival_lines size (Relayed pc octets) = leaving_lines size pc octets
+arrival_lines size (Ended pc ssn octets) = leaving_lines size pc octets
+arrival_lines size (Local ssn m) = numbered (codes "local ") ssn ++ codes "\n"
+arrival_lines size (Returned cause marks service) = numbered (codes "returned ") cause ++ codes " marks " ++ marks_text marks ++ codes "\n"
+arrival_lines size (Connection m) = connection_line m
+arrival_lines size (Management m) = codes "management\n"
+arrival_lines size (Undecodable fault) = undecodable_line fault
+
+abbrev pub lines_at : Network → Incoming → Option ℕ → List ℕ
+lines_at plan i None = unknown_node
+lines_at plan i (Some node) = arrival_lines i.size (arrival plan node [] i.origin i.octets)
+
+-- what becomes of octets at the node of that name while nothing is prohibited, or the line that no node has it
+abbrev pub send_on_text : Network → Incoming → List ℕ
+send_on_text plan i = lines_at plan i (position (has_name i.node) plan.nodes)
+
+-- the plan is read before, and not verified
+abbrev pub send_on_work : List ℕ → Incoming → Work
+send_on_work name i = with_plan name (λ plan. answered (Done, send_on_text plan i))
+
+-- ---- the same for the calls inside
+
+-- what stands before a line feed (10)
+abbrev pub before_or : List ℕ → Option (List ℕ × List ℕ) → List ℕ
+before_or text None = text
+before_or text (Some parts) = parts.0
+
+-- the first line of a text
+unfoldable pub first_line : List ℕ → List ℕ
+first_line text = before_or text (cut_at 10 text)
+
+-- the line of a connection-oriented message of the type with this name
+unfoldable pub type_line : List ℕ → List ℕ
+type_line name = codes "connection " ++ name ++ codes "\n"
+
+-- an arrival of these octets while nothing is prohibited
+abbrev pub IsOfOctets : List ℕ → Arrival → Type 0
+IsOfOctets b (Returned cause marks service) = marks ≡ []
+IsOfOctets b (Connection m) = (reading b ≡ Ok m) × (called_of m ≡ None)
+IsOfOctets b (Undecodable fault) = reading b ≡ Err fault
+IsOfOctets b (Relayed pc octets) = Unit {0}
+IsOfOctets b (Ended pc ssn octets) = Unit {0}
+IsOfOctets b (Local ssn m) = Unit {0}
+IsOfOctets b (Management m) = Unit {0}
