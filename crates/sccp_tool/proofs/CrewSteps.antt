@@ -126,9 +126,10 @@ each_routed at markings i (Prints text ∷ settled) served long fits each = each
 each_routed at markings i (Routes line entry origin octets before ∷ settled) [] long fits each = absurd (omega (arith, long))
 each_routed at markings i (Routes line entry origin octets before ∷ settled) (s ∷ served) long fits each =
     let one = Routes line entry origin octets before in
-    let x : Incoming = record { entry = entry; origin = origin; octets = octets } in
-    (each 0 i x s (All-head (ComesToNode at.first) one settled fits) refl refl,
-    each_routed at markings (i + 1) settled served (omega (arith, long)) (All-tail (ComesToNode at.first) one settled fits) (λ k index y t lt job answer. each (suc k) index y t lt job answer))
+    let x : Incoming = record { entry = entry; origin = origin; octets = octets } in (
+      each 0 i x s (All-head (ComesToNode at.first) one settled fits) refl refl,
+      each_routed at markings (i + 1) settled served (omega (arith, long)) (All-tail (ComesToNode at.first) one settled fits) (λ k index y t lt job answer. each (suc k) index y t lt job answer),
+    )
 
 as_many : (i : ℕ) (settled : List Settled) → length (jobs_from i settled) ≡ length (numbers_of settled)
 as_many i [] = refl
@@ -168,7 +169,6 @@ module _ (r : Routing) (states : List State) (settled : List code.Settled.Settle
     (are : ArePlans r.first.plan (ahead (standing r states) coming).later)
     (fits : All (ComesToNode r.first.plan) settled)
     (h : AreServed (plans ++ coming) states (jobs_from 0 (map settled_in settled)) r.workers (length plans) served) where
-
   abbrev after : Standing
   after = standing (routing r.workers r.first (r.later ++ coming)) states
 
@@ -189,18 +189,22 @@ module _ (r : Routing) (states : List State) (settled : List code.Settled.Settle
   one_number k s answer =
       let job = some_at (jobs_from 0 (map settled_in settled)) k (omega (arith, slice_get_within served k s answer, h.long)) in
       let given = h.each k job.0 s job.1 answer in
-      let few = has_few (plans ++ coming) s.number given.0.plan given.0.has in
-      (omega (arith, given.1, ap length begins, length-map r.later plan_in),
-      omega (arith, few, ap length all_plans, length-append r.later coming, length-append (map plan_in r.later) (map plan_in coming), length-map r.later plan_in, length-map coming plan_in))
+      let few = has_few (plans ++ coming) s.number given.0.plan given.0.has in (
+        omega (arith, given.1, ap length begins, length-map r.later plan_in),
+        omega (arith, few, ap length all_plans, length-append r.later coming, length-append (map plan_in r.later) (map plan_in coming), length-map r.later plan_in, length-map coming plan_in),
+      )
 
   pub served_batch : RoutesBatch (standing r states) (ahead (standing r states) coming) (map settled_in settled) served
   served_batch = record {
     routed = each_routed (ahead (standing r states) coming) (markings_of states) 0 settled served h.long fits one_routed;
-    numbers = inr (λ one. omega (arith, one, several), record {
-      each = length-map served number_in ∙ h.long ∙ as_many 0 (map settled_in settled);
-      range = each_number (λ n. (accepted (standing r states) ≤ n) × (n ≤ accepted (ahead (standing r states) coming))) served one_number;
-      shares = never_fall r.workers served h.rising;
-    });
+    numbers = inr (
+      λ one. omega (arith, one, several),
+      record {
+        each = length-map served number_in ∙ h.long ∙ as_many 0 (map settled_in settled);
+        range = each_number (λ n. (accepted (standing r states) ≤ n) × (n ≤ accepted (ahead (standing r states) coming))) served one_number;
+        shares = never_fall r.workers served h.rising;
+      },
+    );
   }
 
 pub crew_served : {E : Type 0} (result : Result (List Served) E) (plans plans' coming : List Verified) (workers : ℕ) (first : Verified) (states : List State) (now : Routing) (settled : List code.Settled.Settled) (jobs : List Job) → 1 < workers

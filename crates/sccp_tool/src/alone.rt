@@ -91,7 +91,9 @@ fn route_line(
             ..
         } => {
             let octets = octets.as_slice();
-            let one = route_one(alloc, first, later, states, *before, *entry, *origin, octets)?;
+            let one = route_one(
+                alloc, first, later, states, *before, *entry, *origin, octets,
+            )?;
             served.push(one)
         }
     }

@@ -76,9 +76,7 @@ pub fn replay<R: Threads + Wait + Sync, G: Gate + Sync, F: Files, K: Sink>(
 {
     let first = with_plan(alloc, plan, files, out)?;
     let verdict = plan_verify::verify(alloc, first)?;
-    replay_judged(
-        rt, gate, alloc, verdict, plan, trace, workers, files, out,
-    )
+    replay_judged(rt, gate, alloc, verdict, plan, trace, workers, files, out)
 }
 
 /// What follows the verdict on the first plan.

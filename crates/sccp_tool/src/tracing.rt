@@ -161,10 +161,22 @@ pub fn replay_trace<R: Threads + Wait + Sync, G: Gate + Sync, F: Files, K: Sink>
             Err(fault) => return Err(stopped(fault)),
         };
         if taken == 0 {
-            return take_end(rt, gate, alloc, at, &mut batch, &mut reader, count, files, out);
+            return take_end(
+                rt,
+                gate,
+                alloc,
+                at,
+                &mut batch,
+                &mut reader,
+                count,
+                files,
+                out,
+            );
         }
         let fed = reader.feed(&piece[..taken])?;
-        count = take_told(rt, gate, alloc, at, &mut batch, count, fed.lines, files, out)?;
+        count = take_told(
+            rt, gate, alloc, at, &mut batch, count, fed.lines, files, out,
+        )?;
         if fed.fault.is_some() {
             return write_last(rt, gate, alloc, at, &batch, count, fed.fault, files, out);
         }

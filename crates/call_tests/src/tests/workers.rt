@@ -129,7 +129,12 @@ fn is_told<R: Threads + Wait + Sync>(rt: &R, alloc: Global, line: &str) -> Resul
 fn fences_fix_every_number(rt: HostRuntime) -> Result<(), Fail> {
     let alloc = rt.alloc();
     for _ in 0..10 {
-        for line in ["replay f g 1", "replay f g 2", "replay f g 4", "replay f g 16"] {
+        for line in [
+            "replay f g 1",
+            "replay f g 2",
+            "replay f g 4",
+            "replay f g 16",
+        ] {
             assert!(rt; is_told(&rt, alloc, line)?, "at {line}");
         }
     }

@@ -18,10 +18,11 @@ run_batch-requires-clause-nodes g c κs within =
 
 pub invariant_of-self : goal.invariant_of-self
 invariant_of-self g c =
-    let e = c.run_batch.ensures in
-    (crew_stays (plans_of c.self.inside.teller) (plans_of c.run_batch.new.teller) c.args.coming c.self.inside.teller.nodes c.run_batch.new.teller.nodes (length c.self.inside.workers) (length c.run_batch.new.workers) (arc_value c.self.inside.first) c.self.invariant.0
-    (subst (λ (r : Routing). ArePlans r.first.plan (ahead (standing r c.args.states.now) c.args.coming).later) (sym c.self.view_is) c.requires.plans) e.begins e.within e.nodes e.lasts.long,
-    all_last c.self.inside.workers c.run_batch.new.workers (λ w. w.place.nodes) c.self.inside.teller.nodes c.run_batch.new.teller.nodes e.nodes e.lasts.long (λ i d lt. (e.lasts.each i d lt).nodes) c.self.invariant.1)
+    let e = c.run_batch.ensures in (
+      crew_stays (plans_of c.self.inside.teller) (plans_of c.run_batch.new.teller) c.args.coming c.self.inside.teller.nodes c.run_batch.new.teller.nodes (length c.self.inside.workers) (length c.run_batch.new.workers) (arc_value c.self.inside.first) c.self.invariant.0
+          (subst (λ (r : Routing). ArePlans r.first.plan (ahead (standing r c.args.states.now) c.args.coming).later) (sym c.self.view_is) c.requires.plans) e.begins e.within e.nodes e.lasts.long,
+      all_last c.self.inside.workers c.run_batch.new.workers (λ w. w.place.nodes) c.self.inside.teller.nodes c.run_batch.new.teller.nodes e.nodes e.lasts.long (λ i d lt. (e.lasts.each i d lt).nodes) c.self.invariant.1,
+    )
 
 pub returns-clause-plans : goal.returns-clause-plans
 returns-clause-plans g c =
