@@ -19,10 +19,10 @@ returns-in_err-verdict g c =
     rw (p.1, p.2) (c.in_ok-first.ensures.plan work (Err Memory) m (Works-memory (work c.in_ok-first.first) m))
 
 pub replay_judged-requires-clause-plan : goal.replay_judged-requires-clause-plan
-replay_judged-requires-clause-plan g c = subst IsPlan (sym c.in_ok-verdict.ensures.same) c.in_ok-first.ensures.sound
+replay_judged-requires-clause-plan g c κs within = subst IsPlan (sym c.in_ok-verdict.ensures.same) c.in_ok-first.ensures.sound
 
 pub replay_judged-requires-clause-lawful : goal.replay_judged-requires-clause-lawful
-replay_judged-requires-clause-lawful g c = subst (λ p. IsLawful p c.in_ok-verdict.verdict) (sym c.in_ok-verdict.ensures.same) c.in_ok-verdict.ensures.lawful
+replay_judged-requires-clause-lawful g c κs within = subst (λ p. IsLawful p c.in_ok-verdict.verdict) (sym c.in_ok-verdict.ensures.same) c.in_ok-verdict.ensures.lawful
 
 pub returns : goal.returns
 unfolding replay_work
