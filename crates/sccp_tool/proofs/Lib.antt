@@ -8,6 +8,7 @@ mod Finishing
 mod ImportLemmas
 mod LaterSteps
 mod LimitLemmas
+mod LoadLemmas
 mod PlanLemmas
 mod ReadingLemmas
 mod ReplayAnswers

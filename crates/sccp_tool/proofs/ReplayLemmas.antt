@@ -23,7 +23,7 @@ always c plan trace BadPlan s sure cause = bad_plan_must c plan trace s sure cau
 always c plan trace t s sure cause = absurd sure
 
 -- a refusal is an answer of a verdict
-on_verdict : (s : Status) → IsOnRefusal s → IsOnVerdict s
+pub on_verdict : (s : Status) → IsOnRefusal s → IsOnVerdict s
 on_verdict Refused h = tt
 on_verdict TooWide h = tt
 on_verdict s h = absurd h

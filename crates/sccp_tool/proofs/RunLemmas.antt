@@ -5,7 +5,7 @@ use Rattle.sccp_io.specs.Files.{Contents}
 use Rattle.sccp_tool.specs.Ending.{IsCut, Answers, Outcome}
 use Rattle.sccp_tool.specs.Moment.{Moment}
 use Rattle.sccp_tool.specs.Run.{work_of, Cause, SureCause, TellsAnswer, TellsJourneys, HasNamedFiles, UsageCause, ExactlyWhere, ComesWhere, RefusedWhere}
-use Rattle.sccp_tool.specs.Task.{Task, ShowHex, Show, Verify, Route, Replay, Cuts, Import, Change, SendOn}
+use Rattle.sccp_tool.specs.Task.{Task, ShowHex, Show, Verify, Route, Replay, Load, Cuts, Import, Change, SendOn}
 use Rattle.sccp_tool.specs.Verify.{IsOnVerdict}
 use Rattle.sccp_tool.specs.Work.{Work, Ends, HasFiles}
 use Rattle.sccp_tool.specs.declared.status.Status.{Status}
@@ -14,6 +14,7 @@ use Rattle.sccp_tool.proofs.Causes.{Causes}
 use Rattle.sccp_tool.proofs.CutsLemmas.{cuts_causes}
 use Rattle.sccp_tool.proofs.ImportLemmas.{import_causes}
 use Rattle.sccp_tool.proofs.ChangeLemmas.{change_causes}
+use Rattle.sccp_tool.proofs.LoadLemmas.{load_causes}
 use Rattle.sccp_tool.proofs.ReplayLemmas.{replay_causes}
 use Rattle.sccp_tool.proofs.RouteLemmas.{route_causes}
 use Rattle.sccp_tool.proofs.SendOnLemmas.{send_on_causes}
@@ -45,6 +46,7 @@ causes (Some (Show name)) = show_causes name
 causes (Some (Verify name)) = verify_causes name
 causes (Some (Route name start)) = route_causes name start
 causes (Some (Replay plan trace workers)) = replay_causes plan trace workers
+causes (Some (Load number size workers)) = load_causes number size workers
 causes (Some (Cuts octets)) = cuts_causes octets
 causes (Some (Import plan file)) = import_causes plan file
 causes (Some (Change old new)) = change_causes old new

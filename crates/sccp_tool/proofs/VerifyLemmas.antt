@@ -29,7 +29,7 @@ judged_work plan = judge plan (λ verdict. answered (status_of verdict, verdict_
 
 -- ---- the verdict on a plan is printed
 
-not_cut : (v : Verdict) → IsCut (status_of v) → ⊥
+pub not_cut : (v : Verdict) → IsCut (status_of v) → ⊥
 not_cut (verdicts.Accepted accepted) cut = cut
 not_cut (verdicts.Refused plan witness) cut = cut
 not_cut (verdicts.TooWide plan) cut = cut
@@ -82,12 +82,12 @@ only contents name s text (good h) =
 pub safe_or_bad : (plan : Network) → IsSafe plan → (w : Witness) → IsWitness plan w → ⊥
 safe_or_bad plan safe w is = safe_not_bad plan safe.0 w.cover w.spot w.markings w.hops w.kind safe.1.few safe.1.safe is.bad
 
-done_if_safe : (plan : Network) (v : Verdict) (s : Status) → IsLawful plan v → s ≡ status_of v → IsSafe plan → (IsWide plan → ⊥) → s ≡ Done
+pub done_if_safe : (plan : Network) (v : Verdict) (s : Status) → IsLawful plan v → s ≡ status_of v → IsSafe plan → (IsWide plan → ⊥) → s ≡ Done
 done_if_safe plan (verdicts.Accepted accepted) s lawful e safe narrow = e
 done_if_safe plan (verdicts.Refused same witness) s lawful e safe narrow = absurd (safe_or_bad plan safe witness lawful)
 done_if_safe plan (verdicts.TooWide same) s lawful e safe narrow = absurd (narrow lawful)
 
-refused_if_bad : (plan : Network) (v : Verdict) (s : Status) → IsLawful plan v → s ≡ status_of v → IsBad plan → (s ≡ Refused) ⊎ (s ≡ TooWide)
+pub refused_if_bad : (plan : Network) (v : Verdict) (s : Status) → IsLawful plan v → s ≡ status_of v → IsBad plan → (s ≡ Refused) ⊎ (s ≡ TooWide)
 refused_if_bad plan (verdicts.Accepted accepted) s lawful e is = absurd (safe_or_bad plan (accepted.bound, lawful.0) is.0 is.1)
 refused_if_bad plan (verdicts.Refused same witness) s lawful e is = inl e
 refused_if_bad plan (verdicts.TooWide same) s lawful e is = inr e

@@ -7,6 +7,7 @@ pub mod LaterPlans
 pub mod Import
 pub mod Limit
 pub mod LineFault
+pub mod Load
 pub mod Moment
 pub mod Numbers
 pub mod Opened

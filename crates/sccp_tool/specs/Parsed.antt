@@ -3,7 +3,7 @@ use Rattle.std.specs.Prelude.{Option, Some, None}
 use Rattle.sccp_tool.specs.Task.{Task}
 use Rattle.sccp_tool.specs.Task as spec
 use Rattle.sccp_tool.specs.declared.command.Command.{Command}
-use Rattle.sccp_tool.specs.declared.command.Command.TheVariants.{ShowHex, Show, Verify, Route, Replay, Cuts, Import, Change, SendOn}
+use Rattle.sccp_tool.specs.declared.command.Command.TheVariants.{ShowHex, Show, Verify, Route, Replay, Load, Cuts, Import, Change, SendOn}
 
 abbrev pub task_in : Option Command → Option Task
 task_in None = None
@@ -12,6 +12,7 @@ task_in (Some (Show name)) = Some (spec.Show name.now)
 task_in (Some (Verify name)) = Some (spec.Verify name.now)
 task_in (Some (Route name start)) = Some (spec.Route name.now start)
 task_in (Some (Replay plan trace workers)) = Some (spec.Replay plan.now trace.now workers.count)
+task_in (Some (Load number size)) = Some (spec.Load number size 1)
 task_in (Some (Cuts octets)) = Some (spec.Cuts octets)
 task_in (Some (Import plan file)) = Some (spec.Import plan.now file.now)
 task_in (Some (Change old new)) = Some (spec.Change old.now new.now)

@@ -9,13 +9,14 @@ use Rattle.sccp_tool.specs.Ending.{IsCut}
 use Rattle.sccp_tool.specs.Import.{import_work, ImportCause, ImportTells}
 use Rattle.sccp_tool.specs.Limit.{IsThere}
 use Rattle.sccp_tool.specs.Plans.{TextCause}
+use Rattle.sccp_tool.specs.Load.{load_work, LoadCause, LoadSure, LoadTells}
 use Rattle.sccp_tool.specs.Replay.{replay_work}
 use Rattle.sccp_tool.specs.ReplayEnds.{ReplayCause, ReplaySure, ReplayTells, LaterPlansThere}
 use Rattle.sccp_tool.specs.Route.{route_work}
 use Rattle.sccp_tool.specs.SendOn.{send_on_work}
 use Rattle.sccp_tool.specs.Show.{show_work, ShowCause}
 use Rattle.sccp_tool.specs.ShowHex.{show_hex_work, ShowHexCause}
-use Rattle.sccp_tool.specs.Task.{Task, ShowHex, Show, Verify, Route, Replay, Cuts, Import, Change, SendOn}
+use Rattle.sccp_tool.specs.Task.{Task, ShowHex, Show, Verify, Route, Replay, Load, Cuts, Import, Change, SendOn}
 use Rattle.sccp_tool.specs.Texts.{usage}
 use Rattle.sccp_tool.specs.Trace.{lines_in}
 use Rattle.sccp_tool.specs.Verify.{verify_work, VerifyCause, VerifySure, VerifyTells}
@@ -30,6 +31,7 @@ work_of (Some (Show name)) = show_work name
 work_of (Some (Verify name)) = verify_work name
 work_of (Some (Route name start)) = route_work name start
 work_of (Some (Replay plan trace workers)) = replay_work plan trace workers
+work_of (Some (Load number size workers)) = load_work number size
 work_of (Some (Cuts octets)) = cuts_work octets
 work_of (Some (Import plan file)) = import_work plan file
 work_of (Some (Change old new)) = change_work old new
@@ -48,6 +50,7 @@ Cause c (Some (Show name)) answer = ShowCause (Some c) name answer
 Cause c (Some (Verify name)) answer = VerifyCause (Some c) name answer
 Cause c (Some (Route name start)) answer = TextCause (Some c) name answer
 Cause c (Some (Replay plan trace workers)) answer = ReplayCause c plan trace answer
+Cause c (Some (Load number size workers)) answer = LoadCause number answer
 Cause c (Some (Cuts octets)) answer = CutsCause answer
 Cause c (Some (Import plan file)) answer = ImportCause (Some c) plan file answer
 Cause c (Some (Change old new)) answer = ChangeCause (Some c) old new answer
@@ -57,6 +60,7 @@ Cause c (Some (SendOn name incoming)) answer = TextCause (Some c) name answer
 abbrev pub SureCause : Contents → Option Task → Status → Type 0
 SureCause c (Some (Verify name)) answer = VerifySure (Some c) name answer
 SureCause c (Some (Replay plan trace workers)) answer = ReplaySure c plan trace answer
+SureCause c (Some (Load number size workers)) answer = LoadSure number answer
 SureCause c (Some (Change old new)) answer = ChangeSure (Some c) old new answer
 SureCause c task answer = Cause c task answer
 
@@ -65,6 +69,7 @@ SureCause c task answer = Cause c task answer
 abbrev pub TellsAnswer : Contents → Option Task → Status → Option (List ℕ) → Option (List ℕ) → Type 0
 TellsAnswer c (Some (Verify name)) given taken taken' = VerifyTells (Some c) name given taken taken'
 TellsAnswer c (Some (Replay plan trace workers)) given taken taken' = ReplayTells c plan given taken taken'
+TellsAnswer c (Some (Load number size workers)) given taken taken' = LoadTells number given taken taken'
 TellsAnswer c (Some (Change old new)) given taken taken' = ChangeTells (Some c) old new given taken taken'
 TellsAnswer c (Some (Import plan file)) given taken taken' = ImportTells (Some c) plan file given taken taken'
 TellsAnswer c task given taken taken' = Unit {0}

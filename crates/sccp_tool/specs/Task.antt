@@ -14,6 +14,8 @@ pub data Task : Type 0 where
   Route : List ℕ → Start → Task
   -- replays the trace of the second file under the plan of the first one, with so many workers
   Replay : List ℕ → List ℕ → ℕ → Task
+  -- makes a plan and so many messages from a number, and sends them over its relays with so many workers
+  Load : ℕ → ℕ → ℕ → Task
   -- shows every cut of the message of these octets
   Cuts : List ℕ → Task
   -- makes a trace of the DATA messages of the second file, for the nodes of the plan of the first one

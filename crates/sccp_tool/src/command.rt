@@ -6,6 +6,7 @@ ghost use Rattle.sccp_tool.specs.Parsed.{task_in};
 use crate::change::change_words;
 use crate::cuts::cuts_words;
 use crate::import::import_words;
+use crate::load::load_words;
 use crate::replay::replay_words;
 use crate::route::route_words;
 use crate::send_on::{Incoming, send_on_words};
@@ -30,6 +31,8 @@ pub enum Command<'a> {
     Route(&'a str, Start),
     /// To replay the trace of the second file under the plan of the first one, with so many workers.
     Replay(&'a str, &'a str, Workers),
+    /// To make a plan and so many messages from a number, and to count what becomes of them.
+    Load(u32, u32),
     /// To show every cut of the message of these octets.
     Cuts(Octets),
     /// To make a trace of the second file under the plan of the first one.
@@ -69,6 +72,8 @@ fn command_of<'a>(
         Ok(route_words(words))
     } else if name == "replay" {
         Ok(replay_words(words))
+    } else if name == "load" {
+        Ok(load_words(words))
     } else if name == "cuts" {
         cuts_words(alloc, words)
     } else if name == "import" {

@@ -19,6 +19,7 @@ mod import;
 mod later_lines;
 mod limit;
 mod line_fault;
+mod load;
 mod opened;
 mod plans;
 mod program;

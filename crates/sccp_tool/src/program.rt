@@ -12,6 +12,7 @@ use crate::change::change;
 use crate::command::{Command, parse};
 use crate::cuts::cuts;
 use crate::import::import;
+use crate::load::load;
 use crate::replay::replay;
 use crate::route::route;
 use crate::send_on::send_on;
@@ -29,7 +30,7 @@ use std::sync::Wait;
 use std::thread::Threads;
 
 const USAGE: &[u8] =
-    b"usage: show-hex HEX | show FILE | verify PLAN | route PLAN NODE SELECTOR SSN DIGITS | replay PLAN TRACE WORKERS | cuts HEX | change OLD NEW | send-on PLAN NODE ORIGIN SIZE HEX | import PLAN FILE\n";
+    b"usage: show-hex HEX | show FILE | verify PLAN | route PLAN NODE SELECTOR SSN DIGITS | replay PLAN TRACE WORKERS | load NUMBER SIZE WORKERS | cuts HEX | change OLD NEW | send-on PLAN NODE ORIGIN SIZE HEX | import PLAN FILE\n";
 
 const READ_FAULT: &[u8] = b"read fault\n";
 
@@ -175,6 +176,7 @@ fn obey<R: Threads + Wait + Sync, G: Gate + Sync, F: Files, K: Sink>(
         Command::Replay(plan, trace, workers) => {
             replay(rt, gate, alloc, plan, trace, workers, files, out)
         }
+        Command::Load(number, size) => load(alloc, *number, *size, out),
         Command::Cuts(octets) => cuts(alloc, octets.as_slice(), out),
         Command::Import(plan, file) => import(alloc, plan, file, files, out),
         Command::Change(old, new) => change(alloc, old, new, files, out),

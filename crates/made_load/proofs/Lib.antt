@@ -1,0 +1,5 @@
+mod Growing
+mod Faultless
+mod LaidOut
+mod Sending
+mod Worked

@@ -1,0 +1,5 @@
+pub mod Draws
+pub mod Relays
+pub mod Messages
+pub mod Fates
+pub mod Loads

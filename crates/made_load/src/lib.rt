@@ -1,0 +1,17 @@
+//! A plan of eight relays and any number of messages, made from a number, and what becomes of the messages.
+//!
+//! The layer above may rely on this: the same number gives the same plan and the same messages, and the four counts are those of
+//! the journeys of exactly these messages, with relays that lose and find destinations on the way (ITU-T Q.714 sections 2 and 5).
+#![tactic(auto)]
+
+mod counts;
+mod draws;
+mod fate;
+mod load;
+mod messages;
+mod relays;
+mod rows;
+
+pub use counts::Counts;
+pub use load::load_counts;
+pub use relays::load_plan;

@@ -1,0 +1,143 @@
+//! Messages that are made and sent one after the other.
+ghost use Rattle.std.specs.Prelude.{◌≡◌, ◌<◌, ◌+◌, ◌^◌, length, IfOk, OnOk};
+ghost use Rattle.relay_net.specs.Journeys.{held_at, journey};
+ghost use Rattle.relay_net.specs.States.{markings_of};
+ghost use Rattle.made_load.specs.Relays.{load_plan};
+ghost use Rattle.made_load.specs.Loads.{begun, before_message, counted, load_counts, sent, turn, turned, IsAfter, IsRoomy};
+ghost use Rattle.made_load.specs.Messages.{origin};
+ghost use Rattle.made_load.specs.Draws.{after, drawn};
+
+use crate::counts::Counts;
+use crate::draws::Draws;
+use crate::fate::passed;
+use crate::messages::{made_octets, origin};
+use crate::rows::end_point;
+use plan_check::Accepted;
+use plan_model::Plan;
+use relay_net::{Happening, Net, journey};
+use sccp_base::{Mark, Marking, OutOfMemory, PointCode};
+use sccp_manage::Event;
+use std::alloc::Global;
+use std::marker::Model;
+
+/// Where the sending stands: what was drawn last, what the relays keep, and what was counted.
+#[derive(Drop)]
+struct Load {
+    draws: Draws,
+    net: Net,
+    counts: Counts,
+}
+
+impl Model for Load {
+    ghost use Rattle.made_load.specs.Loads.{Load as Sending};
+
+    ghost Value = { Sending };
+
+    ghost view = { λ l. record { at = l.draws; states = l.net; counts = l.counts } };
+}
+
+/// The marking that a relay holds.
+fn marking_at(net: &Net, relay: u8) -> &Marking
+    requires { relay < length net.now }
+    ensures { result.now ≡ held_at (markings_of net.now) relay }
+{
+    net.states()[usize::from(relay)].marking()
+}
+
+/// What a relay is told of a point: that it is lost or, where it was, that it is there again.
+fn turn(net: &Net, relay: u8, point: PointCode) -> Event
+    requires { relay < length net.now }
+    ensures { result ≡ turn net.now relay point }
+{
+    if marking_at(net, relay).holds(Mark::PointCode(point)) {
+        Event::Resume(point)
+    } else {
+        Event::Pause(point)
+    }
+}
+
+/// The relay that a drawn value names is told so of the destination that it names.
+fn turn_drawn(plan: &Plan, net: &mut Net, value: u16) -> Result<(), OutOfMemory>
+    requires nodes { length plan.now.nodes ≡ 8 }
+    requires states { length net.old ≡ 8 }
+    ensures { OnOk result (net.new ≡ turned plan.now net.old value) }
+{
+    let relay = (value / 10 % 8) as u8;
+    let event = turn(net, relay, end_point((value % 10) as u8));
+    net.apply(plan, relay, Happening::Managed(event))?;
+    Ok(())
+}
+
+/// The octets of a message have their journey, which is counted.
+fn carry(
+    alloc: Global,
+    accepted: &Accepted,
+    net: &Net,
+    octets: &[u8],
+    counts: &mut Counts,
+) -> Result<(), OutOfMemory>
+    requires nodes { length accepted.now.plan.nodes ≡ 8 }
+    requires states { length net.now ≡ 8 }
+    requires room { IsRoomy counts.old }
+    ensures { OnOk result (counts.new ≡ counted (journey accepted.now.plan (markings_of net.now) 0 origin octets.now) counts.old) }
+{
+    let journey = journey(alloc, accepted, net.states(), 0, origin(), octets)?;
+    let (nodes, fate) = passed(journey);
+    counts.add(nodes, fate);
+    Ok(())
+}
+
+impl Load {
+    /// Before the first message.
+    fn begin(alloc: Global, number: u32, plan: &Plan) -> Result<Load, OutOfMemory>
+        ensures { IfOk result (λ load. load ≡ begun number plan.now) }
+    {
+        Ok(Load {
+            draws: Draws::new(number),
+            net: Net::new(alloc, plan)?,
+            counts: Counts::none(),
+        })
+    }
+
+    /// Before every sixty-fourth message a drawn relay loses or finds a drawn destination.
+    fn prepare(&mut self, plan: &Plan, place: u32) -> Result<(), OutOfMemory>
+        requires nodes { length plan.now.nodes ≡ 8 }
+        requires states { length self.old.states ≡ 8 }
+        ensures { OnOk result (self.new ≡ before_message plan.now place self.old) }
+    {
+        if place % 64 == 63 {
+            let value = self.draws.draw();
+            turn_drawn(plan, &mut self.net, value)?;
+        }
+        Ok(())
+    }
+
+    /// The message at a place is made, and has its journey.
+    fn send(&mut self, alloc: Global, accepted: &Accepted, place: u32) -> Result<(), OutOfMemory>
+        requires nodes { length accepted.now.plan.nodes ≡ 8 }
+        requires after { IsAfter place self.old }
+        ensures { OnOk result (self.new ≡ sent accepted.now.plan place self.old) }
+    {
+        let octets = made_octets(place, &mut self.draws);
+        carry(alloc, accepted, &self.net, &octets, &mut self.counts)
+    }
+}
+
+/// The counts of so many messages over the relays of an accepted plan, which is the number's. Each message is made when it is
+/// sent, and not kept.
+pub fn load_counts(
+    alloc: Global,
+    accepted: &Accepted,
+    number: u32,
+    size: u32,
+) -> Result<Counts, OutOfMemory>
+    requires { accepted.now.plan ≡ load_plan number }
+    ensures { IfOk result (λ counts. counts ≡ load_counts number size) }
+{
+    let mut load = Load::begin(alloc, number, accepted.plan())?;
+    for place in 0..size {
+        load.prepare(accepted.plan(), place)?;
+        load.send(alloc, accepted, place)?;
+    }
+    Ok(load.counts)
+}

@@ -1,0 +1,69 @@
+-- The command that makes a plan and messages from a number, and counts what becomes of the messages.
+use Rattle.std.specs.Prelude.{ℕ, ◌==◌, Bool, false, nat_le, List, [], ◌∷◌, ◌++◌, codes, Option, Some, None, option_and_then, if◌then◌else◌}
+use Rattle.std.specs.Option.{option_map_or}
+use Rattle.sccp_base.specs.Text.{decimal_of}
+use Rattle.plan_verify.specs.declared.verdict.Verdict.{Verdict}
+use Rattle.plan_verify.specs.declared.verdict.Verdict.TheVariants as verdicts
+use Rattle.made_load.specs.Loads.{load_counts}
+use Rattle.made_load.specs.Relays.{load_plan}
+use Rattle.made_load.specs.declared.counts.Counts.{Counts}
+use Rattle.sccp_report.specs.Values.{numbered}
+use Rattle.sccp_report.specs.Verdicts.{verdict_text}
+use Rattle.sccp_tool.specs.ReplayEnds.{IsOnRefusal}
+use Rattle.sccp_tool.specs.Task.{Task, Load}
+use Rattle.sccp_tool.specs.Verify.{status_of, IsSafe, IsBad, IsWide, Tells}
+use Rattle.sccp_tool.specs.Work.{Work, judge, answered}
+use Rattle.sccp_tool.specs.declared.status.Status.{Status}
+use Rattle.sccp_tool.specs.declared.status.Status.TheVariants.{Done, Refused, TooWide}
+
+-- one to ten decimal digits that spell a number up to the given one
+abbrev pub number_to : ℕ → List ℕ → Option ℕ
+number_to most word = option_and_then (λ n. if nat_le n most then Some n else None) (decimal_of 10 word)
+
+-- one to ten decimal digits that spell 1
+abbrev pub is_one : List ℕ → Bool
+is_one word = option_map_or (λ workers. workers == 1) (decimal_of 10 word) false
+
+-- a number of 32 bits, how many messages, and the number of workers: one carries out a load
+unfoldable pub load_of : List ℕ → List ℕ → List ℕ → Option Task
+load_of number size workers =
+    option_and_then (λ n. option_and_then (λ s. if is_one workers then Some (Load n s 1) else None) (number_to 100000 size)) (number_to 4294967295 number)
+
+-- NUMBER SIZE WORKERS
+unfoldable pub load_words : List (List ℕ) → Option Task
+load_words (number ∷ size ∷ workers ∷ []) = load_of number size workers
+load_words words = None
+
+unfoldable pub count_line : List ℕ → ℕ → List ℕ
+count_line name count = numbered name count ++ codes "\n"
+
+unfoldable pub counts_text : Counts → List ℕ
+counts_text c =
+    count_line (codes "messages ") c.messages ++ count_line (codes "ended ") c.ended
+    ++ count_line (codes "returned ") c.returned ++ count_line (codes "translations ") c.translations
+
+-- the counts where the plan is accepted, and else the verdict
+abbrev pub load_text : ℕ → ℕ → Verdict → List ℕ
+load_text number size (verdicts.Accepted accepted) = counts_text (load_counts number size)
+load_text number size (verdicts.Refused same witness) = verdict_text (load_plan number) (verdicts.Refused same witness)
+load_text number size (verdicts.TooWide same) = verdict_text (load_plan number) (verdicts.TooWide same)
+
+-- the plan is verified as any other
+abbrev pub load_work : ℕ → ℕ → Work
+load_work number size = judge (load_plan number) (λ verdict. answered (status_of verdict, load_text number size verdict))
+
+-- the cause of each answer
+abbrev pub LoadCause : ℕ → Status → Type 0
+LoadCause number Done = IsSafe (load_plan number)
+LoadCause number Refused = IsBad (load_plan number)
+LoadCause number TooWide = IsWide (load_plan number)
+LoadCause number answer = ⊥
+
+-- what brings an answer for sure: a plan that is both safe and wide may be told to be too wide as well
+abbrev pub LoadSure : ℕ → Status → Type 0
+LoadSure number Done = IsSafe (load_plan number) × (IsWide (load_plan number) → ⊥)
+LoadSure number answer = ⊥
+
+-- an answer that tells that the plan isn't accepted tells a lawful verdict on it
+abbrev pub LoadTells : ℕ → Status → Option (List ℕ) → Option (List ℕ) → Type 0
+LoadTells number given taken taken' = IsOnRefusal given → Tells (load_plan number) given taken taken'

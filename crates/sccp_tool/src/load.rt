@@ -1,0 +1,148 @@
+//! The command that makes a plan and messages from a number, and counts what becomes of the messages.
+ghost use Rattle.std.specs.Prelude.{◌≡◌, ◌<◌, ◌^◌, ◌++◌, ℕ, Bool, Option, IfOk, OnOk};
+ghost use Rattle.made_load.specs.Loads.{load_counts};
+ghost use Rattle.made_load.specs.Relays.{load_plan};
+ghost use Rattle.plan_model.specs.Network.{IsPlan};
+ghost use Rattle.plan_verify.specs.Lawful.{IsLawful, plan_of};
+ghost use Rattle.sccp_io.specs.Files.{Contents};
+ghost use Rattle.sccp_tool.specs.Commands.{texts};
+ghost use Rattle.sccp_tool.specs.Ending.{Works};
+ghost use Rattle.sccp_tool.specs.Load.{count_line, counts_text, is_one, load_of, load_text, load_words, load_work, number_to};
+ghost use Rattle.sccp_tool.specs.Parsed.{task_in};
+ghost use Rattle.sccp_tool.specs.Verify.{status_of};
+ghost use Rattle.sccp_tool.specs.Writing.{Writes};
+
+use crate::command::Command;
+use crate::status::Status;
+use crate::stop::Stop;
+use crate::verify::tell_verdict;
+use crate::writing::print_last;
+use made_load::{Counts, load_counts, load_plan};
+use plan_check::Accepted;
+use plan_verify::Verdict;
+use sccp_base::{Octets, OutOfMemory, decimal};
+use sccp_io::Sink;
+use sccp_report::Text;
+use std::alloc::Global;
+
+/// Its words: `NUMBER SIZE WORKERS`.
+#[tactic(auto, unfolding(crate::specs::Load::load_words))]
+pub fn load_words(words: &[String]) -> Option<Command<'_>>
+    ensures { task_in result ≡ load_words (texts words.now) }
+{
+    match words {
+        [number, size, workers] => load_of(number.as_str(), size.as_str(), workers.as_str()),
+        _ => None,
+    }
+}
+
+/// The command of these three words.
+#[tactic(auto, unfolding(crate::specs::Load::load_of))]
+fn load_of<'a>(number: &str, size: &str, workers: &str) -> Option<Command<'a>>
+    ensures { task_in result ≡ load_of number.now size.now workers.now }
+{
+    let number = number_to(number.as_bytes(), u32::MAX)?;
+    let size = number_to(size.as_bytes(), 100_000)?;
+    if is_one(workers.as_bytes()) {
+        Some(Command::Load(number, size))
+    } else {
+        None
+    }
+}
+
+/// One to ten decimal digits that spell 1.
+fn is_one(word: &[u8]) -> bool
+    ensures { result ≡ is_one word.now }
+{
+    match decimal(word, 10) {
+        Some(value) => value == 1,
+        None => false,
+    }
+}
+
+/// One to ten decimal digits that spell a number up to the given one.
+fn number_to(word: &[u8], most: u32) -> Option<u32>
+    ensures { result ≡ number_to most word.now }
+{
+    match decimal(word, 10) {
+        Some(value) => {
+            if value <= u64::from(most) {
+                Some(value as u32)
+            } else {
+                None
+            }
+        }
+        None => None,
+    }
+}
+
+/// Makes the plan of a number, sends so many messages over its relays where it is accepted, and prints the counts. It comes
+/// to no file, so the clause speaks of whatever the files tell.
+pub fn load<K: Sink>(alloc: Global, number: u32, size: u32, out: &mut K) -> Result<Status, Stop>
+    ensures { (contents : Option Contents) (sound : Bool) (faults : ℕ) → Works (load_work number size) result
+        (record { contents = contents; sound = sound; read_faults = faults; taken = K.taken out.old; write_faults = K.faults out.old })
+        (record { contents = contents; sound = sound; read_faults = faults; taken = K.taken out.new; write_faults = K.faults out.new }) }
+{
+    let plan = load_plan(alloc, number)?;
+    let verdict = plan_verify::verify(alloc, plan)?;
+    load_judged(alloc, &verdict, number, size, out)
+}
+
+/// What follows the verdict on the plan.
+fn load_judged<K: Sink>(
+    alloc: Global,
+    verdict: &Verdict,
+    number: u32,
+    size: u32,
+    out: &mut K,
+) -> Result<Status, Stop>
+    requires same { plan_of verdict.now ≡ load_plan number }
+    requires plan { IsPlan (plan_of verdict.now) }
+    requires lawful { IsLawful (plan_of verdict.now) verdict.now }
+    ensures text { Writes (load_text number size verdict.now) result (K.taken out.old) (K.taken out.new) (K.faults out.old) (K.faults out.new) }
+    ensures answer { IfOk result (λ s. s ≡ status_of verdict.now) }
+{
+    match verdict {
+        Verdict::Accepted(accepted) => load_accepted(alloc, accepted, number, size, out),
+        Verdict::Refused(_, _) => tell_verdict(alloc, verdict, out),
+        Verdict::TooWide(_) => tell_verdict(alloc, verdict, out),
+    }
+}
+
+/// The plan was accepted: the messages are sent, and the counts printed.
+fn load_accepted<K: Sink>(
+    alloc: Global,
+    accepted: &Accepted,
+    number: u32,
+    size: u32,
+    out: &mut K,
+) -> Result<Status, Stop>
+    requires { accepted.now.plan ≡ load_plan number }
+    ensures text { Writes (counts_text (load_counts number size)) result (K.taken out.old) (K.taken out.new) (K.faults out.old) (K.faults out.new) }
+    ensures answer { IfOk result (λ s. s ≡ Status.Done) }
+{
+    let counts = load_counts(alloc, accepted, number, size)?;
+    let text = counts_text(alloc, &counts)?;
+    print_last(out, text.as_slice(), Status::Done)
+}
+
+/// The four counts, a line each.
+#[tactic(auto, unfolding(crate::specs::Load::counts_text))]
+fn counts_text(alloc: Global, counts: &Counts) -> Result<Octets, OutOfMemory>
+    ensures { IfOk result (λ text. text ≡ counts_text counts.now) }
+{
+    let mut text = Text::new(alloc);
+    put_count(&mut text, b"messages ", counts.messages)?;
+    put_count(&mut text, b"ended ", counts.ended)?;
+    put_count(&mut text, b"returned ", counts.returned)?;
+    put_count(&mut text, b"translations ", counts.translations)?;
+    Ok(text.into_octets())
+}
+
+#[tactic(auto, unfolding(crate::specs::Load::count_line))]
+fn put_count(text: &mut Text, name: &[u8], count: usize) -> Result<(), OutOfMemory>
+    ensures { OnOk result (text.new ≡ text.old ++ count_line name.now count) }
+{
+    text.put_counted(name, count)?;
+    text.put(b"\n")
+}
