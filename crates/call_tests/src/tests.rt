@@ -5,3 +5,4 @@ mod limits;
 mod memory_io;
 mod replays;
 mod wide_plans;
+mod workers;

@@ -22,7 +22,7 @@ fn main(rt: HostRuntime) -> ExitCode {
         Err(_) => Ok(Vec::new(alloc)),
     };
     let status = match words {
-        Ok(words) => run(alloc, &words, &mut files, &mut out),
+        Ok(words) => run(&rt, alloc, &words, &mut files, &mut out),
         Err(_) => Status::NoMemory,
     };
     ExitCode::from(status.number())

@@ -2,6 +2,7 @@ mod Accounting
 mod BatchSteps
 mod Causes
 mod ChangeLemmas
+mod CrewSteps
 mod CutsLemmas
 mod Finishing
 mod ImportLemmas

@@ -19,6 +19,8 @@ pub mod ReplayEnds
 pub mod Replayers
 pub mod Replaying
 pub mod Route
+pub mod Routers
+pub mod Routings
 pub mod Run
 pub mod SendOn
 pub mod Settling

@@ -1,7 +1,7 @@
 -- The command that replays a trace, batch by batch.
-use Rattle.std.specs.Prelude.{ℕ, ◌+◌, ◌-◌, ◌==◌, Bool, true, false, nat_le, List, [], ◌∷◌, ◌++◌, length, filter, slice_get, unwrap_or, codes, Option, Some, None, option_and_then, Result, Ok, Err, if◌then◌else◌}
+use Rattle.std.specs.Prelude.{ℕ, ◌+◌, ◌-◌, ◌&&◌, Bool, true, false, nat_le, List, [], ◌∷◌, ◌++◌, length, filter, slice_get, unwrap_or, codes, Option, Some, None, option_and_then, Result, Ok, Err, if◌then◌else◌}
 use Rattle.std.specs.List.{filter_map}
-use Rattle.std.specs.Option.{option_map_or}
+use Rattle.std.specs.Option.{option_map}
 use Rattle.sccp_base.specs.Text.{decimal_of}
 use Rattle.sccp_base.specs.declared.mark.Mark.{Mark}
 use Rattle.sccp_report.specs.Events.{event_text}
@@ -37,14 +37,18 @@ use Rattle.sccp_tool.specs.Work.{Work, print, read, read_on, judge, serve, answe
 use Rattle.sccp_tool.specs.declared.status.Status.{Status}
 use Rattle.sccp_tool.specs.declared.status.Status.TheVariants.{Done, BadTrace}
 
--- one to ten decimal digits that spell 1
-abbrev pub is_one : List ℕ → Bool
-is_one word = option_map_or (λ workers. workers == 1) (decimal_of 10 word) false
+-- a number of workers: one to sixteen
+abbrev pub is_crew : ℕ → Bool
+is_crew workers = nat_le 1 workers && nat_le workers 16
 
--- two file names, and the number of workers: one carries out a replay
+-- one to ten decimal digits that spell one
+abbrev pub workers_in : List ℕ → Option ℕ
+workers_in word = option_and_then (λ workers. if is_crew workers then Some workers else None) (decimal_of 10 word)
+
+-- two file names, and the number of workers
 unfoldable pub replay_of : List ℕ → List ℕ → List ℕ → Option Task
 replay_of plan trace workers =
-    option_and_then (λ p. option_and_then (λ t. if is_one workers then Some (Replay p t 1) else None) (file_name trace)) (file_name plan)
+    option_and_then (λ p. option_and_then (λ t. option_map (λ n. Replay p t n) (workers_in workers)) (file_name trace)) (file_name plan)
 
 -- PLAN TRACE WORKERS
 unfoldable pub replay_words : List (List ℕ) → Option Task

@@ -7,16 +7,21 @@ use crate::replayer::Replayer;
 use crate::settle::settle;
 use crate::stop::Stop;
 use crate::tell::tell;
+use live_plan::Gate;
+use sccp_base::List;
 use sccp_io::{Files, Sink};
 use sccp_report::Text;
 use std::alloc::Global;
+use std::sync::Wait;
+use std::thread::Threads;
 use trace_text::Numbered;
 
-/// The text of a batch. Its plan lines are settled first; then its messages are routed, each under the plans that were
-/// accepted before its line and the markings that stood before the batch, and what the ends leave to be done is done in the
-/// order of the lines.
+/// The text of a batch. Its plan lines are settled first; then its messages are routed, each under a number that its worker may
+/// take and the markings that stood before the batch, and what the ends leave to be done is done in the order of the lines.
 #[tactic(auto, using(crate::proofs::BatchSteps::settled_memory, crate::proofs::BatchSteps::batch_told))]
-pub fn batch_text<F: Files, K: Sink>(
+pub fn batch_text<R: Threads + Wait + Sync, G: Gate + Sync, F: Files, K: Sink>(
+    rt: &R,
+    gate: &G,
     alloc: Global,
     at: &mut Replayer,
     lines: &[Numbered],
@@ -29,9 +34,12 @@ pub fn batch_text<F: Files, K: Sink>(
     ensures first { OnOk result (at.new.first ≡ at.old.first) }
     ensures left { F.left files.new ≡ F.left files.old }
 {
-    // It ensures that there is one worker.
+    // It ensures that the plans are sound.
     let _first = at.first();
-    let settled = settle(alloc, at, lines, files, out)?;
-    let text = tell(alloc, at, settled.as_slice())?;
+    let mut coming = List::new(alloc);
+    let settled = settle(alloc, at, &mut coming, lines, files, out)?;
+    let settled = settled.as_slice();
+    let served = at.route(rt, gate, settled, coming)?;
+    let text = tell(alloc, at, settled, served.as_slice())?;
     Ok(text)
 }

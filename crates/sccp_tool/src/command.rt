@@ -14,6 +14,7 @@ use crate::show::show_words;
 use crate::show_hex::show_hex_words;
 use crate::start::Start;
 use crate::verify::verify_words;
+use crate::workers::Workers;
 use sccp_base::{Octets, OutOfMemory};
 use std::alloc::Global;
 
@@ -28,8 +29,8 @@ pub enum Command<'a> {
     Verify(&'a str),
     /// To follow a title under the plan of the file of this name.
     Route(&'a str, Start),
-    /// To replay the trace of the second file under the plan of the first one.
-    Replay(&'a str, &'a str),
+    /// To replay the trace of the second file under the plan of the first one, with so many workers.
+    Replay(&'a str, &'a str, Workers),
     /// To make a plan and so many messages from a number, and to count what becomes of them.
     Load(u32, u32),
     /// To show every cut of the message of these octets.

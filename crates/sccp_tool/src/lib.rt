@@ -8,9 +8,11 @@
 //! passes on the words.
 #![tactic(auto)]
 
+mod alone;
 mod batch;
 mod change;
 mod command;
+mod crew;
 mod cuts;
 mod gathered;
 mod import;
@@ -25,6 +27,7 @@ mod reading;
 mod replay;
 mod replayer;
 mod route;
+mod router;
 mod send_on;
 mod settle;
 mod settled;
@@ -37,7 +40,8 @@ mod taking;
 mod tell;
 mod tracing;
 mod verify;
+mod workers;
 mod writing;
 
-pub use program::run;
+pub use program::{run, run_gated};
 pub use status::Status;

@@ -22,17 +22,26 @@ use crate::status::Status;
 use crate::stop::Stop;
 use crate::verify::verify;
 use crate::writing::print_last;
+use live_plan::{Gate, OpenGate};
 use sccp_base::OutOfMemory;
 use sccp_io::{Files, Sink};
 use std::alloc::Global;
+use std::sync::Wait;
+use std::thread::Threads;
 
 const USAGE: &[u8] =
     b"usage: show-hex HEX | show FILE | verify PLAN | route PLAN NODE SELECTOR SSN DIGITS | replay PLAN TRACE WORKERS | load NUMBER SIZE WORKERS | cuts HEX | change OLD NEW | send-on PLAN NODE ORIGIN SIZE HEX | import PLAN FILE\n";
 
 const READ_FAULT: &[u8] = b"read fault\n";
 
-/// Does what the words ask for, and answers how it ended.
-pub fn run<F: Files, K: Sink>(alloc: Global, words: &[String], files: &mut F, out: &mut K) -> Status
+/// Does what the words ask for, and answers how it ended. It may wait for the workers of a replay.
+pub fn run<R: Threads + Wait + Sync, F: Files, K: Sink>(
+    rt: &R,
+    alloc: Global,
+    words: &[String],
+    files: &mut F,
+    out: &mut K,
+) -> Status
     // The answer, what the sink took, and what became of the files.
     ensures outcome { Outcome (work_of (task_of (texts words.now))) result
         (moment F.contents F.sound F.faults K.taken K.faults files.old out.old)
@@ -71,12 +80,65 @@ pub fn run<F: Files, K: Sink>(alloc: Global, words: &[String], files: &mut F, ou
     ensures named { IsTrue (F.sound files.old) → IfSome (F.contents files.old) (λ c. HasNamedFiles c (task_of (texts words.now))
         → (F.faults files.new ≡ F.faults files.old) × (F.faults files.old < 2 ^ 64 - 1 → result ≢ Status.ReadFault)) }
 {
-    let worked = carry_out(alloc, words, files, out);
+    run_gated(rt, alloc, words, files, out, &OpenGate)
+}
+
+/// Does what `run` does, and tells the gate of the course of each batch, as for a test that lets the workers wait for each
+/// other. With one worker the gate is told nothing.
+pub fn run_gated<R: Threads + Wait + Sync, F: Files, K: Sink, G: Gate + Sync>(
+    rt: &R,
+    alloc: Global,
+    words: &[String],
+    files: &mut F,
+    out: &mut K,
+    gate: &G,
+) -> Status
+    // The answer, what the sink took, and what became of the files.
+    ensures outcome { Outcome (work_of (task_of (texts words.now))) result
+        (moment F.contents F.sound F.faults K.taken K.faults files.old out.old)
+        (moment F.contents F.sound F.faults K.taken K.faults files.new out.new) }
+
+    // What the text tells of a plan, of two plans, or of a file of DATA messages.
+    ensures tells { IfSome (F.contents files.old)
+        (λ c. TellsAnswer c (task_of (texts words.now)) result (K.taken out.old) (K.taken out.new)) }
+
+    // Where each message of a replay went.
+    ensures journeys { IfSome (F.contents files.old)
+        (λ c. TellsJourneys c (task_of (texts words.now)) result (K.taken out.old) (K.taken out.new)) }
+
+    // The cause of each answer.
+    ensures done { IfSome (F.contents files.old)
+        (λ c. ComesWhere Status.Done result (Cause c (task_of (texts words.now)) Status.Done) (SureCause c (task_of (texts words.now)) Status.Done)) }
+    ensures refused { IfSome (F.contents files.old)
+        (λ c. RefusedWhere result (Cause c (task_of (texts words.now)) Status.Refused)) }
+    ensures too_wide { IfSome (F.contents files.old)
+        (λ c. result ≡ Status.TooWide → Cause c (task_of (texts words.now)) Status.TooWide) }
+    ensures usage { ExactlyWhere Status.Usage result (task_of (texts words.now) ≡ None) }
+    ensures bad_plan { IfSome (F.contents files.old)
+        (λ c. ComesWhere Status.BadPlan result (Cause c (task_of (texts words.now)) Status.BadPlan) (SureCause c (task_of (texts words.now)) Status.BadPlan)) }
+    ensures bad_trace { IfSome (F.contents files.old)
+        (λ c. ComesWhere Status.BadTrace result (Cause c (task_of (texts words.now)) Status.BadTrace) (SureCause c (task_of (texts words.now)) Status.BadTrace)) }
+    ensures too_long { IfSome (F.contents files.old)
+        (λ c. ComesWhere Status.TooLong result (Cause c (task_of (texts words.now)) Status.TooLong) (SureCause c (task_of (texts words.now)) Status.TooLong)) }
+    ensures other_nodes { IfSome (F.contents files.old)
+        (λ c. ComesWhere Status.OtherNodes result (Cause c (task_of (texts words.now)) Status.OtherNodes) (SureCause c (task_of (texts words.now)) Status.OtherNodes)) }
+    ensures read_fault { result ≡ Status.ReadFault → Rose (F.faults files.old) (F.faults files.new) }
+    ensures write_fault { result ≡ Status.WriteFault → Rose (K.faults out.old) (K.faults out.new) }
+    // Sound files that have each file which the work comes to don't fail.
+    ensures sound { IsTrue (F.sound files.old) → IfSome (F.contents files.old) (λ c. HasFiles c (work_of (task_of (texts words.now)))
+        → (F.faults files.new ≡ F.faults files.old) × (F.faults files.old < 2 ^ 64 - 1 → result ≢ Status.ReadFault)) }
+    // Nor do those that have each file which the words name, or a line of the trace as a later plan.
+    ensures named { IsTrue (F.sound files.old) → IfSome (F.contents files.old) (λ c. HasNamedFiles c (task_of (texts words.now))
+        → (F.faults files.new ≡ F.faults files.old) × (F.faults files.old < 2 ^ 64 - 1 → result ≢ Status.ReadFault)) }
+{
+    let worked = carry_out(rt, gate, alloc, words, files, out);
     close(worked, out)
 }
 
 /// Does the work of the words.
-fn carry_out<F: Files, K: Sink>(
+fn carry_out<R: Threads + Wait + Sync, G: Gate + Sync, F: Files, K: Sink>(
+    rt: &R,
+    gate: &G,
     alloc: Global,
     words: &[String],
     files: &mut F,
@@ -87,14 +149,16 @@ fn carry_out<F: Files, K: Sink>(
         (moment F.contents F.sound F.faults K.taken K.faults files.new out.new) }
 {
     match parse(alloc, words) {
-        Ok(Some(command)) => obey(alloc, &command, files, out),
+        Ok(Some(command)) => obey(rt, gate, alloc, &command, files, out),
         Ok(None) => print_last(out, USAGE, Status::Usage),
         Err(OutOfMemory) => Err(Stop::Memory),
     }
 }
 
 /// Does the work of a command.
-fn obey<F: Files, K: Sink>(
+fn obey<R: Threads + Wait + Sync, G: Gate + Sync, F: Files, K: Sink>(
+    rt: &R,
+    gate: &G,
     alloc: Global,
     command: &Command<'_>,
     files: &mut F,
@@ -109,7 +173,9 @@ fn obey<F: Files, K: Sink>(
         Command::Show(name) => show(alloc, name, files, out),
         Command::Verify(name) => verify(alloc, name, files, out),
         Command::Route(name, start) => route(alloc, name, start, files, out),
-        Command::Replay(plan, trace) => replay(alloc, plan, trace, files, out),
+        Command::Replay(plan, trace, workers) => {
+            replay(rt, gate, alloc, plan, trace, workers, files, out)
+        }
         Command::Load(number, size) => load(alloc, *number, *size, out),
         Command::Cuts(octets) => cuts(alloc, octets.as_slice(), out),
         Command::Import(plan, file) => import(alloc, plan, file, files, out),

@@ -10,6 +10,7 @@ ghost use Rattle.sccp_tool.specs.LaterPlans.{accepted_plan_line, refused_plan_he
 ghost use Rattle.sccp_tool.specs.Moment.{moment};
 ghost use Rattle.sccp_tool.specs.Replay.{accepted, prints};
 ghost use Rattle.sccp_tool.specs.Replayers.{ComesToNode, settled_in};
+ghost use Rattle.sccp_tool.specs.Routings.{ArePlans, ahead};
 ghost use Rattle.sccp_tool.specs.Settling.{JudgesLine, GivesPlanLine, GivesPlanFile, GivesLine, GivesSettled, LooksAt, LooksInto};
 
 use crate::later_lines::{accepted_plan_line, bad_plan_line, other_nodes_line, refused_plan_text};
@@ -30,19 +31,21 @@ use trace_text::Numbered;
 /// A later plan was accepted, and counts from its line on.
 fn accept_later(
     alloc: Global,
-    at: &mut Replayer,
+    at: &Replayer,
+    coming: &mut List<Accepted>,
     line: u32,
     name: &str,
     plan: Accepted,
 ) -> Result<Settled, OutOfMemory>
-    requires { SameNodes at.old.first plan.plan }
-    ensures first { at.new.first ≡ at.old.first }
-    ensures text { IfOk result (λ s. settled_in s ≡ prints (accepted_plan_line line (accepted at.old + 1) name.now plan.bound)) }
-    ensures at { OnOk result (at.new ≡ record at.old { later = at.old.later ++ plan.plan ∷ [] }) }
-    ensures fits { IfOk result (ComesToNode at.old.first) }
+    requires plans { ArePlans at.now.first (ahead at.now coming.old).later }
+    requires same { SameNodes at.now.first plan.plan }
+    ensures plans { OnOk result (ArePlans at.now.first (ahead at.now coming.new).later) }
+    ensures text { IfOk result (λ s. settled_in s ≡ prints (accepted_plan_line line (accepted (ahead at.now coming.old) + 1) name.now plan.bound)) }
+    ensures at { OnOk result (ahead at.now coming.new ≡ record (ahead at.now coming.old) { later = (ahead at.now coming.old).later ++ plan.plan ∷ [] }) }
+    ensures fits { IfOk result (ComesToNode at.now.first) }
 {
-    let text = accepted_plan_line(alloc, line, at.accepted() + 1, name, &plan)?;
-    at.accept(plan)?;
+    let text = accepted_plan_line(alloc, line, at.accepted(coming) + 1, name, &plan)?;
+    at.accept(coming, plan)?;
     Ok(Settled::Prints(text))
 }
 
@@ -65,19 +68,21 @@ fn refuse_later(
 #[tactic(auto, using(crate::proofs::LaterSteps::accepted_judges, crate::proofs::LaterSteps::refused_judges, crate::proofs::LaterSteps::wide_judges))]
 fn judge_later(
     alloc: Global,
-    at: &mut Replayer,
+    at: &Replayer,
+    coming: &mut List<Accepted>,
     line: u32,
     name: &str,
     plan: Plan,
 ) -> Result<Settled, OutOfMemory>
     requires plan { IsPlan plan }
-    requires same { SameNodes at.old.first plan }
-    ensures first { at.new.first ≡ at.old.first }
-    ensures gives { IfOk result (λ s. JudgesLine at.old line name.now plan at.new (settled_in s)) }
-    ensures fits { IfOk result (ComesToNode at.old.first) }
+    requires same { SameNodes at.now.first plan }
+    requires plans { ArePlans at.now.first (ahead at.now coming.old).later }
+    ensures plans { OnOk result (ArePlans at.now.first (ahead at.now coming.new).later) }
+    ensures gives { IfOk result (λ s. JudgesLine (ahead at.now coming.old) line name.now plan (ahead at.now coming.new) (settled_in s)) }
+    ensures fits { IfOk result (ComesToNode at.now.first) }
 {
     match verify(alloc, plan)? {
-        Verdict::Accepted(accepted) => accept_later(alloc, at, line, name, accepted),
+        Verdict::Accepted(accepted) => accept_later(alloc, at, coming, line, name, accepted),
         Verdict::Refused(plan, witness) => {
             refuse_later(alloc, line, name, Verdict::Refused(plan, witness))
         }
@@ -90,19 +95,21 @@ fn judge_later(
 #[tactic(auto, using(crate::proofs::LaterSteps::same_reads, crate::proofs::LaterSteps::other_reads, crate::proofs::LaterSteps::bad_reads))]
 fn read_later(
     alloc: Global,
-    at: &mut Replayer,
+    at: &Replayer,
+    coming: &mut List<Accepted>,
     line: u32,
     name: &str,
     text: &[u8],
 ) -> Result<Settled, OutOfMemory>
-    ensures first { at.new.first ≡ at.old.first }
-    ensures gives { IfOk result (λ s. GivesPlanLine at.old line name.now (read_plan text.now) at.new (settled_in s)) }
-    ensures fits { IfOk result (ComesToNode at.old.first) }
+    requires plans { ArePlans at.now.first (ahead at.now coming.old).later }
+    ensures plans { OnOk result (ArePlans at.now.first (ahead at.now coming.new).later) }
+    ensures gives { IfOk result (λ s. GivesPlanLine (ahead at.now coming.old) line name.now (read_plan text.now) (ahead at.now coming.new) (settled_in s)) }
+    ensures fits { IfOk result (ComesToNode at.now.first) }
 {
     match plan_text::read(alloc, text) {
         Ok(plan) => {
             if have_same_nodes(at.first(), &plan) {
-                judge_later(alloc, at, line, name, plan)
+                judge_later(alloc, at, coming, line, name, plan)
             } else {
                 Ok(Settled::Prints(other_nodes_line(alloc, line, name)?))
             }
@@ -114,21 +121,23 @@ fn read_later(
 /// A plan line: its file is read beside the trace.
 fn settle_plan<F: Files, K: Sink>(
     alloc: Global,
-    at: &mut Replayer,
+    at: &Replayer,
+    coming: &mut List<Accepted>,
     line: u32,
     name: &str,
     files: &mut F,
     out: &mut K,
 ) -> Result<Settled, Stop>
-    ensures first { at.new.first ≡ at.old.first }
-    ensures gives { GivesPlanFile at.old line name.now result at.new
+    requires plans { ArePlans at.now.first (ahead at.now coming.old).later }
+    ensures plans { OnOk result (ArePlans at.now.first (ahead at.now coming.new).later) }
+    ensures gives { GivesPlanFile (ahead at.now coming.old) line name.now result (ahead at.now coming.new)
         (moment F.contents F.sound F.faults K.taken K.faults files.old out.old)
         (moment F.contents F.sound F.faults K.taken K.faults files.new out.new) }
-    ensures fits { IfOk result (ComesToNode at.old.first) }
+    ensures fits { IfOk result (ComesToNode at.now.first) }
     ensures left { F.left files.new ≡ F.left files.old }
 {
     let text = within_limit(alloc, Opened::Beside, name, files, out)?;
-    Ok(read_later(alloc, at, line, name, &text)?)
+    Ok(read_later(alloc, at, coming, line, name, &text)?)
 }
 
 /// A line that is printed and no more.
@@ -154,8 +163,14 @@ fn let_go(_due: Option<Due>) {}
 
 /// What a line is to the batch.
 #[tactic(auto, using(crate::proofs::LaterSteps::looks_routed, crate::proofs::LaterSteps::looks_aside, crate::proofs::LaterSteps::looks_alone))]
-fn look(alloc: Global, at: &Replayer, line: &Numbered) -> Result<Looked, OutOfMemory>
-    ensures gives { IfOk result (LooksAt at.now line.now) }
+fn look(
+    alloc: Global,
+    at: &Replayer,
+    coming: &List<Accepted>,
+    line: &Numbered,
+) -> Result<Looked, OutOfMemory>
+    requires { ArePlans at.now.first (ahead at.now coming.now).later }
+    ensures gives { IfOk result (LooksAt (ahead at.now coming.now) line.now) }
     ensures fits { IfOk result (LooksInto at.now.first) }
 {
     match role_of(alloc, at.first(), &line.line)? {
@@ -168,7 +183,7 @@ fn look(alloc: Global, at: &Replayer, line: &Numbered) -> Result<Looked, OutOfMe
             entry,
             origin,
             octets,
-            before: at.accepted(),
+            before: at.accepted(coming),
         })),
         Role::Later(name) => Ok(Looked::Later(name)),
         Role::Aside => Ok(Looked::Settled(settle_aside(alloc, at, line)?)),
@@ -183,21 +198,23 @@ fn look(alloc: Global, at: &Replayer, line: &Numbered) -> Result<Looked, OutOfMe
 #[tactic(auto, using(crate::proofs::TakeSteps::works_memory))]
 fn settle_named<F: Files, K: Sink>(
     alloc: Global,
-    at: &mut Replayer,
+    at: &Replayer,
+    coming: &mut List<Accepted>,
     line: u32,
     name: &[u8],
     files: &mut F,
     out: &mut K,
 ) -> Result<Settled, Stop>
-    ensures first { at.new.first ≡ at.old.first }
-    ensures gives { GivesPlanFile at.old line name.now result at.new
+    requires plans { ArePlans at.now.first (ahead at.now coming.old).later }
+    ensures plans { OnOk result (ArePlans at.now.first (ahead at.now coming.new).later) }
+    ensures gives { GivesPlanFile (ahead at.now coming.old) line name.now result (ahead at.now coming.new)
         (moment F.contents F.sound F.faults K.taken K.faults files.old out.old)
         (moment F.contents F.sound F.faults K.taken K.faults files.new out.new) }
-    ensures fits { IfOk result (ComesToNode at.old.first) }
+    ensures fits { IfOk result (ComesToNode at.now.first) }
     ensures left { F.left files.new ≡ F.left files.old }
 {
     match std::str::from_utf8(name) {
-        Ok(name) => settle_plan(alloc, at, line, name, files, out),
+        Ok(name) => settle_plan(alloc, at, coming, line, name, files, out),
         Err(_) => Err(Stop::Memory),
     }
 }
@@ -206,42 +223,49 @@ fn settle_named<F: Files, K: Sink>(
 #[tactic(auto, using(crate::proofs::LaterSteps::named_gives, crate::proofs::TakeSteps::works_memory))]
 fn settle_line<F: Files, K: Sink>(
     alloc: Global,
-    at: &mut Replayer,
+    at: &Replayer,
+    coming: &mut List<Accepted>,
     line: &Numbered,
     files: &mut F,
     out: &mut K,
 ) -> Result<Settled, Stop>
-    ensures first { at.new.first ≡ at.old.first }
-    ensures gives { GivesLine at.old line.now result at.new
+    requires plans { ArePlans at.now.first (ahead at.now coming.old).later }
+    ensures plans { OnOk result (ArePlans at.now.first (ahead at.now coming.new).later) }
+    ensures gives { GivesLine (ahead at.now coming.old) line.now result (ahead at.now coming.new)
         (moment F.contents F.sound F.faults K.taken K.faults files.old out.old)
         (moment F.contents F.sound F.faults K.taken K.faults files.new out.new) }
-    ensures fits { IfOk result (ComesToNode at.old.first) }
+    ensures fits { IfOk result (ComesToNode at.now.first) }
     ensures left { F.left files.new ≡ F.left files.old }
 {
-    match look(alloc, at, line)? {
+    match look(alloc, at, coming, line)? {
         Looked::Settled(settled) => Ok(settled),
-        Looked::Later(name) => settle_named(alloc, at, line.number, name.as_slice(), files, out),
+        Looked::Later(name) => {
+            let name = name.as_slice();
+            settle_named(alloc, at, coming, line.number, name, files, out)
+        }
     }
 }
 
 /// What the lines of a batch are settled to, in their order.
 pub fn settle<F: Files, K: Sink>(
     alloc: Global,
-    at: &mut Replayer,
+    at: &Replayer,
+    coming: &mut List<Accepted>,
     lines: &[Numbered],
     files: &mut F,
     out: &mut K,
 ) -> Result<List<Settled>, Stop>
-    ensures first { at.new.first ≡ at.old.first }
-    ensures gives { GivesSettled at.old lines.now result at.new
+    requires plans { ArePlans at.now.first (ahead at.now coming.old).later }
+    ensures plans { OnOk result (ArePlans at.now.first (ahead at.now coming.new).later) }
+    ensures gives { GivesSettled (ahead at.now coming.old) lines.now result (ahead at.now coming.new)
         (moment F.contents F.sound F.faults K.taken K.faults files.old out.old)
         (moment F.contents F.sound F.faults K.taken K.faults files.new out.new) }
-    ensures fits { IfOk result (λ settled. All (ComesToNode at.old.first) settled) }
+    ensures fits { IfOk result (λ settled. All (ComesToNode at.now.first) settled) }
     ensures left { F.left files.new ≡ F.left files.old }
 {
     let mut settled = List::new(alloc);
     for line in lines {
-        settled.push(settle_line(alloc, at, line, files, out)?)?;
+        settled.push(settle_line(alloc, at, coming, line, files, out)?)?;
     }
     Ok(settled)
 }

@@ -11,15 +11,20 @@ use crate::gathered::Gathered;
 use crate::replayer::Replayer;
 use crate::stop::Stop;
 use crate::writing::put_all;
+use live_plan::Gate;
 use sccp_base::{List, OutOfMemory};
 use sccp_io::{Files, Sink};
 use sccp_report::{Due, Role, put_event, role_of};
 use std::alloc::Global;
+use std::sync::Wait;
+use std::thread::Threads;
 use trace_text::Numbered;
 
 /// A full batch is done, and its text written.
 #[tactic(auto, using(crate::proofs::TakeSteps::batch_stopped, crate::proofs::TakeSteps::batch_written))]
-fn write_full<F: Files, K: Sink>(
+fn write_full<R: Threads + Wait + Sync, G: Gate + Sync, F: Files, K: Sink>(
+    rt: &R,
+    gate: &G,
     alloc: Global,
     at: &mut Replayer,
     batch: &mut Gathered,
@@ -32,14 +37,16 @@ fn write_full<F: Files, K: Sink>(
     ensures none { OnOk result (batch.new ≡ []) }
     ensures left { F.left files.new ≡ F.left files.old }
 {
-    let text = batch_text(alloc, at, batch.lines(), files, out)?;
+    let text = batch_text(rt, gate, alloc, at, batch.lines(), files, out)?;
     *batch = Gathered::new(alloc);
     put_all(out, text.into_octets().as_slice())
 }
 
 /// A line joins the batch that has begun, which is done where it is full.
 #[tactic(auto, using(crate::proofs::TakeSteps::gathers_full, crate::proofs::TakeSteps::gathers_more, crate::proofs::TakeSteps::works_memory))]
-fn gather<F: Files, K: Sink>(
+fn gather<R: Threads + Wait + Sync, G: Gate + Sync, F: Files, K: Sink>(
+    rt: &R,
+    gate: &G,
     alloc: Global,
     at: &mut Replayer,
     batch: &mut Gathered,
@@ -56,7 +63,7 @@ fn gather<F: Files, K: Sink>(
 {
     batch.push(line)?;
     if batch.is_full() {
-        write_full(alloc, at, batch, files, out)
+        write_full(rt, gate, alloc, at, batch, files, out)
     } else {
         Ok(())
     }
@@ -64,7 +71,9 @@ fn gather<F: Files, K: Sink>(
 
 /// A line stands alone: the batch before it is done, then what the line does, and both are written.
 #[tactic(auto, using(crate::proofs::TakeSteps::batch_stopped, crate::proofs::TakeSteps::batch_memory, crate::proofs::TakeSteps::alone_written))]
-fn stand_alone<F: Files, K: Sink>(
+fn stand_alone<R: Threads + Wait + Sync, G: Gate + Sync, F: Files, K: Sink>(
+    rt: &R,
+    gate: &G,
     alloc: Global,
     at: &mut Replayer,
     batch: &mut Gathered,
@@ -80,7 +89,7 @@ fn stand_alone<F: Files, K: Sink>(
     ensures none { OnOk result (batch.new ≡ []) }
     ensures left { F.left files.new ≡ F.left files.old }
 {
-    let mut text = batch_text(alloc, at, batch.lines(), files, out)?;
+    let mut text = batch_text(rt, gate, alloc, at, batch.lines(), files, out)?;
     *batch = Gathered::new(alloc);
     let outcomes = at.apply_alone(due)?;
     put_event(alloc, &mut text, at.first(), line, &outcomes)?;
@@ -109,7 +118,9 @@ fn place_of(alloc: Global, at: &Replayer, line: &Numbered) -> Result<Place, OutO
 
 /// One more line of a trace.
 #[tactic(auto, using(crate::proofs::TakeSteps::takes_gathered, crate::proofs::TakeSteps::takes_alone, crate::proofs::TakeSteps::works_memory))]
-fn take_line<F: Files, K: Sink>(
+fn take_line<R: Threads + Wait + Sync, G: Gate + Sync, F: Files, K: Sink>(
+    rt: &R,
+    gate: &G,
     alloc: Global,
     at: &mut Replayer,
     batch: &mut Gathered,
@@ -125,13 +136,15 @@ fn take_line<F: Files, K: Sink>(
     ensures left { F.left files.new ≡ F.left files.old }
 {
     match place_of(alloc, at, &line)? {
-        Place::Alone(due) => stand_alone(alloc, at, batch, &line, due, files, out),
-        Place::Joins => gather(alloc, at, batch, line, files, out),
+        Place::Alone(due) => stand_alone(rt, gate, alloc, at, batch, &line, due, files, out),
+        Place::Joins => gather(rt, gate, alloc, at, batch, line, files, out),
     }
 }
 
 /// More lines of a trace, in their order.
-pub fn take_lines<F: Files, K: Sink>(
+pub fn take_lines<R: Threads + Wait + Sync, G: Gate + Sync, F: Files, K: Sink>(
+    rt: &R,
+    gate: &G,
     alloc: Global,
     at: &mut Replayer,
     batch: &mut Gathered,
@@ -147,7 +160,7 @@ pub fn take_lines<F: Files, K: Sink>(
     ensures left { F.left files.new ≡ F.left files.old }
 {
     for line in lines.into_vec() {
-        take_line(alloc, at, batch, line, files, out)?;
+        take_line(rt, gate, alloc, at, batch, line, files, out)?;
     }
     Ok(())
 }

@@ -17,10 +17,13 @@ use crate::status::Status;
 use crate::stop::Stop;
 use crate::taking::take_lines;
 use crate::writing::print_last;
+use live_plan::Gate;
 use sccp_base::{List, OutOfMemory};
 use sccp_io::{Files, Sink};
 use sccp_report::Text;
 use std::alloc::Global;
+use std::sync::Wait;
+use std::thread::Threads;
 use trace_text::{LineFault, Numbered, Reader};
 
 /// How many octets are taken at a time.
@@ -61,7 +64,9 @@ fn put_closing(
 
 /// The last batch is done, and its text written with the last line.
 #[tactic(auto, using(crate::proofs::TakeSteps::closing_stopped, crate::proofs::TakeSteps::closing_memory, crate::proofs::TakeSteps::closing_written))]
-fn write_last<F: Files, K: Sink>(
+fn write_last<R: Threads + Wait + Sync, G: Gate + Sync, F: Files, K: Sink>(
+    rt: &R,
+    gate: &G,
     alloc: Global,
     at: &mut Replayer,
     batch: &Gathered,
@@ -74,13 +79,15 @@ fn write_last<F: Files, K: Sink>(
         (moment F.contents F.sound F.faults K.taken K.faults files.old out.old)
         (moment F.contents F.sound F.faults K.taken K.faults files.new out.new) }
 {
-    let mut text = batch_text(alloc, at, batch.lines(), files, out)?;
+    let mut text = batch_text(rt, gate, alloc, at, batch.lines(), files, out)?;
     let status = put_closing(alloc, &mut text, count, fault)?;
     print_last(out, text.into_octets().as_slice(), status)
 }
 
 /// Lines that were told are taken, and counted.
-fn take_told<F: Files, K: Sink>(
+fn take_told<R: Threads + Wait + Sync, G: Gate + Sync, F: Files, K: Sink>(
+    rt: &R,
+    gate: &G,
     alloc: Global,
     at: &mut Replayer,
     batch: &mut Gathered,
@@ -100,13 +107,15 @@ fn take_told<F: Files, K: Sink>(
     let Some(more) = count.checked_add(lines.as_slice().len()) else {
         return Err(Stop::Memory);
     };
-    take_lines(alloc, at, batch, lines, files, out)?;
+    take_lines(rt, gate, alloc, at, batch, lines, files, out)?;
     Ok(more)
 }
 
 /// The end of the trace: its last line, where no line feed ends it, and what is written then.
 #[tactic(auto, using(crate::proofs::TakeSteps::last_taken, crate::proofs::TakeSteps::last_stopped, crate::proofs::TakeSteps::works_memory))]
-fn take_end<F: Files, K: Sink>(
+fn take_end<R: Threads + Wait + Sync, G: Gate + Sync, F: Files, K: Sink>(
+    rt: &R,
+    gate: &G,
     alloc: Global,
     at: &mut Replayer,
     batch: &mut Gathered,
@@ -121,12 +130,14 @@ fn take_end<F: Files, K: Sink>(
         (moment F.contents F.sound F.faults K.taken K.faults files.new out.new) }
 {
     let fed = reader.finish()?;
-    let count = take_told(alloc, at, batch, count, fed.lines, files, out)?;
-    write_last(alloc, at, batch, count, fed.fault, files, out)
+    let count = take_told(rt, gate, alloc, at, batch, count, fed.lines, files, out)?;
+    write_last(rt, gate, alloc, at, batch, count, fed.fault, files, out)
 }
 
 /// Replays the trace of a file: its lines in batches, each written as soon as it is done.
-pub fn replay_trace<F: Files, K: Sink>(
+pub fn replay_trace<R: Threads + Wait + Sync, G: Gate + Sync, F: Files, K: Sink>(
+    rt: &R,
+    gate: &G,
     alloc: Global,
     at: &mut Replayer,
     name: &str,
@@ -150,12 +161,24 @@ pub fn replay_trace<F: Files, K: Sink>(
             Err(fault) => return Err(stopped(fault)),
         };
         if taken == 0 {
-            return take_end(alloc, at, &mut batch, &mut reader, count, files, out);
+            return take_end(
+                rt,
+                gate,
+                alloc,
+                at,
+                &mut batch,
+                &mut reader,
+                count,
+                files,
+                out,
+            );
         }
         let fed = reader.feed(&piece[..taken])?;
-        count = take_told(alloc, at, &mut batch, count, fed.lines, files, out)?;
+        count = take_told(
+            rt, gate, alloc, at, &mut batch, count, fed.lines, files, out,
+        )?;
         if fed.fault.is_some() {
-            return write_last(alloc, at, &batch, count, fed.fault, files, out);
+            return write_last(rt, gate, alloc, at, &batch, count, fed.fault, files, out);
         }
     }
     Err(Stop::Memory)

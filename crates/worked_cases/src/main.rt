@@ -18,7 +18,7 @@ fn main(rt: HostRuntime) -> io::Result<()> {
     for line in calls.lines() {
         println!(rt; "{line}")?;
         if let Some(words) = words_of(alloc, line)? {
-            let status = run(alloc, &words, &mut files, &mut out);
+            let status = run(&rt, alloc, &words, &mut files, &mut out);
             println!(rt; "= {}", status.number())?;
         }
     }

@@ -9,7 +9,9 @@ use sccp_base::Octets;
 use sccp_io::{Files, MemoryFiles, MemorySink, Sink, SoundFiles, SoundSink};
 use sccp_tool::{Status, run};
 use std::alloc::{AllocError, Global};
+use std::sync::Wait;
 use std::test::Fail;
+use std::thread::Threads;
 
 /// The words between the blanks of a line.
 pub fn words_of(alloc: Global, line: &str) -> Result<Vec<String>, AllocError> {
@@ -28,7 +30,8 @@ fn one_file(alloc: Global, octets: &[u8]) -> Result<Vec<(String, Vec<u8>)>, Allo
 }
 
 /// A sink in memory never fails but for memory, so no `WriteFault` comes.
-fn run_into_sound_sink<F: Files>(
+fn run_into_sound_sink<R: Threads + Wait + Sync, F: Files>(
+    rt: &R,
     alloc: Global,
     words: &[String],
     files: &mut F,
@@ -36,11 +39,12 @@ fn run_into_sound_sink<F: Files>(
 ) -> Status
     ensures { result ≢ Status.WriteFault }
 {
-    run(alloc, words, files, out)
+    run(rt, alloc, words, files, out)
 }
 
 /// Files in memory that are all there never fail, so no `ReadFault` comes.
-fn run_over_sound_files<K: Sink>(
+fn run_over_sound_files<R: Threads + Wait + Sync, K: Sink>(
+    rt: &R,
     alloc: Global,
     words: &[String],
     files: Vec<(String, Vec<u8>)>,
@@ -50,15 +54,20 @@ fn run_over_sound_files<K: Sink>(
     ensures { result ≢ Status.ReadFault }
 {
     let mut files = SoundFiles::new(files);
-    run(alloc, words, &mut files, out)
+    run(rt, alloc, words, &mut files, out)
 }
 
 /// The status and the text of these words, over one file named `f`.
-pub fn answer(alloc: Global, line: &str, octets: &[u8]) -> Result<(Status, Octets), Fail> {
+pub fn answer<R: Threads + Wait + Sync>(
+    rt: &R,
+    alloc: Global,
+    line: &str,
+    octets: &[u8],
+) -> Result<(Status, Octets), Fail> {
     let words = words_of(alloc, line)?;
     let mut files = SoundFiles::new(one_file(alloc, octets)?);
     let mut out = SoundSink::new(alloc);
-    let status = run_into_sound_sink(alloc, &words, &mut files, &mut out);
+    let status = run_into_sound_sink(rt, alloc, &words, &mut files, &mut out);
     Ok((
         status,
         Octets::from_vec(Vec::from_slice(alloc, out.taken())?),
@@ -92,7 +101,7 @@ fn a_fault_of_the_files_ends_the_call(rt: HostRuntime) -> Result<(), Fail> {
         let files = one_file(alloc, BACKED.as_bytes())?;
         let mut files = MemoryFiles::new(files, vec![in alloc; failing]?);
         let mut out = SoundSink::new(alloc);
-        let status = run(alloc, &words, &mut files, &mut out);
+        let status = run(&rt, alloc, &words, &mut files, &mut out);
         assert_eq!(rt; status, Status::ReadFault, "at {line}, call {failing}");
         assert_eq!(rt;
             out.taken(),
@@ -119,7 +128,7 @@ fn a_fault_of_the_sink_ends_the_call(rt: HostRuntime) -> Result<(), Fail> {
         let mut files = SoundFiles::new(one_file(alloc, BACKED.as_bytes())?);
         let mut out = MemorySink::new(alloc, vec![in alloc; 0]?);
         assert_eq!(rt;
-            run(alloc, &words, &mut files, &mut out),
+            run(&rt, alloc, &words, &mut files, &mut out),
             Status::WriteFault,
             "at {line}"
         );

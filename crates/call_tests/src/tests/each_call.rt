@@ -4,7 +4,9 @@ use sample_plans::BACKED;
 use sccp_io::{Files, IoFault, MemoryFiles, MemorySink, Sink, SoundFiles, SoundSink};
 use sccp_tool::{Status, run};
 use std::alloc::{AllocError, Global};
+use std::sync::Wait;
 use std::test::Fail;
+use std::thread::Threads;
 
 /// The first plan without its backup.
 const WITHOUT_BACKUP: &str = r#"version = 1
@@ -59,12 +61,18 @@ fn are_first_lines(text: &[u8], lines: usize) -> bool {
 
 /// Whether the replay ends with a read fault where this call on its files fails, and with these lines before the fault's own.
 /// The next call fails too, and it has to be the first that is made here: so none was made after the failing one.
-fn ends_at_reading(alloc: Global, call: u8, lines: usize) -> Result<bool, Fail> {
-    let words = words_of(alloc, "replay f g 1")?;
+fn ends_at_reading<R: Threads + Wait + Sync>(
+    rt: &R,
+    alloc: Global,
+    line: &str,
+    call: u8,
+    lines: usize,
+) -> Result<bool, Fail> {
+    let words = words_of(alloc, line)?;
     let failing = vec![in alloc; u64::from(call), u64::from(call) + 1]?;
     let mut files = MemoryFiles::new(files(alloc)?, failing);
     let mut out = SoundSink::new(alloc);
-    let status = run(alloc, &words, &mut files, &mut out);
+    let status = run(rt, alloc, &words, &mut files, &mut out);
     let next = files.begin("f");
     let told = match out.taken().strip_suffix(b"read fault\n") {
         Some(front) => are_first_lines(front, lines),
@@ -88,19 +96,30 @@ fn each_call_on_the_files_may_fail(rt: HostRuntime) -> Result<(), Fail> {
         (7, 2),
         (8, 3),
     ] {
-        assert!(rt; ends_at_reading(rt.alloc(), call, lines)?, "at call {call}");
+        for line in ["replay f g 1", "replay f g 4"] {
+            assert!(rt;
+                ends_at_reading(&rt, rt.alloc(), line, call, lines)?,
+                "at call {call}"
+            );
+        }
     }
     Ok(())
 }
 
 /// Whether the replay ends with a write fault where this call on its sink fails, and with these lines before it. The next call
 /// fails too, and it has to be the first that is made here: so none was made after the failing one.
-fn ends_at_writing(alloc: Global, call: u8, lines: usize) -> Result<bool, Fail> {
-    let words = words_of(alloc, "replay f g 1")?;
+fn ends_at_writing<R: Threads + Wait + Sync>(
+    rt: &R,
+    alloc: Global,
+    line: &str,
+    call: u8,
+    lines: usize,
+) -> Result<bool, Fail> {
+    let words = words_of(alloc, line)?;
     let mut files = SoundFiles::new(files(alloc)?);
     let failing = vec![in alloc; u64::from(call), u64::from(call) + 1]?;
     let mut out = MemorySink::new(alloc, failing);
-    let status = run(alloc, &words, &mut files, &mut out);
+    let status = run(rt, alloc, &words, &mut files, &mut out);
     let told = are_first_lines(out.taken(), lines);
     Ok(status == Status::WriteFault && told && out.put(b"x") == Err(IoFault::Failed))
 }
@@ -109,7 +128,12 @@ fn ends_at_writing(alloc: Global, call: u8, lines: usize) -> Result<bool, Fail> 
 #[test]
 fn each_call_on_the_sink_may_fail(rt: HostRuntime) -> Result<(), Fail> {
     for (call, lines) in [(0, 0), (1, 1), (2, 2), (3, 3)] {
-        assert!(rt; ends_at_writing(rt.alloc(), call, lines)?, "at call {call}");
+        for line in ["replay f g 1", "replay f g 4"] {
+            assert!(rt;
+                ends_at_writing(&rt, rt.alloc(), line, call, lines)?,
+                "at call {call}"
+            );
+        }
     }
     Ok(())
 }
@@ -121,7 +145,7 @@ fn no_further_call_is_made(rt: HostRuntime) -> Result<(), Fail> {
     let words = words_of(alloc, "replay f g 1")?;
     let mut files = MemoryFiles::new(files(alloc)?, vec![in alloc; 9]?);
     let mut out = MemorySink::new(alloc, vec![in alloc; 4]?);
-    assert_eq!(rt; run(alloc, &words, &mut files, &mut out), Status::Done);
+    assert_eq!(rt; run(&rt, alloc, &words, &mut files, &mut out), Status::Done);
     assert_eq!(rt; out.taken(), TOLD.as_bytes());
     Ok(())
 }

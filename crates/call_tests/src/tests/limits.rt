@@ -85,7 +85,7 @@ fn the_limits_of_lines_hold(rt: HostRuntime) -> Result<(), Fail> {
         ("x", 1_048_577, "", Status::TooLong, "too long\n"),
     ] {
         let octets = text_of(alloc, "", piece, count, end)?;
-        let (found, text) = answer(alloc, "show f", &octets)?;
+        let (found, text) = answer(&rt, alloc, "show f", &octets)?;
         assert_eq!(rt; found, status, "at {count} of {piece:?}");
         assert_eq!(rt; text.as_slice(), want.as_bytes(), "at {count} of {piece:?}");
     }
@@ -127,7 +127,7 @@ fn a_plan_file_has_a_greatest_size(rt: HostRuntime) -> Result<(), Fail> {
         ("verify f", 1_048_577, Status::TooLong, "too long\n"),
     ] {
         let octets = plan_of_size(alloc, size)?;
-        let (found, text) = answer(alloc, line, &octets)?;
+        let (found, text) = answer(&rt, alloc, line, &octets)?;
         assert_eq!(rt; found, status, "at {line}, {size}");
         assert_eq!(rt; text.as_slice(), want.as_bytes(), "at {line}, {size}");
     }
@@ -177,7 +177,7 @@ fn the_limits_of_nodes_and_covers_hold(rt: HostRuntime) -> Result<(), Fail> {
         ),
     ] {
         let octets = text_of(alloc, head, piece, count, end)?;
-        let (_, text) = answer(alloc, "verify f", &octets)?;
+        let (_, text) = answer(&rt, alloc, "verify f", &octets)?;
         assert_eq!(rt; text.as_slice(), want.as_bytes(), "at {count}");
     }
     Ok(())
@@ -213,13 +213,13 @@ fn the_limit_of_rows_holds(rt: HostRuntime) -> Result<(), Fail> {
         (4097, 0, "bad plan limit rows\n"),
     ] {
         let octets = plan_of_rows(alloc, first, second)?;
-        let (_, text) = answer(alloc, "verify f", &octets)?;
+        let (_, text) = answer(&rt, alloc, "verify f", &octets)?;
         assert_eq!(rt; text.as_slice(), want.as_bytes(), "at {first} and {second}");
     }
     let last = "{ selector = \"1:4\", prefix = \"49\", first = { relay = \"a\" } }]\n";
     let head = "version = 1\n[[node]]\nname = \"a\"\npoint = \"1-0-2\"\nrow = [\n";
     let octets = text_of(alloc, head, ROW, 4095, last)?;
-    let (_, text) = answer(alloc, "verify f", &octets)?;
+    let (_, text) = answer(&rt, alloc, "verify f", &octets)?;
     assert_eq!(rt;
         text.as_slice(),
         b"bad plan relay to self node 0 row 4095 first\n".as_slice()

@@ -4,7 +4,9 @@ use sample_plans::BACKED;
 use sccp_io::{InPieces, SoundFiles, SoundSink};
 use sccp_tool::{Status, run};
 use std::alloc::{AllocError, Global};
+use std::sync::Wait;
 use std::test::Fail;
+use std::thread::Threads;
 
 /// A message, before and behind a failure of its destination, and behind one of both.
 const FAILURES: &str = "msg a 1-0-1 0980030E120B1206001204947101000021044301080802AABB
@@ -25,7 +27,7 @@ end 5
 ";
 
 /// The plan as `f`, and a trace as `g`.
-fn with_trace(alloc: Global, trace: &[u8]) -> Result<SoundFiles, AllocError> {
+pub fn with_trace(alloc: Global, trace: &[u8]) -> Result<SoundFiles, AllocError> {
     let mut files = Vec::new(alloc);
     files.push(("f".to_string(alloc)?, BACKED.as_bytes().to_vec(alloc)?))?;
     files.push(("g".to_string(alloc)?, trace.to_vec(alloc)?))?;
@@ -33,11 +35,17 @@ fn with_trace(alloc: Global, trace: &[u8]) -> Result<SoundFiles, AllocError> {
 }
 
 /// Whether a trace from which so many octets are taken at a time is Done and prints this.
-fn prints(alloc: Global, trace: &[u8], most: usize, want: &str) -> Result<bool, Fail> {
+fn prints<R: Threads + Wait + Sync>(
+    rt: &R,
+    alloc: Global,
+    trace: &[u8],
+    most: usize,
+    want: &str,
+) -> Result<bool, Fail> {
     let words = words_of(alloc, "replay f g 1")?;
     let mut files = InPieces::new(with_trace(alloc, trace)?, most);
     let mut out = SoundSink::new(alloc);
-    let status = run(alloc, &words, &mut files, &mut out);
+    let status = run(rt, alloc, &words, &mut files, &mut out);
     Ok(status == Status::Done && out.taken() == want.as_bytes())
 }
 
@@ -46,7 +54,7 @@ fn a_trace_may_come_in_pieces(rt: HostRuntime) -> Result<(), Fail> {
     let alloc = rt.alloc();
     for most in [1, 2, 7, 4096] {
         assert!(rt;
-            prints(alloc, FAILURES.as_bytes(), most, FAILURES_TOLD)?,
+            prints(&rt, alloc, FAILURES.as_bytes(), most, FAILURES_TOLD)?,
             "in pieces of {most}"
         );
     }
@@ -62,6 +70,7 @@ fn a_trace_may_be_longer_than_another_file(rt: HostRuntime) -> Result<(), Fail> 
     }
     assert!(rt;
         prints(
+            &rt,
             alloc,
             &trace,
             4096,

@@ -73,7 +73,7 @@ fn wide_plan(alloc: Global, covers: usize) -> Result<Vec<u8>, Fail> {
 #[test]
 fn a_plan_of_361216_classes_is_too_wide(rt: HostRuntime) -> Result<(), Fail> {
     let alloc = rt.alloc();
-    let (status, text) = answer(alloc, "verify f", &wide_plan(alloc, 256)?)?;
+    let (status, text) = answer(&rt, alloc, "verify f", &wide_plan(alloc, 256)?)?;
     assert_eq!(rt; status, Status::TooWide);
     assert_eq!(rt; text.as_slice(), b"too wide\n".as_slice());
     Ok(())
@@ -82,7 +82,7 @@ fn a_plan_of_361216_classes_is_too_wide(rt: HostRuntime) -> Result<(), Fail> {
 #[test]
 fn a_plan_of_261035_classes_is_accepted(rt: HostRuntime) -> Result<(), Fail> {
     let alloc = rt.alloc();
-    let (status, text) = answer(alloc, "verify f", &wide_plan(alloc, 185)?)?;
+    let (status, text) = answer(&rt, alloc, "verify f", &wide_plan(alloc, 185)?)?;
     assert_eq!(rt; status, Status::Done);
     assert!(rt;
         text.as_slice()

@@ -178,8 +178,8 @@ impl Teller {
         self.writer.published().shown.batch
     }
 
-    // The last plan with its number.
-    pub(crate) fn last_entry(&self) -> Result<Entry, OutOfMemory>
+    /// The last plan with its number.
+    pub fn last_entry(&self) -> Result<Entry, OutOfMemory>
         ensures number { IfOk result (λ e. e.number ≡ length (plans_of self.now)) }
         ensures plan { IfOk result (λ e. HasPlan (plans_of self.now) e.number (arc_value e.plan)) }
         ensures due { IfOk result (λ e. HasPlan (due_of self.now) e.number (arc_value e.plan)) }

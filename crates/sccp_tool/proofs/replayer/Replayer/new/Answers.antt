@@ -1,7 +1,11 @@
-use Rattle.std.proofs.Common.{◌∙◌, ap}
+use Rattle.std.proofs.Common.{[], sym, ◌∙◌, ap, subst}
 use Rattle.relay_net.specs.States.{first_states}
-use Rattle.sccp_tool.proofs.ReplayerLemmas.{begun_standing}
+use Rattle.sccp_tool.specs.Replayers.{IsStanding}
+use Rattle.sccp_tool.specs.Routings.{standing}
+use Rattle.sccp_tool.proofs.ReplayerLemmas.{first_plans, first_standing}
 use Rattle.sccp_tool.proofs.replayer.Replayer.new.Goals as goal
 
 pub invariant_of-result : goal.invariant_of-result
-invariant_of-result c = begun_standing c.args.first c.new-2.result c.in_ok-net.net c.new-2.ensures (c.in_ok-net.ensures ∙ ap first_states c.plan.ensures.value)
+invariant_of-result g c =
+    subst (λ r. IsStanding (standing r c.in_ok-net.net)) (sym c.in_ok-by.ensures)
+    (first_standing c.args.first.plan [] c.in_ok-net.net c.args.workers (first_plans c.args.first.plan c.plan.ensures.verified.plan) (c.in_ok-net.ensures ∙ ap first_states c.plan.ensures.value))

@@ -1,7 +1,7 @@
 use Rattle.std.proofs.Common.{[], ◌-◌, length, refl, arith}
 use Rattle.std.proofs.lemmas.Option.{slice_get_read, slice_get_past}
 use Rattle.sccp_tool.proofs.ReplayerLemmas.{late_plan, no_late_plan}
-use Rattle.sccp_tool.proofs.replayer.plan_of_number.Goals as goal
+use Rattle.sccp_tool.proofs.alone.plan_of_number.Goals as goal
 
 pub returns-in-Some : goal.returns-in-Some
 returns-in-Some c =

@@ -6,7 +6,7 @@ use Rattle.sccp_tool.specs.Run.{work_of}
 use Rattle.sccp_tool.specs.Task.{Task}
 use Rattle.sccp_tool.proofs.RunLemmas.{answer_told, journeys_told, done_cause, refused_cause, wide_cause, usage_cause, bad_plan_cause, bad_line_cause, long_cause, other_nodes_cause, read_cause, write_cause, sound_cause, named_cause}
 use Rattle.sccp_tool.proofs.WorkLemmas.{Outcome-closed}
-use Rattle.sccp_tool.proofs.program.run.Goals as goal
+use Rattle.sccp_tool.proofs.program.run_gated.Goals as goal
 
 pub returns : goal.returns
 returns g c =
