@@ -10,7 +10,6 @@ It builds nothing: run ./sccp once before. Walks are made over the written targe
 """
 import os
 import random
-import resource
 import subprocess
 import sys
 import time
@@ -110,8 +109,7 @@ def measure(program):
             start = time.monotonic()
             load(program, 7, size)
             times.append(time.monotonic() - start)
-        peak = resource.getrusage(resource.RUSAGE_CHILDREN).ru_maxrss
-        print(f"load 7 {size} 1: best {min(times) * 1000:.0f} ms of nine, worst {max(times) * 1000:.0f} ms, peak {peak} KB")
+        print(f"load 7 {size} 1: best {min(times) * 1000:.0f} ms of nine, worst {max(times) * 1000:.0f} ms")
 
 
 if __name__ == "__main__":
