@@ -1,0 +1,3 @@
+pub mod NextLink
+pub mod Offered
+pub mod Turns
