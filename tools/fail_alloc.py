@@ -6,9 +6,9 @@ the program makes and answers none at the one whose number it is told. First the
 the sound answer. Then it is run once for each call. What may come is the sound answer, or status 71 (want of memory) with a
 front of its text. Anything else is printed, and the status is 1.
 
-Run it from anywhere: tools/fail_alloc.py [-- WORD ..]. Without words it makes three calls: the verdict on a plan of two
-relays, a replay in which later plans come between fences, and one with every kind of line. It builds nothing: run ./sccp once
-before. The last line counts the runs.
+Run it from anywhere: tools/fail_alloc.py [-- WORD ..]. Without words it makes four calls: the verdict on a plan of two
+relays, a replay in which later plans come between fences, by one worker and by four, and one with every kind of line. It
+builds nothing: run ./sccp once before. The last line counts the runs.
 """
 import collections
 import os
@@ -25,33 +25,36 @@ SECONDS = 60
 SHIM = r"""
 #define _GNU_SOURCE
 #include <dlfcn.h>
+#include <errno.h>
 #include <stdlib.h>
-#include <string.h>
-#include <stdio.h>
 #include <unistd.h>
 #include <fcntl.h>
 
 static long count, failing = -1;
 static char first[65536];
 static size_t used;
-static int looking_up;
+static int looking_up, kept = -1;
 
 __attribute__((constructor)) static void begin(void) {
     const char *at = getenv("FAIL_AT");
+    const char *to = getenv("COUNT_TO");
+    if (to) kept = open(to, O_WRONLY | O_CREAT | O_TRUNC, 0600);
     count = 0;
     failing = at ? atol(at) : 0;
 }
 
-__attribute__((destructor)) static void end(void) {
-    const char *to = getenv("COUNT_TO");
-    char text[32];
-    if (!to) return;
-    int file = open(to, O_WRONLY | O_CREAT | O_TRUNC, 0600);
-    int length = snprintf(text, sizeof text, "%ld", count);
-    if (file >= 0) { if (write(file, text, length) < 0) {} close(file); }
+/* The count is written at each call, since the program may end without the exit handlers. */
+static int fails(void) {
+    if (failing < 0) return 0;
+    count++;
+    if (kept >= 0 && pwrite(kept, &count, sizeof count, 0) < 0) return 0;
+    return count == failing;
 }
 
-static int fails(void) { return failing >= 0 && ++count == failing; }
+static void *lacking(void) {
+    errno = ENOMEM;
+    return NULL;
+}
 
 static void *next(const char *name) {
     looking_up = 1;
@@ -70,20 +73,20 @@ void *malloc(size_t size) {
     static void *(*real)(size_t);
     if (looking_up) return early(size);
     if (!real) real = (void *(*)(size_t))next("malloc");
-    return fails() ? NULL : real(size);
+    return fails() ? lacking() : real(size);
 }
 
 void *calloc(size_t number, size_t size) {
     static void *(*real)(size_t, size_t);
     if (looking_up) return early(number * size);
     if (!real) real = (void *(*)(size_t, size_t))next("calloc");
-    return fails() ? NULL : real(number, size);
+    return fails() ? lacking() : real(number, size);
 }
 
 void *realloc(void *old, size_t size) {
     static void *(*real)(void *, size_t);
     if (!real) real = (void *(*)(void *, size_t))next("realloc");
-    return fails() ? NULL : real(old, size);
+    return fails() ? lacking() : real(old, size);
 }
 """
 
@@ -105,6 +108,7 @@ def main():
         calls = [
             (CASES, ["verify", "plans/s.toml"]),
             (CASES, ["replay", "plans/p.toml", "traces/later_plan_between_fences.txt", "1"]),
+            (CASES, ["replay", "plans/p.toml", "traces/later_plan_between_fences.txt", "4"]),
             (TOP, ["replay", "examples/roaming.toml", "examples/every_line.txt", "1"]),
         ]
     else:
@@ -119,8 +123,8 @@ def main():
         subprocess.run(["cc", "-O1", "-shared", "-fPIC", "-o", shim, source, "-ldl"], check=True)
         for folder, words in calls:
             status, text = call(shim, words, folder, 0, counted)
-            with open(counted, encoding="utf-8") as file:
-                number = int(file.read())
+            with open(counted, "rb") as file:
+                number = int.from_bytes(file.read(), sys.byteorder)
             for failing in range(1, number + 1):
                 now, said = call(shim, words, folder, failing)
                 if (now, said) == (status, text):
