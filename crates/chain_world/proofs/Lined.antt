@@ -247,3 +247,12 @@ along plan relays links point (s ∷ ss) first last n e f g =
 pub points_of : (plan : plans.Network) (ss : List Stage) → map (point_of plan) (map (λ (s : Stage). s.node) ss) ≡ map (λ (s : Stage). point_of plan s.node) ss
 points_of plan [] = refl
 points_of plan (s ∷ ss) = ap (λ (ns : List ℕ). point_of plan s.node ∷ ns) (points_of plan ss)
+
+-- the nodes of pairs that are all at nodes below a number
+pub nodes_within : (n : ℕ) (ss : List Stage) (nodes : List ℕ) → nodes ≡ map (λ (s : Stage). s.node) ss → All (λ (s : Stage). s.node < n) ss → All (λ (node : ℕ). node < n) nodes
+nodes_within n ss nodes e h = subst (All (λ (node : ℕ). node < n)) (sym e) (mapped ss h)
+  where
+    mapped : (ts : List Stage) → All (λ (s : Stage). s.node < n) ts → All (λ (node : ℕ). node < n) (map (λ (s : Stage). s.node) ts)
+    mapped [] all k d lt = absurd (omega (arith, lt))
+    mapped (t ∷ ts) all zero d lt = all zero t (omega arith)
+    mapped (t ∷ ts) all (suc k) d lt = mapped ts (λ i x below. all (suc i) x (omega (arith, below))) k d (omega (arith, lt))

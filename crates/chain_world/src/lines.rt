@@ -1,5 +1,5 @@
 //! The line of a connection, made of what running relays and links have.
-ghost use Rattle.std.specs.Prelude.{◌≡◌, ◌<◌, All, Some, length, map, option_map, IfOk};
+ghost use Rattle.std.specs.Prelude.{◌≡◌, ◌<◌, All, Some, length, map, option_map, IfOk, IfSome};
 ghost use Rattle.couple_chain.specs.Logged.{logged};
 ghost use Rattle.couple_chain.specs.World.{is_node};
 ghost use Rattle.sccp_scrc.specs.Arriving.{point_of};
@@ -120,7 +120,8 @@ fn line_over(
     requires count { length relays.now ≡ length plan.now.nodes }
     requires first { first.now.node < length plan.now.nodes }
     requires last { last.now.node < length plan.now.nodes }
-    ensures { IfOk result (λ line. told_line plan.now line ≡ over plan.now relays.now links.now point path.now first.now last.now) }
+    ensures value { IfOk result (λ line. told_line plan.now line ≡ over plan.now relays.now links.now point path.now first.now last.now) }
+    ensures path { IfOk result (λ line. line.path ≡ map (λ stage. stage.node) path.now) }
 {
     let far = last.far.point;
     let path = nodes_of(alloc, path)?;
@@ -149,7 +150,8 @@ pub(crate) fn line_along(
 ) -> Result<Option<Line>, OutOfMemory>
     requires count { length relays.now ≡ length plan.now.nodes }
     requires inside { All (λ stage. stage.node < length plan.now.nodes) path.now }
-    ensures { IfOk result (λ line. option_map (told_line plan.now) line ≡ line_by plan.now relays.now links.now point (Some path.now)) }
+    ensures value { IfOk result (λ line. option_map (told_line plan.now) line ≡ line_by plan.now relays.now links.now point (Some path.now)) }
+    ensures inside { IfOk result (λ line. IfSome line (λ l. All (λ node. node < length plan.now.nodes) l.path)) }
 {
     if path.is_empty() {
         return Ok(None);

@@ -1,4 +1,4 @@
-ghost use Rattle.std.specs.Prelude.{◌≡◌, ◌↔◌, ◌<◌, [], ◌∷◌, ◌++◌, ℕ, false, true, None, Some, List, map, length, position, ⊤, IfOk, IfErr, IfNone, IfSome, OnOk, OnErr, option_map};
+ghost use Rattle.std.specs.Prelude.{◌≡◌, ◌↔◌, ◌<◌, [], ◌∷◌, ◌++◌, ℕ, false, true, None, Some, List, All, map, length, position, ⊤, IfOk, IfErr, IfNone, IfSome, OnOk, OnErr, option_map};
 ghost use Rattle.std.specs.Bool.{MatchBool};
 ghost use Rattle.std.specs.List.{range_with_len};
 ghost use Rattle.sccp_base.specs.Answers.{Answers};
@@ -347,6 +347,7 @@ impl World {
     /// link holds a message either, it is the whole.
     pub fn line(&self, point: PointCode, reference: Reference) -> Result<Option<Line>, OutOfMemory>
         ensures line { IfOk result (λ l. option_map (told_line self.now.plan) l ≡ line (network_of self.now.plan) (world_of self.now) point reference) }
+        ensures inside { IfOk result (λ l. IfSome l (λ x. All (λ node. node < length self.now.plan.nodes) x.path)) }
         ensures order { IsFresh (network_of self.now.plan) (world_of self.now) → IfOk result (λ l. IfSome l (λ x. IsInOrder (told_line self.now.plan x))) }
         ensures all { IsFresh (network_of self.now.plan) (world_of self.now) → IsSettled (world_of self.now) → IfOk result (λ l. IfSome l (λ x. IsThrough (told_line self.now.plan x))) }
     {

@@ -1,4 +1,4 @@
-use Rattle.std.proofs.Common.{◌≡◌, ◌<◌, List, Option, Some, None, Result, Ok, Err, IfOk, IfSome, All, false, length, refl, ap, sym, subst, ◌∙◌}
+use Rattle.std.proofs.Common.{◌≡◌, ◌<◌, ℕ, List, Option, Some, None, Result, Ok, Err, IfOk, IfSome, All, false, length, refl, ap, sym, subst, ◌∙◌}
 use Rattle.std.specs.Prelude.{option_map}
 use Rattle.plan_model.specs.Network as plans
 use Rattle.couple_chain.specs.Line as lines
@@ -61,10 +61,14 @@ told c =
     ∙ ap (λ (ss : List Stage). line_by c.self.inside.plan c.self.inside.relays.items c.self.inside.links.items c.args.point (Some ss)) c.as_slice.ensures
     ∙ found_path c.self.inside.plan c.self.inside.relays.items c.self.inside.links.items c.self.inside.history.items c.self.invariant c.args.point c.args.reference (Some c.in-Some.first) (Some c.in-Some-2.path) out first path in
     subst (λ (k : Kept). IfOk c.line_along.result (λ l. option_map (told_line k.plan) l ≡ line (network_of k.plan) (world_of k) c.args.point c.args.reference)) c.self.view_is
-    (ok_then c.line_along.result (λ l e. e ∙ whole) c.line_along.ensures)
+    (ok_then c.line_along.result (λ l e. e ∙ whole) c.line_along.ensures.value)
 
 pub returns-clause-line : goal.returns-clause-line
 returns-clause-line c = told c
+
+pub returns-clause-inside : goal.returns-clause-inside
+returns-clause-inside c =
+    subst (λ (k : Kept). IfOk c.line_along.result (λ l. IfSome l (λ (x : Line). All (λ (node : ℕ). node < length k.plan.nodes) x.path))) c.self.view_is c.line_along.ensures.inside
 
 pub returns-clause-order : goal.returns-clause-order
 returns-clause-order c = λ fresh.
