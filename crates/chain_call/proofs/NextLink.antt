@@ -1,5 +1,5 @@
 -- The link that is to deliver next is the one that a running world names.
-use Rattle.std.specs.Prelude.{ℕ, ◌≡◌, ◌<◌, ◌≤◌, ◌==◌, ◌⊎◌, nat_lt, nat_le, Bool, true, false, cond, ◌&&◌, ◌||◌, List, [], ◌∷◌, ◌++◌, filter_map, Option, Some, None, IfSome, IfNone, refl}
+use Rattle.std.specs.Prelude.{ℕ, ◌≡◌, ◌<◌, ◌≤◌, ◌==◌, ◌⊎◌, nat_lt, nat_le, Bool, true, false, cond, ◌&&◌, ◌||◌, List, [], ◌∷◌, ◌++◌, Option, Some, None, IfSome, IfNone, refl}
 use Rattle.std.specs.List.{list_any, cons_option}
 use Rattle.std.proofs.Common.{sym, ◌∙◌, ap, subst, ⊎_elim, inl, inr, arith}
 use Rattle.std.proofs.lemmas.Bool.{and_parts, cases_Bool, cases_eq, eqb-true, eq-eqb, ltb-true, ltb-false, leb-true, leb-false}
@@ -11,7 +11,7 @@ use Rattle.couple_chain.specs.declared.happening.Happening.{Happening}
 use Rattle.couple_chain.specs.declared.happening.Happening.TheVariants.{Offers, Delivers}
 use Rattle.couple_chain.specs.declared.offer_fault.OfferFault.{OfferFault}
 use Rattle.couple_chain.specs.Line.{IsSettled}
-use Rattle.couple_chain.specs.World.{Network, World, is_node, start, messages_to, event_at, handled, left, put, offered_if, offer_fault, delivered_of, happens, run, after, IsNextLink}
+use Rattle.couple_chain.specs.World.{Network, World, is_node, start, messages_to, event_at, handled, left, offered_if, offer_fault, delivered_of, happens, run, after, IsNextLink}
 use Rattle.chain_world.specs.Running.{is_before, lesser}
 use Rattle.chain_call.specs.Links.{sent_links, links_of, links_by, links_from, is_some_message, holds, least_in, next_link}
 
@@ -134,9 +134,9 @@ none_sent a b node (s ∷ sent) e h =
     let parts = none_of ((a == node) && (b == s.to)) (list_any (is_pair a b) (sent_links node sent)) h in
     let other : (b == s.to) ≡ false = sym (ap (λ (c : Bool). c && (b == s.to)) e) ∙ parts.0 in
     let here : (s.to == b) ≡ false = ⊎_elim
-        (λ (yes_to : (s.to == b) ≡ true). absurd (false_not_true (sym other ∙ eq-eqb b s.to (sym (eqb-true s.to b yes_to)))))
-        (λ (no_to : (s.to == b) ≡ false). no_to)
-        (cases_Bool (s.to == b)) in
+    (λ (yes_to : (s.to == b) ≡ true). absurd (false_not_true (sym other ∙ eq-eqb b s.to (sym (eqb-true s.to b yes_to)))))
+    (λ (no_to : (s.to == b) ≡ false). no_to)
+    (cases_Bool (s.to == b)) in
     ap (λ (c : Bool). cons_option (cond c (Some s.message) None) (messages_to b sent)) here ∙ none_sent a b node sent e parts.1
 
 -- a link that held nothing holds nothing when another one has delivered
@@ -179,7 +179,7 @@ run_empty : (network : Network) (w : World) (a b : ℕ) (history : List Happenin
 run_empty network w a b [] e empty = empty
 run_empty network w a b (h ∷ history) e empty =
     let parts = none_of (list_any (is_pair a b) (links_by network w h)) (list_any (is_pair a b) (links_from network (happens network w h) history))
-        (sym (list_any-append (is_pair a b) (links_by network w h) (links_from network (happens network w h) history)) ∙ e) in
+    (sym (list_any-append (is_pair a b) (links_by network w h) (links_from network (happens network w h) history)) ∙ e) in
     run_empty network (happens network w h) a b history parts.1 (happens_empty network w a b h parts.0 empty)
 
 among : (network : Network) (history : List Happening) (p : ℕ × ℕ) → holds (after network history) p ≡ true → list_any (is_pair p.0 p.1) (links_from network start history) ≡ true

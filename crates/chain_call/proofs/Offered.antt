@@ -1,6 +1,6 @@
 -- What an offer adds to the history.
-use Rattle.std.proofs.Common.{◌≡◌, ℕ, List, [], ◌∷◌, ◌++◌, Option, Some, None, Ok, Err, refl, sym, ap, subst, append-nil}
-use Rattle.std.specs.Prelude.{Bool, true, false, ⊤}
+use Rattle.std.proofs.Common.{◌≡◌, ℕ, List, [], ◌∷◌, ◌++◌, Option, Some, None, Ok, Err, refl, sym, subst, append-nil}
+use Rattle.std.specs.Prelude.{false, ⊤}
 use Rattle.std.specs.Bool.{MatchBool}
 use Rattle.sccp_message.specs.declared.message.Message.{Message}
 use Rattle.couple_chain.specs.declared.happening.Happening.{Happening}

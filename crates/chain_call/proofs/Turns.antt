@@ -1,5 +1,5 @@
 -- The turns of a run until no link holds a message.
-use Rattle.std.proofs.Common.{◌≡◌, ℕ, zero, suc, ◌+◌, ◌≤◌, Option, Some, None, refl, sym, ◌∙◌, ap, arith}
+use Rattle.std.proofs.Common.{◌≡◌, ℕ, zero, suc, ◌≤◌, Option, Some, None, refl, sym, ◌∙◌, ap, arith}
 use Rattle.std.specs.Prelude.{Bool, true, false, cond}
 use Rattle.chain_call.specs.Course.{Course}
 use Rattle.chain_call.specs.Steps.{delivered, is_spent, next_of, turn, settled_in}

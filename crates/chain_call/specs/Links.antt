@@ -1,11 +1,11 @@
 -- The links that a message was put on so far, and the one of them that is to deliver next.
-use Rattle.std.specs.Prelude.{ℕ, ◌==◌, ◌&&◌, Bool, true, false, if◌then◌else◌, List, [], ◌∷◌, ◌++◌, map, Option, Some, None}
+use Rattle.std.specs.Prelude.{ℕ, Bool, true, false, if◌then◌else◌, List, [], ◌∷◌, ◌++◌, map, Option, Some, None}
 use Rattle.sccp_message.specs.declared.message.Message.{Message}
 use Rattle.sccp_couple.specs.Events.{Answer}
 use Rattle.sccp_couple.specs.Coupling.{coupled}
 use Rattle.couple_chain.specs.declared.happening.Happening.{Happening}
 use Rattle.couple_chain.specs.declared.happening.Happening.TheVariants.{Offers, Delivers}
-use Rattle.couple_chain.specs.World.{Network, World, is_node, start, left, event_at, happens}
+use Rattle.couple_chain.specs.World.{Network, World, is_node, start, event_at, happens}
 use Rattle.chain_world.specs.Running.{lesser}
 
 -- the links on which a relay puts what it sends

@@ -1,5 +1,5 @@
 -- One connection over the relays of a plan, from its request to its release (ITU-T Q.714 section 3).
-use Rattle.std.specs.Prelude.{ℕ, zero, suc, ◌+◌, ◌*◌, nat_le, ◌==◌, Bool, true, false, if◌then◌else◌, List, [], ◌∷◌, ◌++◌, filter_map, slice_get, Option, Some, None, option_map, option_and_then}
+use Rattle.std.specs.Prelude.{ℕ, zero, suc, ◌+◌, ◌*◌, nat_le, Bool, true, false, if◌then◌else◌, List, [], ◌∷◌, ◌++◌, filter_map, slice_get, Option, Some, None, option_map, option_and_then}
 use Rattle.std.specs.List.{position}
 use Rattle.sccp_address.specs.declared.address.Address.{Address}
 use Rattle.sccp_address.specs.declared.address.Title.TheVariants.{Global}
@@ -27,7 +27,7 @@ use Rattle.chain_call.specs.declared.note.Note.{Note}
 use Rattle.chain_call.specs.declared.outcome.Outcome.{Outcome}
 use Rattle.chain_call.specs.declared.outcome.Outcome.TheVariants.{Unsettled, Unanswered, Refused, Opened}
 use Rattle.chain_call.specs.declared.outcome.Through.{Through}
-use Rattle.chain_call.specs.Course.{Course, course, world_at}
+use Rattle.chain_call.specs.Course.{Course, world_at}
 use Rattle.chain_call.specs.Links.{next_link}
 use Rattle.chain_call.specs.Notes.{note_of, release_of, first_request, first_confirm, first_refusal, data_at}
 

@@ -123,12 +123,7 @@ impl Course {
         ensures { OnOk result (self.new ≡ answered from to release self.old) }
     {
         match release {
-            Some((dlr, slr)) => {
-                self.offer(to, from, Message::Rlc {
-                    dlr: slr,
-                    slr: dlr,
-                })
-            }
+            Some((dlr, slr)) => { self.offer(to, from, Message::Rlc { dlr: slr, slr: dlr }) }
             None => Ok(()),
         }
     }

@@ -26,6 +26,7 @@ const FAR_REFERENCE: u32 = 2;
 const CLASS: u8 = 2;
 /// The name of the hop counter among the optional parameters (Q.713 section 3.18), and its greatest value.
 const HOP_COUNTER: u8 = 0x11;
+
 const MOST_HOPS: u8 = 15;
 
 fn near_reference() -> Reference

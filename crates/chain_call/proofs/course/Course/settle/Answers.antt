@@ -1,5 +1,5 @@
 use Rattle.std.proofs.Common.{rules, ◌≡◌, ◌-◌, ◌+◌, true, false, refl, sym, ◌∙◌, arith}
-use Rattle.chain_call.specs.Steps.{settled}
+use Rattle.chain_call.specs.Steps.{delivered, settled}
 use Rattle.chain_call.proofs.Turns.{is_over, is_done, gives_up, goes_on}
 use Rattle.chain_call.proofs.course.Course.settle.Goals as goal
 
@@ -22,8 +22,9 @@ pub loop-turn-preserved : goal.loop-turn-preserved
 loop-turn-preserved c =
     let lt = c.loop-turn-test.true in
     let left : c.is_spent.result ≡ false = search rules in
+    let gone : c.deliver.new.self ≡ delivered c.in-Some.from c.in-Some.to c.loop-turn.self = search rules in
     goes_on (18446744073709551615 - c.loop-turn._turn) (18446744073709551615 - (c.loop-turn._turn + 1)) c.loop-turn.self c.deliver.new.self (c.in-Some.from, c.in-Some.to) (omega (arith, lt)) (sym c.next.ensures ∙ c.in-Some.is)
-    (sym c.is_spent.ensures ∙ left) c.in_ok-deliver.ensures
+    (sym c.is_spent.ensures ∙ left) gone
     ∙ c.loop-turn.invariant
 
 pub returns : goal.returns
