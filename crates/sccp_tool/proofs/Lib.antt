@@ -2,6 +2,7 @@ mod Accounting
 mod BatchSteps
 mod Causes
 mod ChangeLemmas
+mod ConnectLemmas
 mod CrewSteps
 mod CutsLemmas
 mod Finishing

@@ -5,7 +5,7 @@ use Rattle.sccp_io.specs.Files.{Contents}
 use Rattle.sccp_tool.specs.Ending.{IsCut, Answers, Outcome}
 use Rattle.sccp_tool.specs.Moment.{Moment}
 use Rattle.sccp_tool.specs.Run.{work_of, Cause, SureCause, TellsAnswer, TellsJourneys, HasNamedFiles, UsageCause, ExactlyWhere, ComesWhere, RefusedWhere}
-use Rattle.sccp_tool.specs.Task.{Task, ShowHex, Show, Verify, Route, Replay, Load, Cuts, Import, Change, SendOn}
+use Rattle.sccp_tool.specs.Task.{Task, ShowHex, Show, Verify, Route, Replay, Load, Cuts, Import, Change, Connect, SendOn}
 use Rattle.sccp_tool.specs.Verify.{IsOnVerdict}
 use Rattle.sccp_tool.specs.Work.{Work, Ends, HasFiles}
 use Rattle.sccp_tool.specs.declared.status.Status.{Status}
@@ -14,6 +14,7 @@ use Rattle.sccp_tool.proofs.Causes.{Causes}
 use Rattle.sccp_tool.proofs.CutsLemmas.{cuts_causes}
 use Rattle.sccp_tool.proofs.ImportLemmas.{import_causes}
 use Rattle.sccp_tool.proofs.ChangeLemmas.{change_causes}
+use Rattle.sccp_tool.proofs.ConnectLemmas.{connect_causes}
 use Rattle.sccp_tool.proofs.LoadLemmas.{load_causes}
 use Rattle.sccp_tool.proofs.ReplayLemmas.{replay_causes}
 use Rattle.sccp_tool.proofs.RouteLemmas.{route_causes}
@@ -50,6 +51,7 @@ causes (Some (Load number size workers)) = load_causes number size workers
 causes (Some (Cuts octets)) = cuts_causes octets
 causes (Some (Import plan file)) = import_causes plan file
 causes (Some (Change old new)) = change_causes old new
+causes (Some (Connect name calling)) = connect_causes name calling
 causes (Some (SendOn name incoming)) = send_on_causes name incoming
 
 if_some : {C : Type 0} (o : Option C) (P : C → Type 0) → ((c : C) → o ≡ Some c → P c) → IfSome o P

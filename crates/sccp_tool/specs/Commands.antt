@@ -6,6 +6,7 @@ use Rattle.sccp_tool.specs.Replay.{replay_words}
 use Rattle.sccp_tool.specs.Cuts.{cuts_words}
 use Rattle.sccp_tool.specs.Import.{import_words}
 use Rattle.sccp_tool.specs.Change.{change_words}
+use Rattle.sccp_tool.specs.Connect.{connect_words}
 use Rattle.sccp_tool.specs.Load.{load_words}
 use Rattle.sccp_tool.specs.Route.{route_words}
 use Rattle.sccp_tool.specs.SendOn.{send_on_words}
@@ -26,6 +27,7 @@ command_of name words =
     else if bytes_eq name (codes "cuts") then cuts_words words
     else if bytes_eq name (codes "import") then import_words words
     else if bytes_eq name (codes "change") then change_words words
+    else if bytes_eq name (codes "connect") then connect_words words
     else if bytes_eq name (codes "send-on") then send_on_words words
     else None
 

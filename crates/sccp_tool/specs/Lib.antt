@@ -1,6 +1,7 @@
 pub mod Account
 pub mod Change
 pub mod Commands
+pub mod Connect
 pub mod Ending
 pub mod Gathering
 pub mod LaterPlans

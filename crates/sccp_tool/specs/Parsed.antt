@@ -3,7 +3,7 @@ use Rattle.std.specs.Prelude.{Option, Some, None}
 use Rattle.sccp_tool.specs.Task.{Task}
 use Rattle.sccp_tool.specs.Task as spec
 use Rattle.sccp_tool.specs.declared.command.Command.{Command}
-use Rattle.sccp_tool.specs.declared.command.Command.TheVariants.{ShowHex, Show, Verify, Route, Replay, Load, Cuts, Import, Change, SendOn}
+use Rattle.sccp_tool.specs.declared.command.Command.TheVariants.{ShowHex, Show, Verify, Route, Replay, Load, Cuts, Import, Change, Connect, SendOn}
 
 abbrev pub task_in : Option Command → Option Task
 task_in None = None
@@ -16,4 +16,5 @@ task_in (Some (Load number size)) = Some (spec.Load number size 1)
 task_in (Some (Cuts octets)) = Some (spec.Cuts octets)
 task_in (Some (Import plan file)) = Some (spec.Import plan.now file.now)
 task_in (Some (Change old new)) = Some (spec.Change old.now new.now)
+task_in (Some (Connect name calling)) = Some (spec.Connect name.now calling)
 task_in (Some (SendOn name incoming)) = Some (spec.SendOn name.now incoming)

@@ -4,6 +4,7 @@ use Rattle.std.specs.Io.KnownBytes.{append_known}
 use Rattle.sccp_io.specs.Files.{Contents}
 use Rattle.sccp_tool.specs.Account.{TellsReplay}
 use Rattle.sccp_tool.specs.Change.{change_work, ChangeCause, ChangeSure, ChangeTells}
+use Rattle.sccp_tool.specs.Connect.{connect_work}
 use Rattle.sccp_tool.specs.Cuts.{cuts_work, CutsCause}
 use Rattle.sccp_tool.specs.Ending.{IsCut}
 use Rattle.sccp_tool.specs.Import.{import_work, ImportCause, ImportTells}
@@ -16,7 +17,7 @@ use Rattle.sccp_tool.specs.Route.{route_work}
 use Rattle.sccp_tool.specs.SendOn.{send_on_work}
 use Rattle.sccp_tool.specs.Show.{show_work, ShowCause}
 use Rattle.sccp_tool.specs.ShowHex.{show_hex_work, ShowHexCause}
-use Rattle.sccp_tool.specs.Task.{Task, ShowHex, Show, Verify, Route, Replay, Load, Cuts, Import, Change, SendOn}
+use Rattle.sccp_tool.specs.Task.{Task, ShowHex, Show, Verify, Route, Replay, Load, Cuts, Import, Change, Connect, SendOn}
 use Rattle.sccp_tool.specs.Texts.{usage}
 use Rattle.sccp_tool.specs.Trace.{lines_in}
 use Rattle.sccp_tool.specs.Verify.{verify_work, VerifyCause, VerifySure, VerifyTells}
@@ -35,6 +36,7 @@ work_of (Some (Load number size workers)) = load_work number size
 work_of (Some (Cuts octets)) = cuts_work octets
 work_of (Some (Import plan file)) = import_work plan file
 work_of (Some (Change old new)) = change_work old new
+work_of (Some (Connect name calling)) = connect_work name calling
 work_of (Some (SendOn name incoming)) = send_on_work name incoming
 
 -- words of no shape
@@ -54,6 +56,7 @@ Cause c (Some (Load number size workers)) answer = LoadCause number answer
 Cause c (Some (Cuts octets)) answer = CutsCause answer
 Cause c (Some (Import plan file)) answer = ImportCause (Some c) plan file answer
 Cause c (Some (Change old new)) answer = ChangeCause (Some c) old new answer
+Cause c (Some (Connect name calling)) answer = VerifyCause (Some c) name answer
 Cause c (Some (SendOn name incoming)) answer = TextCause (Some c) name answer
 
 -- where this holds, the answer comes, but for a fault or want of memory before it
@@ -62,6 +65,7 @@ SureCause c (Some (Verify name)) answer = VerifySure (Some c) name answer
 SureCause c (Some (Replay plan trace workers)) answer = ReplaySure c plan trace answer
 SureCause c (Some (Load number size workers)) answer = LoadSure number answer
 SureCause c (Some (Change old new)) answer = ChangeSure (Some c) old new answer
+SureCause c (Some (Connect name calling)) answer = VerifySure (Some c) name answer
 SureCause c task answer = Cause c task answer
 
 -- what the sink took tells the verdict on a plan, those on two plans and what comes of their mixture, or, of DATA messages, a
@@ -71,6 +75,7 @@ TellsAnswer c (Some (Verify name)) given taken taken' = VerifyTells (Some c) nam
 TellsAnswer c (Some (Replay plan trace workers)) given taken taken' = ReplayTells c plan given taken taken'
 TellsAnswer c (Some (Load number size workers)) given taken taken' = LoadTells number given taken taken'
 TellsAnswer c (Some (Change old new)) given taken taken' = ChangeTells (Some c) old new given taken taken'
+TellsAnswer c (Some (Connect name calling)) given taken taken' = ReplayTells c name given taken taken'
 TellsAnswer c (Some (Import plan file)) given taken taken' = ImportTells (Some c) plan file given taken taken'
 TellsAnswer c task given taken taken' = Unit {0}
 
@@ -88,6 +93,7 @@ HasNamedFiles c (Some (Route name start)) = IsThere c name
 HasNamedFiles c (Some (Replay plan trace workers)) = IsThere c plan × IsThere c trace × LaterPlansThere c (lines_in c trace)
 HasNamedFiles c (Some (Import plan file)) = IsThere c plan × IsThere c file
 HasNamedFiles c (Some (Change old new)) = IsThere c old × IsThere c new
+HasNamedFiles c (Some (Connect name calling)) = IsThere c name
 HasNamedFiles c (Some (SendOn name incoming)) = IsThere c name
 HasNamedFiles c task = Unit {0}
 

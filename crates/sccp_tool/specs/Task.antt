@@ -1,5 +1,6 @@
 -- What the words of the command line ask for.
 use Rattle.std.specs.Prelude.{ℕ, List}
+use Rattle.sccp_tool.specs.declared.connect.Calling.{Calling}
 use Rattle.sccp_tool.specs.declared.send_on.Incoming.{Incoming}
 use Rattle.sccp_tool.specs.declared.start.Start.{Start}
 
@@ -22,5 +23,7 @@ pub data Task : Type 0 where
   Import : List ℕ → List ℕ → Task
   -- tells whether relays may hold either of the plans of the files of these names, the old one and the new one
   Change : List ℕ → List ℕ → Task
+  -- makes one connection over the relays of the plan of the file of this name, and tells what comes of it
+  Connect : List ℕ → Calling → Task
   -- tells what becomes of octets at a relay of the plan of the file of this name, and cuts a long message that leaves it
   SendOn : List ℕ → Incoming → Task

@@ -4,6 +4,7 @@ ghost use Rattle.sccp_tool.specs.Commands.{command_of, task_of, texts};
 ghost use Rattle.sccp_tool.specs.Parsed.{task_in};
 
 use crate::change::change_words;
+use crate::connect::{Calling, connect_words};
 use crate::cuts::cuts_words;
 use crate::import::import_words;
 use crate::load::load_words;
@@ -39,6 +40,8 @@ pub enum Command<'a> {
     Import(&'a str, &'a str),
     /// To tell whether relays may hold either of the plans of the files of these names, the old one and the new one.
     Change(&'a str, &'a str),
+    /// To make one connection over the relays of the plan of the file of this name, and to tell what comes of it.
+    Connect(&'a str, Calling),
     /// To tell what becomes of octets at a relay of the plan of the file of this name, and to cut a long message that leaves it.
     SendOn(&'a str, Incoming),
 }
@@ -80,6 +83,8 @@ fn command_of<'a>(
         Ok(import_words(words))
     } else if name == "change" {
         Ok(change_words(words))
+    } else if name == "connect" {
+        connect_words(alloc, words)
     } else if name == "send-on" {
         send_on_words(alloc, words)
     } else {

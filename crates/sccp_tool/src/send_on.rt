@@ -267,7 +267,7 @@ fn put_to(text: &mut Text, pc: PointCode, octets: &[u8]) -> Result<(), OutOfMemo
 
 /// Appends a point code as zone, area and signalling point.
 #[tactic(auto, unfolding(sccp_report::specs::Values::point_code_text))]
-fn put_point_code(text: &mut Text, pc: PointCode) -> Result<(), OutOfMemory>
+pub fn put_point_code(text: &mut Text, pc: PointCode) -> Result<(), OutOfMemory>
     ensures { OnOk result (text.new ≡ text.old ++ point_code_text pc) }
 {
     let value = u32::from(pc.value());

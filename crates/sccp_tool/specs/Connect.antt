@@ -1,0 +1,129 @@
+-- The command that makes one connection over the relays of a plan.
+use Rattle.std.specs.Prelude.{ℕ, ◌==◌, ◌&&◌, ◌%◌, Bool, List, [], ◌∷◌, ◌++◌, codes, length, Option, Some, None, is_some, option_and_then, option_map, if◌then◌else◌}
+use Rattle.std.specs.List.{flat_map, position}
+use Rattle.chain_call.specs.Course.{beginning}
+use Rattle.chain_call.specs.Steps.{outcome}
+use Rattle.chain_call.specs.declared.call.Call.{Call}
+use Rattle.chain_call.specs.declared.outcome.Outcome.{Outcome}
+use Rattle.chain_call.specs.declared.outcome.Outcome.TheVariants.{Unsettled, Unanswered, Refused, Opened}
+use Rattle.chain_call.specs.declared.outcome.Through.{Through}
+use Rattle.chain_world.specs.Kept.{kept}
+use Rattle.plan_model.specs.Network.{Network, has_name, has_point}
+use Rattle.plan_verify.specs.declared.verdict.Verdict.{Verdict}
+use Rattle.plan_verify.specs.declared.verdict.Verdict.TheVariants as verdicts
+use Rattle.sccp_base.specs.Text.{point_code_of}
+use Rattle.sccp_message.specs.declared.cause.CauseTable.TheVariants.{Refusal}
+use Rattle.sccp_report.specs.Fields.{cause_line}
+use Rattle.sccp_report.specs.Values.{numbered, octets_text, point_code_text}
+use Rattle.sccp_report.specs.Verdicts.{verdict_text}
+use Rattle.sccp_scrc.specs.Arriving.{point_of}
+use Rattle.trace_text.specs.Forms.{file_name}
+use Rattle.trace_text.specs.Hex.{hex_word}
+use Rattle.sccp_tool.specs.Plans.{with_plan}
+use Rattle.sccp_tool.specs.Starts.{start_of}
+use Rattle.sccp_tool.specs.Task.{Task, Connect}
+use Rattle.sccp_tool.specs.Texts.{unknown_node}
+use Rattle.sccp_tool.specs.Verify.{status_of}
+use Rattle.sccp_tool.specs.Work.{Work, judge, answered}
+use Rattle.sccp_tool.specs.declared.connect.Calling.{Calling}
+use Rattle.sccp_tool.specs.declared.start.Start.{Start}
+
+-- ---- the words
+
+-- a title of kind 2 can't say that its number of digits is odd
+abbrev pub is_unsaid : Start → Bool
+is_unsaid start = (start.selector.kind == 2) && (length start.digits % 2 == 1)
+
+abbrev pub said : Start → Option Start
+said start = if is_unsaid start then None else Some start
+
+-- the title that is called, the point of the end that calls it, and the octets that are sent over the connection
+unfoldable pub calling_of : List ℕ → List ℕ → List ℕ → List ℕ → List ℕ → List ℕ → Option Calling
+calling_of node from selector ssn digits octets =
+    option_and_then (λ title. option_and_then (λ start. option_and_then (λ pc. option_map (λ b. record { start = start; from = pc; octets = b })
+    (hex_word octets)) (point_code_of from)) (said title)) (start_of node selector ssn digits)
+
+unfoldable pub connect_of : List ℕ → List ℕ → List ℕ → List ℕ → List ℕ → List ℕ → List ℕ → Option Task
+connect_of plan node from selector ssn digits octets = option_and_then (λ name. option_map (Connect name) (calling_of node from selector ssn digits octets)) (file_name plan)
+
+-- PLAN NODE FROM SELECTOR SSN DIGITS HEX
+unfoldable pub connect_words : List (List ℕ) → Option Task
+connect_words (plan ∷ node ∷ from ∷ selector ∷ ssn ∷ digits ∷ octets ∷ []) = connect_of plan node from selector ssn digits octets
+connect_words words = None
+
+-- ---- the lines
+
+unfoldable pub next_name : List ℕ → List ℕ
+next_name name = codes "," ++ name
+
+-- names with commas between them
+unfoldable pub names_text : List (List ℕ) → List ℕ
+names_text [] = []
+names_text (name ∷ names) = name ++ flat_map next_name names
+
+unfoldable pub opened_line : List (List ℕ) → ℕ → List ℕ
+opened_line names far = codes "opened via " ++ names_text names ++ codes " to " ++ point_code_text far ++ codes "\n"
+
+unfoldable pub octets_line : List ℕ → List ℕ → List ℕ
+octets_line name octets = name ++ octets_text octets ++ codes "\n"
+
+unfoldable pub sections_line : ℕ → List ℕ
+sections_line count = numbered (codes "sections ") count ++ codes "\n"
+
+unfoldable pub unsettled_line : List ℕ
+unsettled_line = codes "unsettled\n"
+
+-- what went over the connection
+unfoldable pub through_lines : Option Through → List ℕ
+through_lines None = unsettled_line
+through_lines (Some t) = octets_line (codes "forth ") t.forth ++ octets_line (codes "back ") t.back ++ sections_line t.sections
+
+-- what came of it
+unfoldable pub outcome_text : Outcome → List ℕ
+outcome_text Unsettled = unsettled_line
+outcome_text Unanswered = codes "unanswered\n"
+outcome_text (Refused cause) = cause_line (codes "refused ") Refusal cause
+outcome_text (Opened names far through) = opened_line names far ++ through_lines through
+
+-- the title's subsystem number, where it has one
+abbrev pub ssn_in : ℕ → Option ℕ
+ssn_in ssn = if ssn == 0 then None else Some ssn
+
+abbrev pub call_of : Network → ℕ → Calling → Call
+call_of plan node calling = record {
+  from = calling.from;
+  entry = point_of plan node;
+  selector = calling.start.selector;
+  digits = calling.start.digits;
+  ssn = ssn_in calling.start.ssn;
+  octets = calling.octets;
+}
+
+-- a connection that begins in a world where nothing has happened
+abbrev pub call_text : Network → ℕ → Calling → List ℕ
+call_text plan node calling = outcome_text (outcome (call_of plan node calling) (beginning (kept plan [])))
+
+unfoldable pub end_is_node : List ℕ
+end_is_node = codes "end is a node\n"
+
+-- an end is a point that no node has
+abbrev pub text_by : Network → Calling → Option ℕ → Bool → List ℕ
+text_by plan calling None inner = unknown_node
+text_by plan calling (Some node) inner = if inner then end_is_node else call_text plan node calling
+
+abbrev pub connect_text : Network → Calling → List ℕ
+connect_text plan calling =
+    text_by plan calling (position (has_name calling.start.node) plan.nodes) (is_some (position (has_point calling.from) plan.nodes))
+
+-- what comes of the connection where the plan is accepted, and else the verdict
+abbrev pub connected : Network → Calling → Verdict → List ℕ
+connected plan calling (verdicts.Accepted accepted) = connect_text plan calling
+connected plan calling (verdicts.Refused same witness) = verdict_text plan (verdicts.Refused same witness)
+connected plan calling (verdicts.TooWide same) = verdict_text plan (verdicts.TooWide same)
+
+abbrev pub connect_judged : Calling → Network → Work
+connect_judged calling plan = judge plan (λ verdict. answered (status_of verdict, connected plan calling verdict))
+
+-- the plan is read and verified before
+abbrev pub connect_work : List ℕ → Calling → Work
+connect_work name calling = with_plan name (λ plan. connect_judged calling plan)
