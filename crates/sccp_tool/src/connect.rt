@@ -15,7 +15,7 @@ ghost use Rattle.sccp_tool.specs.Verify.{status_of};
 ghost use Rattle.sccp_tool.specs.Writing.{Writes};
 
 use crate::command::Command;
-use crate::plans::with_plans;
+use crate::plans::with_plan;
 use crate::route::UNKNOWN_NODE;
 use crate::send_on::put_point_code;
 use crate::start::{Start, start_of};
@@ -139,29 +139,33 @@ pub fn connect<F: Files, K: Sink>(
         (moment F.contents F.sound F.faults K.taken K.faults files.old out.old)
         (moment F.contents F.sound F.faults K.taken K.faults files.new out.new) }
 {
-    let (plan, other) = with_plans(alloc, name, files, out)?;
+    let plan = with_plan(alloc, name, files, out)?;
     let verdict = plan_verify::verify(alloc, plan)?;
-    connect_judged(alloc, &verdict, other, calling, out)
+    connect_judged(alloc, verdict, calling, out)
 }
 
 /// What follows the verdict on the plan.
 fn connect_judged<K: Sink>(
     alloc: Global,
-    verdict: &Verdict,
-    plan: Plan,
+    verdict: Verdict,
     calling: &Calling,
     out: &mut K,
 ) -> Result<Status, Stop>
-    requires same { plan_of verdict.now ≡ plan }
-    requires plan { IsPlan (plan_of verdict.now) }
-    requires lawful { IsLawful (plan_of verdict.now) verdict.now }
-    ensures text { Writes (connected plan calling.now verdict.now) result (K.taken out.old) (K.taken out.new) (K.faults out.old) (K.faults out.new) }
-    ensures answer { IfOk result (λ s. s ≡ status_of verdict.now) }
+    requires plan { IsPlan (plan_of verdict) }
+    requires lawful { IsLawful (plan_of verdict) verdict }
+    ensures text { Writes (connected (plan_of verdict) calling.now verdict) result (K.taken out.old) (K.taken out.new) (K.faults out.old) (K.faults out.new) }
+    ensures answer { IfOk result (λ s. s ≡ status_of verdict) }
 {
     match verdict {
-        Verdict::Accepted(_) => connect_accepted(alloc, plan, calling, out),
-        Verdict::Refused(_, _) => tell_verdict(alloc, verdict, out),
-        Verdict::TooWide(_) => tell_verdict(alloc, verdict, out),
+        Verdict::Accepted(accepted) => {
+            connect_accepted(alloc, accepted.into_plan(), calling, out)
+        }
+        Verdict::Refused(plan, witness) => tell_verdict(
+            alloc,
+            &Verdict::Refused(plan, witness),
+            out,
+        ),
+        Verdict::TooWide(plan) => tell_verdict(alloc, &Verdict::TooWide(plan), out),
     }
 }
 

@@ -1,10 +1,9 @@
 //! A plan file that a command needs before anything else.
-ghost use Rattle.std.specs.Prelude.{◌≡◌, false, IfOk, Ok, OnOk};
+ghost use Rattle.std.specs.Prelude.{◌≡◌, false, IfOk, OnOk};
 ghost use Rattle.plan_model.specs.Network.{IsPlan};
 ghost use Rattle.plan_text.specs.Faults.{is_memory};
-ghost use Rattle.plan_text.specs.PlanText.{plan_of};
 ghost use Rattle.sccp_tool.specs.Moment.{moment};
-ghost use Rattle.sccp_tool.specs.Plans.{bad_plan, first_of, GivesPlan};
+ghost use Rattle.sccp_tool.specs.Plans.{bad_plan, GivesPlan};
 
 use crate::limit::within_limit;
 use crate::opened::Opened;
@@ -36,42 +35,6 @@ pub fn with_plan<F: Files, K: Sink>(
             let line = bad_plan(alloc, &fault)?;
             Err(early(print_last(out, line.as_slice(), Status::BadPlan)))
         }
-    }
-}
-
-/// The same plan twice, read twice from one text: an accepted plan lends its plan, and a running chain takes one of its own.
-pub fn with_plans<F: Files, K: Sink>(
-    alloc: Global,
-    name: &str,
-    files: &mut F,
-    out: &mut K,
-) -> Result<(Plan, Plan), Stop>
-    ensures plan { GivesPlan name.now (first_of result)
-        (moment F.contents F.sound F.faults K.taken K.faults files.old out.old)
-        (moment F.contents F.sound F.faults K.taken K.faults files.new out.new) }
-    ensures same { IfOk result (λ plans. plans.1 ≡ plans.0) }
-    ensures sound { IfOk result (λ plans. IsPlan plans.0) }
-{
-    let text = within_limit(alloc, Opened::First, name, files, out)?;
-    match plan_text::read(alloc, &text) {
-        Ok(plan) => {
-            let other = again(alloc, &text)?;
-            Ok((plan, other))
-        }
-        Err(fault) => {
-            let line = bad_plan(alloc, &fault)?;
-            Err(early(print_last(out, line.as_slice(), Status::BadPlan)))
-        }
-    }
-}
-
-/// A plan, from a text that gave one before.
-fn again(alloc: Global, text: &[u8]) -> Result<Plan, OutOfMemory>
-    ensures { IfOk result (λ plan. plan_of text.now ≡ Ok plan) }
-{
-    match plan_text::read(alloc, text) {
-        Ok(plan) => Ok(plan),
-        Err(_) => Err(OutOfMemory),
     }
 }
 
