@@ -4,4 +4,6 @@
 #![tactic(auto)]
 
 #[cfg(test)]
+mod connecting;
+#[cfg(test)]
 mod tests;

@@ -1,0 +1,108 @@
+//! What one call makes of a connection from 1-0-1 over relays at 1-0-2 and 1-0-3, where that end offered something before.
+use chain_call::{Call, Outcome, connect_in};
+use chain_world::World;
+use plan_text::read;
+use sample_plans::ROAMING;
+use sccp_base::{Digits, Octets, PointCode, Selector};
+use sccp_message::decode;
+use std::alloc::Global;
+use std::test::Fail;
+
+/// A request with the reference that the call gives its own.
+const REQUEST: &str = "0101000002020D0B120600120494710100002111010F00";
+/// Data of no connection, which a relay drops.
+const DATA: &str = "0601000000010141";
+
+fn point(name: &str) -> Result<PointCode, Fail> {
+    Ok(PointCode::parse(name.as_bytes()).ok_or("a point code")?)
+}
+
+/// A call of these digits, with one octet to carry.
+fn call_of(alloc: Global, digits: &str) -> Result<Call, Fail> {
+    let mut octets = Octets::new(alloc);
+    octets.push(0x41)?;
+    Ok(Call {
+        from: point("1-0-1")?,
+        entry: point("1-0-2")?,
+        selector: Selector::parse(b"4:0:1:4").ok_or("a selector")?,
+        digits: Digits::parse(digits.as_bytes())?,
+        ssn: Some(6),
+        octets,
+    })
+}
+
+/// The end at 1-0-1 offers these octets to the first relay.
+fn offer(alloc: Global, world: &mut World, octets: &str) -> Result<(), Fail> {
+    let octets = hex::decode(alloc, octets)?;
+    let message = decode(alloc, &octets)?;
+    match world.offer(point("1-0-1")?, point("1-0-2")?, &message) {
+        Ok(()) => Ok(()),
+        Err(_) => Err("an offer that is accepted")?,
+    }
+}
+
+/// A world in which it offered them so many times.
+fn world_with(alloc: Global, octets: &str, count: u32) -> Result<World, Fail> {
+    let plan = read(alloc, ROAMING.as_bytes())?;
+    let mut world = World::new(alloc, plan)?;
+    for _ in 0..count {
+        offer(alloc, &mut world, octets)?;
+    }
+    Ok(world)
+}
+
+/// Deliveries until no link holds a message, of ten at most.
+fn settle(world: &mut World) -> Result<(), Fail> {
+    for _ in 0..10_u32 {
+        if let Some((from, to)) = world.next() {
+            world.deliver(from, to)?;
+        }
+    }
+    Ok(())
+}
+
+fn outcome_name(outcome: &Outcome) -> &'static str {
+    match outcome {
+        Outcome::Unsettled => "unsettled",
+        Outcome::Unanswered => "unanswered",
+        Outcome::Refused(_) => "refused",
+        Outcome::Opened(_, _, _) => "opened",
+    }
+}
+
+/// What comes of a call of these digits in a world.
+fn called(alloc: Global, world: World, digits: &str) -> Result<&'static str, Fail> {
+    let call = call_of(alloc, digits)?;
+    let outcome = connect_in(alloc, world, &call)?;
+    Ok(outcome_name(&outcome))
+}
+
+/// What comes of a call behind so many messages that stand on the first link.
+fn called_behind(alloc: Global, count: u32, digits: &str) -> Result<&'static str, Fail> {
+    let world = world_with(alloc, DATA, count)?;
+    called(alloc, world, digits)
+}
+
+/// What comes of a call where the end requested a connection before, which nobody confirmed.
+fn called_again(alloc: Global) -> Result<&'static str, Fail> {
+    let mut world = world_with(alloc, REQUEST, 1)?;
+    settle(&mut world)?;
+    called(alloc, world, "491710000012")
+}
+
+/// The request of the call is refused, since its reference was used before.
+#[test]
+fn a_used_reference_is_unanswered(rt: HostRuntime) -> Result<(), Fail> {
+    assert_eq!(rt; called_again(rt.alloc())?, "unanswered");
+    Ok(())
+}
+
+/// For the one message that is offered 64 deliveries may be made: those of the messages before it, its own, and that of the
+/// refusal.
+#[test]
+fn the_delivery_behind_the_last_is_not_made(rt: HostRuntime) -> Result<(), Fail> {
+    assert_eq!(rt; called_behind(rt.alloc(), 0, "491710000012")?, "opened");
+    assert_eq!(rt; called_behind(rt.alloc(), 62, "47")?, "refused");
+    assert_eq!(rt; called_behind(rt.alloc(), 63, "47")?, "unsettled");
+    Ok(())
+}
