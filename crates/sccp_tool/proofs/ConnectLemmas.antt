@@ -23,7 +23,7 @@ use Rattle.sccp_tool.specs.declared.stop.Stop.{Stop}
 use Rattle.sccp_tool.proofs.Causes.{Causes}
 use Rattle.sccp_tool.proofs.PlanLemmas.{PlanEnds, long, bad, good, Ends-with_plan, if_long, if_bad, at_plan, plan_files}
 use Rattle.sccp_tool.proofs.ReplayLemmas.{on_verdict}
-use Rattle.sccp_tool.proofs.VerifyLemmas.{not_cut, done_if_safe, refused_if_bad}
+use Rattle.sccp_tool.proofs.VerifyLemmas.{cause_of, not_cut, done_if_safe, refused_if_bad}
 use Rattle.sccp_tool.proofs.WorkLemmas.{Works-answered, Works-judge}
 
 -- what the verdict asks for is printed, and that is all
@@ -52,11 +52,6 @@ Ends-connected contents calling plan s text h = record {
 
 plan_ends : (contents : Option Contents) (name : List ℕ) (calling : Calling) (s : Status) (text : List ℕ) → Ends contents (connect_work name calling) s text → PlanEnds contents name (Connected calling text) s
 plan_ends contents name calling s text h = Ends-with_plan (Connected calling text) contents name (connect_judged calling) s text (λ plan e. Ends-connected contents calling plan s text e) h
-
-cause_of : (contents : Option Contents) (name : List ℕ) (plan : Network) (v : Verdict) → ((P : Network → Type 0) → P plan → HasPlan contents name P) → IsLawful plan v → VerifyCause contents name (status_of v)
-cause_of contents name plan (verdicts.Accepted accepted) here lawful = here IsSafe (accepted.bound, lawful.0)
-cause_of contents name plan (verdicts.Refused same witness) here lawful = here IsBad (witness, lawful)
-cause_of contents name plan (verdicts.TooWide same) here lawful = here IsWide lawful
 
 only : (contents : Option Contents) (name : List ℕ) (calling : Calling) (s : Status) (text : List ℕ) → PlanEnds contents name (Connected calling text) s → VerifyCause contents name s
 only contents name calling TooLong text (long h) = h

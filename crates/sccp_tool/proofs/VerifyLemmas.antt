@@ -64,7 +64,7 @@ plan_ends contents name s text h = Ends-with_plan (Judged text) contents name ju
 
 -- ---- what each answer says of the plan
 
-cause_of : (contents : Option Contents) (name : List ℕ) (plan : Network) (v : Verdict) → ((P : Network → Type 0) → P plan → HasPlan contents name P) → IsLawful plan v → VerifyCause contents name (status_of v)
+pub cause_of : (contents : Option Contents) (name : List ℕ) (plan : Network) (v : Verdict) → ((P : Network → Type 0) → P plan → HasPlan contents name P) → IsLawful plan v → VerifyCause contents name (status_of v)
 cause_of contents name plan (verdicts.Accepted accepted) here lawful = here IsSafe (accepted.bound, lawful.0)
 cause_of contents name plan (verdicts.Refused same witness) here lawful = here IsBad (witness, lawful)
 cause_of contents name plan (verdicts.TooWide same) here lawful = here IsWide lawful
