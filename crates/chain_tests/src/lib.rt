@@ -4,6 +4,4 @@
 #![tactic(auto)]
 
 #[cfg(test)]
-mod connecting;
-#[cfg(test)]
 mod tests;

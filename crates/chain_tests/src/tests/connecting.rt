@@ -1,10 +1,8 @@
 //! What one call makes of a connection from 1-0-1 over relays at 1-0-2 and 1-0-3, where that end offered something before.
+use super::{new_world, offer, point, settle};
 use chain_call::{Call, Outcome, connect_in};
 use chain_world::World;
-use plan_text::read;
-use sample_plans::ROAMING;
-use sccp_base::{Digits, Octets, PointCode, Selector};
-use sccp_message::decode;
+use sccp_base::{Digits, Octets, Selector};
 use std::alloc::Global;
 use std::test::Fail;
 
@@ -12,10 +10,6 @@ use std::test::Fail;
 const REQUEST: &str = "0101000002020D0B120600120494710100002111010F00";
 /// Data of no connection, which a relay drops.
 const DATA: &str = "0601000000010141";
-
-fn point(name: &str) -> Result<PointCode, Fail> {
-    Ok(PointCode::parse(name.as_bytes()).ok_or("a point code")?)
-}
 
 /// A call of these digits, with one octet to carry.
 fn call_of(alloc: Global, digits: &str) -> Result<Call, Fail> {
@@ -31,34 +25,15 @@ fn call_of(alloc: Global, digits: &str) -> Result<Call, Fail> {
     })
 }
 
-/// The end at 1-0-1 offers these octets to the first relay.
-fn offer(alloc: Global, world: &mut World, octets: &str) -> Result<(), Fail> {
-    let octets = hex::decode(alloc, octets)?;
-    let message = decode(alloc, &octets)?;
-    match world.offer(point("1-0-1")?, point("1-0-2")?, &message) {
-        Ok(()) => Ok(()),
-        Err(_) => Err("an offer that is accepted")?,
-    }
-}
-
-/// A world in which it offered them so many times.
+/// A world in which the end at 1-0-1 offered these octets so many times to the first relay.
 fn world_with(alloc: Global, octets: &str, count: u32) -> Result<World, Fail> {
-    let plan = read(alloc, ROAMING.as_bytes())?;
-    let mut world = World::new(alloc, plan)?;
+    let mut world = new_world(alloc)?;
     for _ in 0..count {
-        offer(alloc, &mut world, octets)?;
-    }
-    Ok(world)
-}
-
-/// Deliveries until no link holds a message, of ten at most.
-fn settle(world: &mut World) -> Result<(), Fail> {
-    for _ in 0..10_u32 {
-        if let Some((from, to)) = world.next() {
-            world.deliver(from, to)?;
+        if offer(alloc, &mut world, "1-0-1", "1-0-2", octets)?.is_some() {
+            return Err("an offer that is accepted")?;
         }
     }
-    Ok(())
+    Ok(world)
 }
 
 fn outcome_name(outcome: &Outcome) -> &'static str {
@@ -86,7 +61,7 @@ fn called_behind(alloc: Global, count: u32, digits: &str) -> Result<&'static str
 /// What comes of a call where the end requested a connection before, which nobody confirmed.
 fn called_again(alloc: Global) -> Result<&'static str, Fail> {
     let mut world = world_with(alloc, REQUEST, 1)?;
-    settle(&mut world)?;
+    settle(alloc, &mut world, &mut String::new(alloc))?;
     called(alloc, world, "491710000012")
 }
 
