@@ -45,24 +45,25 @@ fn outcome_name(outcome: &Outcome) -> &'static str {
     }
 }
 
-/// What comes of a call of these digits in a world.
-fn called(alloc: Global, world: World, digits: &str) -> Result<&'static str, Fail> {
-    let call = call_of(alloc, digits)?;
-    let outcome = connect_in(alloc, world, &call)?;
+/// What comes of a call in a world.
+fn called(alloc: Global, world: World, call: &Call) -> Result<&'static str, Fail> {
+    let outcome = connect_in(alloc, world, call)?;
     Ok(outcome_name(&outcome))
 }
 
-/// What comes of a call behind so many messages that stand on the first link.
+/// What comes of a call of these digits behind so many messages that stand on the first link.
 fn called_behind(alloc: Global, count: u32, digits: &str) -> Result<&'static str, Fail> {
+    let call = call_of(alloc, digits)?;
     let world = world_with(alloc, DATA, count)?;
-    called(alloc, world, digits)
+    called(alloc, world, &call)
 }
 
 /// What comes of a call where the end requested a connection before, which nobody confirmed.
 fn called_again(alloc: Global) -> Result<&'static str, Fail> {
+    let call = call_of(alloc, "491710000012")?;
     let mut world = world_with(alloc, REQUEST, 1)?;
     settle(alloc, &mut world, &mut String::new(alloc))?;
-    called(alloc, world, "491710000012")
+    called(alloc, world, &call)
 }
 
 /// The request of the call is refused, since its reference was used before.
