@@ -7,7 +7,7 @@ ghost use Rattle.plan_verify.specs.Lawful.{IsLawful, plan_of};
 ghost use Rattle.sccp_io.specs.Files.{Contents};
 ghost use Rattle.sccp_tool.specs.Commands.{texts};
 ghost use Rattle.sccp_tool.specs.Ending.{Works};
-ghost use Rattle.sccp_tool.specs.Load.{count_line, counts_text, is_one, load_of, load_text, load_words, load_work, number_to};
+ghost use Rattle.sccp_tool.specs.Load.{count_line, counts_text, load_of, load_text, load_words, load_work, number_to};
 ghost use Rattle.sccp_tool.specs.Parsed.{task_in};
 ghost use Rattle.sccp_tool.specs.Verify.{status_of};
 ghost use Rattle.sccp_tool.specs.Writing.{Writes};
@@ -16,6 +16,7 @@ use crate::command::Command;
 use crate::status::Status;
 use crate::stop::Stop;
 use crate::verify::tell_verdict;
+use crate::workers::Workers;
 use crate::writing::print_last;
 use made_load::{Counts, load_counts, load_plan};
 use plan_check::Accepted;
@@ -43,20 +44,9 @@ fn load_of<'a>(number: &str, size: &str, workers: &str) -> Option<Command<'a>>
 {
     let number = number_to(number.as_bytes(), u32::MAX)?;
     let size = number_to(size.as_bytes(), 100_000)?;
-    if is_one(workers.as_bytes()) {
-        Some(Command::Load(number, size))
-    } else {
-        None
-    }
-}
-
-/// One to ten decimal digits that spell 1.
-fn is_one(word: &[u8]) -> bool
-    ensures { result ≡ is_one word.now }
-{
-    match decimal(word, 10) {
-        Some(value) => value == 1,
-        None => false,
+    match Workers::parse(workers.as_bytes()) {
+        Some(workers) => Some(Command::Load(number, size, workers)),
+        None => None,
     }
 }
 
