@@ -1,13 +1,23 @@
 #!/usr/bin/env python3
-"""Measures what several workers gain in a replay: lines a second with 1, 2, 4 and 16 workers.
+"""Measures what several workers gain in a replay: the whole command with 1, 2, 4 and 16 workers, and serving by itself.
 
 The plan has six relays, each with 101 rows; a message for 491710000012 goes over all of them. One trace has batches of 1,024
 messages; in the other each message is a batch of its own, with a fence behind it, where workers can gain nothing. The replays
-with their numbers of workers are made in turn, five times each, and the least time of each is told.
+with their numbers of workers are made in turn, and the least time of each is told, less that of an empty trace.
 
-Run it from anywhere: bench/workers.py [PROGRAM]. It builds nothing: run ./sccp once before.
+Reading, settling and printing are one thread's work. Which share of one worker's time is serving, the journeys of the
+messages, is reckoned by the instructions that callgrind counts below them; what is left is taken from the time of each number
+of workers, so that all that several workers cost counts as serving. Without valgrind the whole command alone is told.
+
+What a machine gives to several threads isn't told by the number of its processors, of which two may be one core: so it is
+measured how much more is done in a time by two and by four replays with one worker, at once.
+
+Run it from anywhere: bench/workers.py [PROGRAM]. It builds nothing: run ./sccp once before. On a machine that has other work
+threads wait for each other: `chrt -f 10 bench/workers.py` as root puts that work aside for about a minute.
 """
 import os
+import re
+import shutil
 import subprocess
 import sys
 import tempfile
@@ -18,7 +28,9 @@ PROGRAM = os.path.abspath(sys.argv[1]) if len(sys.argv) > 1 else os.path.join(TO
 RELAYS = 6
 MESSAGE = "msg n0 1-0-1 0980030E120B1206001204947101000021044301080802AABB"
 WORKERS = (1, 2, 4, 16)
-TURNS = 5
+TURNS = 7
+SERVING = "relay_net::travelling::journey*"
+COUNTED = 6_000
 
 
 def plan():
@@ -43,24 +55,68 @@ def replay(folder, trace, workers):
     return seconds, done.stdout
 
 
+def together(folder, count):
+    """How long so many replays of batches with one worker take at once."""
+    start = time.monotonic()
+    words = [PROGRAM, "replay", "plan", "batches", "1"]
+    runs = [subprocess.Popen(words, cwd=folder, stdout=subprocess.DEVNULL) for _ in range(count)]
+    if any(run.wait() for run in runs):
+        sys.exit("a replay of several at once failed")
+    return time.monotonic() - start
+
+
+def instructions(folder, trace, flags=()):
+    words = ["valgrind", "--tool=callgrind", "--callgrind-out-file=/dev/null", *flags, PROGRAM, "replay", "plan", trace, "1"]
+    done = subprocess.run(words, cwd=folder, capture_output=True, text=True)
+    found = re.search(r"Collected : (\d+)", done.stderr)
+    return int(found.group(1)) if found else 0
+
+
+def serving(folder):
+    """Which share of the instructions that a trace takes is serving, or none."""
+    if not shutil.which("valgrind"):
+        return None
+    below = instructions(folder, "counted", [f"--toggle-collect={SERVING}"])
+    all_of_it = instructions(folder, "counted") - instructions(folder, "empty")
+    return below / all_of_it if below and all_of_it > below else None
+
+
 def main():
     with tempfile.TemporaryDirectory() as folder:
-        traces = {"batches": (MESSAGE + "\n") * 200_000, "single": (MESSAGE + "\nfence\n") * 100_000}
-        for name, text in {"plan": plan(), **traces}.items():
+        traces = {"batches": (MESSAGE + "\n") * 100_000, "single": (MESSAGE + "\nfence\n") * 50_000}
+        others = {"empty": "", "counted": (MESSAGE + "\n") * COUNTED}
+        for name, text in {"plan": plan(), **traces, **others}.items():
             with open(os.path.join(folder, name), "w") as made:
                 made.write(text)
-        for trace in traces:
-            least = {}
-            texts = set()
-            for _ in range(TURNS):
+        empty = min(replay(folder, "empty", 1)[0] for _ in range(TURNS))
+        least = {}
+        texts = {trace: set() for trace in traces}
+        for _ in range(TURNS):
+            for trace in traces:
                 for workers in WORKERS:
                     seconds, text = replay(folder, trace, workers)
-                    least[workers] = min(seconds, least.get(workers, seconds))
-                    texts.add(text)
-            if len(texts) != 1:
+                    seconds -= empty
+                    least[trace, workers] = min(seconds, least.get((trace, workers), seconds))
+                    texts[trace].add(text)
+        for trace in traces:
+            if len(texts[trace]) != 1:
                 sys.exit(f"{trace}: the texts differ")
+        share = serving(folder)
+        for trace in traces:
+            one = least[trace, 1]
             for workers in WORKERS:
-                print(f"{trace}, {workers} workers: {least[workers]:.3f} s, {least[1] / least[workers]:.2f} times as fast as one")
+                some = least[trace, workers]
+                line = f"{trace}, {workers} workers: {some:.3f} s, {one / some:.2f} times as fast as one"
+                if trace == "batches" and share:
+                    rest = (1 - share) * one
+                    line += f"; serving {some - rest:.3f} s, {share * one / (some - rest):.2f} times as fast"
+                print(line)
+        if share:
+            print(f"serving is {share:.0%} of one worker's instructions")
+        for count in (2, 4):
+            at_once = min(together(folder, count) for _ in range(TURNS))
+            alone = min(together(folder, 1) for _ in range(TURNS))
+            print(f"{count} replays at once do {count * alone / at_once:.2f} times as much as one")
 
 
 if __name__ == "__main__":

@@ -90,11 +90,30 @@ fn serve_beside<R: Threads + Wait + Sync, G: Gate + Sync>(
     published
 }
 
-// Few jobs are served sooner than a thread is made: there is one for eight of them, and a second one from four jobs on.
-fn threads_for(jobs: usize) -> usize
+// How many threads may run at once, two at least.
+fn processors<R: Threads>(rt: &R) -> usize
     ensures { 0 < result }
 {
-    if jobs < 4 { 1 } else { (jobs / 8).clamp(2, 16) }
+    match thread::available_parallelism(rt) {
+        Ok(count) => count.get().max(2),
+        Err(_) => 2,
+    }
+}
+
+// Few jobs are served sooner than a thread is made: there is one for sixteen of them, a second one from four jobs on, and no
+// more than shares or processors. These are asked for where they count: the answer takes the time of some jobs.
+fn threads_for<R: Threads>(rt: &R, shares: usize, jobs: usize) -> usize
+    ensures { 0 < result }
+{
+    if jobs < 4 {
+        return 1;
+    }
+    let worth = (jobs / 16).min(shares);
+    if worth < 3 {
+        2
+    } else {
+        worth.min(processors(rt))
+    }
 }
 
 // Briefs the workers, serves the jobs while these plans are published, and collects the answers.
@@ -126,7 +145,7 @@ fn serve_batch<R: Threads + Wait + Sync, G: Gate + Sync>(
     serve_beside(
         rt,
         alloc,
-        threads_for(jobs.len()),
+        threads_for(rt, workers.len(), jobs.len()),
         states,
         jobs,
         gate,

@@ -47,7 +47,7 @@ fn in_turn(
     ensures long { IfOk result (λ answers. length answers ≡ all) }
     ensures each { IfOk result (λ answers. (i : ℕ) (d : _) → i < all → slice_get answers i ≡ slice_get (slice_index_or shares.old (i % length shares.old) d).items (i / length shares.old)) }
 {
-    let mut answers = List::new(alloc);
+    let mut answers = List::from_vec(Vec::with_capacity(alloc, all)?);
     while answers.as_slice().len() < all {
         let share = answers.as_slice().len() % shares.len();
         let Some(served) = shares[share].pop_front() else {

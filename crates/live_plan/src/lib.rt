@@ -13,6 +13,7 @@ mod batch;
 mod briefing;
 mod collecting;
 mod gate;
+mod here;
 mod known;
 mod laws;
 mod list_place;
@@ -29,6 +30,7 @@ mod worker;
 
 pub use batch::run_batch;
 pub use gate::{Gate, OpenGate};
+pub use here::serve_jobs;
 pub use laws::{numbers_never_fall, passes_go_on};
 pub use list_place::ListPlace;
 pub use live::Live;

@@ -1,5 +1,5 @@
 //! A worker's share of a batch: the jobs whose index, modulo the number of workers, is the worker's.
-ghost use Rattle.std.specs.Prelude.{◌≡◌, ◌*◌, ◌+◌, ◌<◌, ◌≤◌, List, All, length, IfOk};
+ghost use Rattle.std.specs.Prelude.{◌≡◌, ◌*◌, ◌+◌, ◌<◌, ◌≤◌, List, [], All, length, IfOk};
 ghost use Rattle.plan_check.specs.Verified.{Verified};
 ghost use Rattle.live_plan.specs.Batches.{IsShare, GoesOn, Follows, Counted, HasServed};
 
@@ -10,6 +10,16 @@ use relay_net::{Job, NodeState, Served};
 use sccp_base::OutOfMemory;
 use std::alloc::Global;
 use std::collections::VecDeque;
+
+// No answers yet, with room for so many where it can be had.
+fn room_for(alloc: Global, answers: usize) -> VecDeque<Served>
+    ensures { result.items ≡ [] }
+{
+    match VecDeque::with_capacity(alloc, answers) {
+        Ok(room) => room,
+        Err(_) => VecDeque::new(alloc),
+    }
+}
 
 // Serves every count-th job, from this one on.
 pub(crate) fn serve_from<P: Place, G: Gate>(
@@ -29,7 +39,7 @@ pub(crate) fn serve_from<P: Place, G: Gate>(
     ensures all { IfOk result (λ answers. length jobs.now ≤ length answers.items * count + share) }
     ensures served { IfOk result (λ answers. (plans : List Verified) → Follows plans worker.old → IsShare plans states.now jobs.now count share worker.old.kept.number worker.new.kept.number answers.items) }
 {
-    let mut answers = VecDeque::new(alloc);
+    let mut answers = room_for(alloc, jobs.len() / count + 1);
     let mut at = share;
     while at < jobs.len() {
         let served = worker.serve(alloc, states, &jobs[at], gate)?;

@@ -12,7 +12,12 @@ use std::alloc::Global;
 use std::collections::VecDeque;
 
 // A job is routed over all its relays under one plan.
-fn route(alloc: Global, by: &Entry, states: &[NodeState], job: &Job) -> Result<Served, OutOfMemory>
+pub(crate) fn route(
+    alloc: Global,
+    by: &Entry,
+    states: &[NodeState],
+    job: &Job,
+) -> Result<Served, OutOfMemory>
     requires entry { job.now.entry < nodes_of (arc_value by.now.plan) }
     requires states { length states.now ≡ nodes_of (arc_value by.now.plan) }
     ensures number { IfOk result (λ served. served.number ≡ by.now.number) }

@@ -5,7 +5,7 @@ ghost use Rattle.sccp_tool.specs.Replayers.{ComesToNode, RoutesBatch, jobs_from,
 ghost use Rattle.sccp_tool.specs.Routings.{ArePlans, IsRouting, ahead, routing, standing};
 
 use crate::settled::Settled;
-use live_plan::{Gate, Live, LivePlace, Teller, Worker, run_batch};
+use live_plan::{Gate, Live, LivePlace, Teller, Worker, serve_jobs};
 use plan_check::Accepted;
 use relay_net::{Job, NodeState, Served};
 use sccp_base::{List, OutOfMemory};
@@ -142,7 +142,7 @@ impl Crew {
         // It ensures that the plans are sound.
         let _first = self.first();
         let jobs = jobs_of(alloc, settled)?;
-        run_batch(
+        serve_jobs(
             rt,
             alloc,
             &mut self.teller,

@@ -16,14 +16,14 @@ const TURNS: u32 = 100_000_000;
 
 /// Messages 0 and 1 wait for each other, the publisher for both, and messages 2 and 3 for the publisher.
 #[derive(Drop)]
-struct Meeting {
+pub struct Meeting {
     passed: [AtomicU64; 4],
     published: AtomicU64,
     failed: AtomicU64,
 }
 
 impl Meeting {
-    fn new() -> Meeting {
+    pub fn new() -> Meeting {
         Meeting {
             passed: [
                 AtomicU64::new(0),
@@ -34,6 +34,11 @@ impl Meeting {
             published: AtomicU64::new(0),
             failed: AtomicU64::new(0),
         }
+    }
+
+    /// Whether each job was passed once, by one of two workers, and nobody waited in vain.
+    pub fn was_kept(&self) -> bool {
+        self.failed.load(Ordering::SeqCst) == 0
     }
 
     /// Waits until that was set.
@@ -91,7 +96,7 @@ fn workers_and_publisher_run_beside_each_other(rt: HostRuntime) -> Result<(), Fa
     let mut out = SoundSink::new(alloc);
     let gate = Meeting::new();
     let status = run_gated(&rt, alloc, &words, &mut files, &mut out, &gate);
-    assert_eq!(rt; gate.failed.load(Ordering::SeqCst), 0);
+    assert!(rt; gate.was_kept());
     assert_eq!(rt; status, Status::Done);
     let text = std::str::from_utf8(out.taken())?;
     assert!(rt; text.contains("\n4 by 2 via a ended "), "{text}");
@@ -116,13 +121,19 @@ const FENCED_TOLD: &str = "plan 1 f accepted bound 1
 end 6
 ";
 
-/// Whether the fenced trace, replayed by the workers of these words, prints what one worker prints.
-fn is_told<R: Threads + Wait + Sync>(rt: &R, alloc: Global, line: &str) -> Result<bool, Fail> {
+/// Whether a trace, replayed by the workers of these words, prints this.
+fn is_told<R: Threads + Wait + Sync>(
+    rt: &R,
+    alloc: Global,
+    line: &str,
+    trace: &[u8],
+    told: &[u8],
+) -> Result<bool, Fail> {
     let words = words_of(alloc, line)?;
-    let mut files = with_trace(alloc, FENCED.as_bytes())?;
+    let mut files = with_trace(alloc, trace)?;
     let mut out = SoundSink::new(alloc);
     let status = run(rt, alloc, &words, &mut files, &mut out);
-    Ok(status == Status::Done && out.taken() == FENCED_TOLD.as_bytes())
+    Ok(status == Status::Done && out.taken() == told)
 }
 
 #[test]
@@ -135,7 +146,10 @@ fn fences_fix_every_number(rt: HostRuntime) -> Result<(), Fail> {
             "replay f g 4",
             "replay f g 16",
         ] {
-            assert!(rt; is_told(&rt, alloc, line)?, "at {line}");
+            assert!(rt;
+                is_told(&rt, alloc, line, FENCED.as_bytes(), FENCED_TOLD.as_bytes())?,
+                "at {line}"
+            );
         }
     }
     Ok(())
@@ -178,6 +192,44 @@ fn numbers_never_fall_in_a_share(rt: HostRuntime) -> Result<(), Fail> {
         assert_eq!(rt; status, Status::Done);
         let text = std::str::from_utf8(out.taken())?;
         assert!(rt; are_lawful(text), "{text}");
+    }
+    Ok(())
+}
+
+/// So many messages, and what is printed of them.
+fn many(alloc: Global, count: u32) -> Result<(Vec<u8>, Vec<u8>), Fail> {
+    let mut trace = Vec::new(alloc);
+    let mut told = b"plan 1 f accepted bound 1\n".to_vec(alloc)?;
+    for line in 0..count {
+        trace.extend_from_slice(
+            b"msg a 1-0-1 0980030E120B1206001204947101000021044301080802AABB\n",
+        )?;
+        told.extend_from_slice((line + 1).to_string(alloc)?.as_bytes())?;
+        told.extend_from_slice(
+            b" by 1 via a ended 2-0-1/6 0980030E120B5206001204947101000021044301080802AABB\n",
+        )?;
+    }
+    told.extend_from_slice(b"end ")?;
+    told.extend_from_slice(count.to_string(alloc)?.as_bytes())?;
+    told.extend_from_slice(b"\n")?;
+    Ok((trace, told))
+}
+
+/// 33 messages and 200 are enough for two threads and for as many as there are processors.
+#[test]
+fn many_messages_are_told_in_order(rt: HostRuntime) -> Result<(), Fail> {
+    let alloc = rt.alloc();
+    for count in [33, 200] {
+        let (trace, told) = many(alloc, count)?;
+        for line in [
+            "replay f g 1",
+            "replay f g 2",
+            "replay f g 3",
+            "replay f g 4",
+            "replay f g 16",
+        ] {
+            assert!(rt; is_told(&rt, alloc, line, &trace, &told)?, "at {line}");
+        }
     }
     Ok(())
 }
