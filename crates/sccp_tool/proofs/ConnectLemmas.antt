@@ -82,22 +82,21 @@ as_verdict plan calling (verdicts.TooWide same) given = refl
 tells : (c : Contents) (name : List ℕ) (calling : Calling) (s : Status) (text : List ℕ) (taken taken' : Option (List ℕ)) → taken' ≡ append_known taken text → PlanEnds (Some c) name (Connected calling text) s → ReplayTells c name s taken taken'
 tells c name calling TooLong text taken taken' is (long h) = λ given. absurd given
 tells c name calling BadPlan text taken taken' is (bad h) = λ given. absurd given
-tells c name calling s text taken taken' is (good h) = λ given.
-    (
-      h.0,
-      h.1,
-      h.2,
-      (
-        h.3.0,
-        h.3.1,
-        record {
-          verdict = h.3.2.verdict;
-          lawful = h.3.2.lawful;
-          status = h.3.2.status;
-          text = is ∙ ap (λ t. append_known taken t) (h.3.2.whole ∙ as_verdict h.3.0 calling h.3.2.verdict (subst IsOnRefusal h.3.2.status given));
-        },
-      ),
-    )
+tells c name calling s text taken taken' is (good h) = λ given. (
+  h.0,
+  h.1,
+  h.2,
+  (
+    h.3.0,
+    h.3.1,
+    record {
+      verdict = h.3.2.verdict;
+      lawful = h.3.2.lawful;
+      status = h.3.2.status;
+      text = is ∙ ap (λ t. append_known taken t) (h.3.2.whole ∙ as_verdict h.3.0 calling h.3.2.verdict (subst IsOnRefusal h.3.2.status given));
+    },
+  ),
+)
 
 pub connect_causes : (name : List ℕ) (calling : Calling) → Causes (Some (Connect name calling))
 connect_causes name calling = record {

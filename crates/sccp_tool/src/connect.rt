@@ -198,12 +198,7 @@ fn connect_text(alloc: Global, plan: Plan, calling: &Calling) -> Result<Octets, 
 }
 
 /// What comes of the connection.
-fn call_text(
-    alloc: Global,
-    plan: Plan,
-    node: u8,
-    calling: &Calling,
-) -> Result<Octets, OutOfMemory>
+fn call_text(alloc: Global, plan: Plan, node: u8, calling: &Calling) -> Result<Octets, OutOfMemory>
     requires { node < length plan.nodes }
     ensures { IfOk result (λ text. text ≡ call_text plan node calling.now) }
 {
@@ -213,12 +208,7 @@ fn call_text(
 }
 
 /// The connection that is asked for.
-fn call_of(
-    alloc: Global,
-    plan: &Plan,
-    node: u8,
-    calling: &Calling,
-) -> Result<Call, OutOfMemory>
+fn call_of(alloc: Global, plan: &Plan, node: u8, calling: &Calling) -> Result<Call, OutOfMemory>
     requires { node < length plan.now.nodes }
     ensures { IfOk result (λ call. call ≡ call_of plan.now node calling.now) }
 {
