@@ -62,4 +62,5 @@ def main():
                 print("  " + measure(folder, *words))
 
 
-main()
+if __name__ == "__main__":
+    main()

@@ -2,9 +2,10 @@
 """A second maker of what `load` has to print, written from the rules of the generator alone, and how fast the built program is.
 
 Run from anywhere:
-  bench/load.py NUMBER SIZE             prints the four lines that `load NUMBER SIZE 1` has to print
+  bench/load.py NUMBER SIZE             prints the four lines that `load NUMBER SIZE WORKERS` has to print
   bench/load.py --trace NUMBER SIZE PLAN TRACE    writes the plan and the trace that the load stands for, to be replayed
-  bench/load.py [PROGRAM]               compares the program's lines with these, for drawn numbers, and measures it
+  bench/load.py [PROGRAM]               compares the program's lines with these, for drawn numbers, by one worker and by a
+                                        drawn number of workers, and measures it
 
 It builds nothing: run ./sccp once before. Walks are made over the written targets, with what each relay has lost.
 """
@@ -94,22 +95,24 @@ def write_trace(number, size, plan, trace):
             made.write(f"msg n0 3-0-1 {octets.hex().upper()}\n")
 
 
-def load(program, number, size):
-    return subprocess.run([program, "load", str(number), str(size), "1"], capture_output=True, text=True, check=True).stdout
+def load(program, number, size, workers):
+    return subprocess.run([program, "load", str(number), str(size), str(workers)], capture_output=True, text=True, check=True).stdout
 
 
 def measure(program):
     draw = random.Random(1)
     for number, size in [(0, 0), (0, 1), (7, 63), (7, 64), (7, 65)] + [(draw.randrange(2 ** 32), draw.randrange(20_000)) for _ in range(20)]:
-        assert load(program, number, size) == counts(number, size), (number, size)
-    print("25 loads print what the second maker makes")
-    for size in [1_000, 10_000, 100_000]:
+        made = counts(number, size)
+        for workers in (1, draw.randint(2, 16)):
+            assert load(program, number, size, workers) == made, (number, size, workers)
+    print("25 loads print what the second maker makes, by one worker and by several")
+    for size, workers in [(1_000, 1), (10_000, 1)] + [(100_000, workers) for workers in (1, 2, 4, 16)]:
         times = []
         for _ in range(9):
             start = time.monotonic()
-            load(program, 7, size)
+            load(program, 7, size, workers)
             times.append(time.monotonic() - start)
-        print(f"load 7 {size} 1: best {min(times) * 1000:.0f} ms of nine, worst {max(times) * 1000:.0f} ms")
+        print(f"load 7 {size} {workers}: best {min(times) * 1000:.0f} ms of nine, worst {max(times) * 1000:.0f} ms")
 
 
 if __name__ == "__main__":

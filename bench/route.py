@@ -83,4 +83,5 @@ def main():
                   f"peak so far {peak:.1f} MB, {done.stdout.decode().strip()}")
 
 
-main()
+if __name__ == "__main__":
+    main()

@@ -95,4 +95,5 @@ def main():
                   f"{seconds * 1000:.1f} ms, {messages / seconds:,.0f} messages a second, peak {peak:.1f} MB")
 
 
-main()
+if __name__ == "__main__":
+    main()

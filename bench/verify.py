@@ -67,4 +67,5 @@ def main():
                   f"{seconds * 1000:.1f} ms, peak {peak:.1f} MB")
 
 
-main()
+if __name__ == "__main__":
+    main()

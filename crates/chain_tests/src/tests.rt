@@ -1,4 +1,7 @@
 //! Connections over two relays at 1-0-2 and 1-0-3, from an end at 1-0-1 to one at 2-0-1.
+mod chain_of_sixteen;
+mod lines;
+
 use chain_world::World;
 use couple_chain::{Delivered, OfferFault};
 use plan_text::read;
@@ -16,6 +19,7 @@ fn point_name(point: PointCode) -> &'static str {
     match point.value() {
         2049 => "1-0-1",
         2051 => "1-0-3",
+        2052 => "1-0-4",
         4097 => "2-0-1",
         _ => "another point",
     }
@@ -73,6 +77,19 @@ fn settle(alloc: Global, world: &mut World, text: &mut String) -> Result<(), Fai
     Err("a world that is settled")?
 }
 
+/// The fault of an offer.
+fn refused(
+    world: &mut World,
+    from: PointCode,
+    to: PointCode,
+    message: &Message,
+) -> Option<OfferFault> {
+    match world.offer(from, to, message) {
+        Ok(()) => None,
+        Err(fault) => Some(fault),
+    }
+}
+
 /// What an offer answers.
 fn offer(
     alloc: Global,
@@ -81,12 +98,11 @@ fn offer(
     to: &str,
     octets: &str,
 ) -> Result<Option<OfferFault>, Fail> {
+    let from = point(from)?;
+    let to = point(to)?;
     let octets = hex::decode(alloc, octets)?;
     let message = decode(alloc, &octets)?;
-    match world.offer(point(from)?, point(to)?, &message) {
-        Ok(()) => Ok(None),
-        Err(fault) => Ok(Some(fault)),
-    }
+    Ok(refused(world, from, to, &message))
 }
 
 /// What comes of an offer: its fault, or what ends are handed.
@@ -227,19 +243,32 @@ fn data_of_size(alloc: Global, size: u32) -> Result<Message, Fail> {
     })
 }
 
-fn offer_data(alloc: Global, size: u32) -> Result<&'static str, Fail> {
-    let mut world = new_world(alloc)?;
-    let message = data_of_size(alloc, size)?;
-    match world.offer(point("1-0-1")?, point("1-0-2")?, &message) {
-        Ok(()) => Ok("accepted"),
-        Err(fault) => Ok(fault_name(fault)),
+/// The name of an offer's fault.
+fn said(fault: Option<OfferFault>) -> &'static str {
+    match fault {
+        Some(fault) => fault_name(fault),
+        None => "accepted",
     }
+}
+
+/// What comes of the offer of a DT1 of so many octets.
+fn offer_data(alloc: Global, world: &mut World, size: u32) -> Result<&'static str, Fail> {
+    let from = point("1-0-1")?;
+    let to = point("1-0-2")?;
+    let message = data_of_size(alloc, size)?;
+    Ok(said(refused(world, from, to, &message)))
+}
+
+/// The same in a new world.
+fn offer_first(alloc: Global, size: u32) -> Result<&'static str, Fail> {
+    let mut world = new_world(alloc)?;
+    offer_data(alloc, &mut world, size)
 }
 
 /// 255 octets are the most that a DT1 has.
 #[test]
 fn data_that_are_too_long(rt: HostRuntime) -> Result<(), Fail> {
-    assert_eq!(rt; offer_data(rt.alloc(), 255)?, "accepted");
-    assert_eq!(rt; offer_data(rt.alloc(), 256)?, "not writable");
+    assert_eq!(rt; offer_first(rt.alloc(), 255)?, "accepted");
+    assert_eq!(rt; offer_first(rt.alloc(), 256)?, "not writable");
     Ok(())
 }

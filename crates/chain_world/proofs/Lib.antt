@@ -5,3 +5,7 @@ pub mod Nodes
 pub mod Happens
 pub mod Asked
 pub mod Readable
+pub mod Legs
+pub mod Staging
+pub mod Follow
+pub mod Lined

@@ -3,3 +3,4 @@ pub mod Links
 pub mod Answering
 pub mod Offering
 pub mod Running
+pub mod Staged

@@ -10,9 +10,14 @@
 mod answering;
 mod asking;
 mod laws;
+mod line;
+mod lines;
 mod link;
 mod offering;
+mod pieces;
+mod stage;
 mod world;
 
 pub use laws::offers_are_of_the_message;
+pub use line::{Line, Piece};
 pub use world::World;

@@ -1,5 +1,5 @@
 //! The links of a running world: what was put on them, and how much of it they have delivered.
-ghost use Rattle.std.specs.Prelude.{◌≡◌, ◌<◌, ◌+◌, ℕ, List, [], ◌∷◌, ◌++◌, length, position, slice_get, None, OnOk, OnErr};
+ghost use Rattle.std.specs.Prelude.{◌≡◌, ◌<◌, ◌+◌, ℕ, List, [], ◌∷◌, ◌++◌, length, position, slice_get, take, None, OnOk, OnErr};
 ghost use Rattle.std.specs.Option.{option_copied};
 ghost use Rattle.chain_world.specs.Links.{is_link, octets_on, gone_from, with_at};
 
@@ -134,5 +134,26 @@ pub(crate) fn pass(links: &mut Vec<Link>, from: PointCode, to: PointCode)
 {
     if let Some(place) = place_of(links.as_slice(), from, to) {
         pass_one(&mut links[place]);
+    }
+}
+
+/// What a link has delivered.
+fn gone_of(link: &Link) -> &[Octets]
+    ensures { result.now ≡ take link.now.gone link.now.octets.items }
+{
+    if link.gone < link.octets.len() {
+        &link.octets[..link.gone]
+    } else {
+        link.octets.as_slice()
+    }
+}
+
+/// What the link between two points has delivered.
+pub(crate) fn delivered(links: &[Link], from: PointCode, to: PointCode) -> &[Octets]
+    ensures { result.now ≡ take (gone_from links.now from to) (octets_on links.now from to) }
+{
+    match place_of(links, from, to) {
+        Some(place) => gone_of(&links[place]),
+        None => &[],
     }
 }

@@ -1,4 +1,4 @@
-ghost use Rattle.std.specs.Prelude.{◌≡◌, ◌↔◌, ◌<◌, [], ◌∷◌, ◌++◌, ℕ, false, true, None, Some, List, map, length, position, ⊤, IfOk, IfErr, IfNone, IfSome, OnOk, OnErr};
+ghost use Rattle.std.specs.Prelude.{◌≡◌, ◌↔◌, ◌<◌, [], ◌∷◌, ◌++◌, ℕ, false, true, None, Some, List, All, map, length, position, ⊤, IfOk, IfErr, IfNone, IfSome, OnOk, OnErr, option_map};
 ghost use Rattle.std.specs.Bool.{MatchBool};
 ghost use Rattle.std.specs.List.{range_with_len};
 ghost use Rattle.sccp_base.specs.Answers.{Answers};
@@ -12,16 +12,20 @@ ghost use Rattle.couple_chain.specs.Relays.{first_relay};
 ghost use Rattle.couple_chain.specs.World.{is_node, name_of, uses_again, offer_fault, delivery, IsNextLink};
 ghost use Rattle.chain_world.specs.Kept.{kept, network_of, world_of};
 ghost use Rattle.chain_world.specs.Offering.{as_read, fault_of, fault_of_read, early_fault, answer_by, is_memory};
-ghost use Rattle.couple_chain.specs.Line.{is_fresh, IsSettled};
+ghost use Rattle.couple_chain.specs.Line.{line, is_fresh, IsFresh, IsSettled, IsInOrder, IsThrough};
+ghost use Rattle.chain_world.specs.Staged.{told_line};
 ghost use Rattle.chain_world.specs.Running.{oldest_of, sections_of};
 
 use crate::answering::take_in;
 use crate::asking::{are_fresh, are_idle, least, sections_in};
+use crate::line::Line;
+use crate::lines::line_along;
 use crate::link::{Link, oldest, pass, put};
 use crate::offering::{is_used, name_of, octets_of, read, read_again};
+use crate::stage::{first_stage, follow};
 use couple_chain::{Delivered, Happening, OfferFault, Relay};
 use plan_model::Plan;
-use sccp_base::{Octets, OutOfMemory, PointCode};
+use sccp_base::{Octets, OutOfMemory, PointCode, Reference};
 use sccp_couple::{is_connection, vouch_short};
 use sccp_message::Message as Signal;
 use std::alloc::Global;
@@ -335,5 +339,36 @@ impl World {
         ensures settled { IsSettled (world_of self.now) → result ≡ None }
     {
         least(self.links.as_slice())
+    }
+
+    /// The line of a connection from an end's point and the reference that it gave; `None` exactly where the line doesn't stand.
+    ///
+    /// What came out of it is the beginning of what went in, both ways, where no relay gave one own reference twice; where no
+    /// link holds a message either, it is the whole.
+    pub fn line(&self, point: PointCode, reference: Reference) -> Result<Option<Line>, OutOfMemory>
+        ensures line { IfOk result (λ l. option_map (told_line self.now.plan) l ≡ line (network_of self.now.plan) (world_of self.now) point reference) }
+        ensures inside { IfOk result (λ l. IfSome l (λ x. All (λ node. node < length self.now.plan.nodes) x.path)) }
+        ensures order { IsFresh (network_of self.now.plan) (world_of self.now) → IfOk result (λ l. IfSome l (λ x. IsInOrder (told_line self.now.plan x))) }
+        ensures all { IsFresh (network_of self.now.plan) (world_of self.now) → IsSettled (world_of self.now) → IfOk result (λ l. IfSome l (λ x. IsThrough (told_line self.now.plan x))) }
+    {
+        if self.is_node(point) {
+            return Ok(None);
+        }
+        let relays = self.relays.as_slice();
+        let Some(first) = first_stage(relays, point, reference) else {
+            return Ok(None);
+        };
+        let Some(path) = follow(self.alloc, &self.plan, relays, 15, &first)? else {
+            return Ok(None);
+        };
+        let links = self.links.as_slice();
+        line_along(
+            self.alloc,
+            &self.plan,
+            relays,
+            links,
+            point,
+            path.as_slice(),
+        )
     }
 }

@@ -1,5 +1,7 @@
 mod Growing
 mod Faultless
 mod LaidOut
+mod Parting
+mod Passing
 mod Sending
 mod Worked

@@ -18,7 +18,7 @@ use Rattle.relay_net.specs.declared.happening.Happening.{Happening}
 use Rattle.relay_net.specs.declared.happening.Happening.TheVariants.{Managed}
 use Rattle.relay_net.specs.declared.travelled.Journey.{Journey}
 use Rattle.made_load.specs.Draws.{after, drawn}
-use Rattle.made_load.specs.Loads.{Load, IsAfter, IsRoomy, counted, with_fate, drawn_relay, drawn_point, turn, turned, before_message, sent, all_sent, begun, load_counts}
+use Rattle.made_load.specs.Loads.{Load, IsAfter, IsRoomy, counted, with_fate, drawn_relay, drawn_point, turn, turned, before_message, sent, all_sent, begun}
 use Rattle.made_load.specs.Messages.{made_octets, origin}
 use Rattle.made_load.specs.Relays.{load_plan}
 use Rattle.made_load.specs.Fates.{fate_of}
@@ -55,6 +55,12 @@ applied_length plan states node what = by (slice_get states node) where
   by : (o : Option State) → length (applied_at plan states node what o).states ≡ length states
   by None = refl
   by (Some s) = length-set states node (happened plan node s what).state
+
+pub prepared_states : (plan : Network) (place : ℕ) (l : Load) → length (before_message plan place l).states ≡ length l.states
+prepared_states plan place l = by (place % 64 == 63) where
+  by : (due : Bool) → length (cond due (record l { at = after l.at; states = turned plan l.states (drawn l.at) }) l).states ≡ length l.states
+  by true = applied_length plan l.states (drawn_relay (drawn l.at)) (Managed (turn l.states (drawn_relay (drawn l.at)) (drawn_point (drawn l.at))))
+  by false = refl
 
 prepared : (plan : Network) (place : ℕ) (l : Load) → IsAfter place l → IsAfter place (before_message plan place l)
 prepared plan place l is = by (place % 64 == 63) where
@@ -107,27 +113,35 @@ begun_after number plan many = record { states = first_length 0 plan.nodes ∙ m
 -- ---- all of them
 
 -- what is still to be sent from a place on leaves what all messages leave
-pub record StillLeads (plan : Network) (number size place : ℕ) (l : Load) : Type 0 where
-  pub whole : all_sent plan (size - place) place l ≡ all_sent plan size 0 (begun number plan)
+pub record StillSends (plan : Network) (from upto place : ℕ) (first l : Load) : Type 0 where
+  pub whole : all_sent plan (upto - place) place l ≡ all_sent plan (upto - from) from first
   pub after : IsAfter place l
 
-pub starts : (plan : Network) (number size : ℕ) (l : Load) → plan ≡ load_plan number → l ≡ begun number plan → StillLeads plan number size 0 l
-starts plan number size l own same = record {
-  whole = let none : size - 0 ≡ size = omega arith in ap (λ n. all_sent plan n 0 l) none ∙ ap (λ k. all_sent plan size 0 k) same;
-  after = subst (IsAfter 0) (sym same) (begun_after number plan (of_eight plan number own));
-}
+pub starts : (plan : Network) (from upto : ℕ) (first : Load) → IsAfter from first → StillSends plan from upto from first first
+starts plan from upto first is = record { whole = refl; after = is }
 
-pub goes_on : (plan : Network) (number size place : ℕ) (l ready now : Load) → place < size → ready ≡ before_message plan place l → now ≡ sent plan place ready → StillLeads plan number size place l → StillLeads plan number size (place + 1) now
-goes_on plan number size place l ready now lt prepares sends so_far =
+pub goes_on : (plan : Network) (from upto place : ℕ) (first l ready now : Load) → place < upto → ready ≡ before_message plan place l → now ≡ sent plan place ready → StillSends plan from upto place first l → StillSends plan from upto (place + 1) first now
+goes_on plan from upto place first l ready now lt prepares sends so_far =
     let next : now ≡ sent plan place (before_message plan place l) = sends ∙ ap (λ k. sent plan place k) prepares in
-    let one : size - place ≡ suc (size - (place + 1)) = omega (arith, lt) in
+    let one : upto - place ≡ suc (upto - (place + 1)) = omega (arith, lt) in
     record {
-      whole = ap (λ k. all_sent plan (size - (place + 1)) (place + 1) k) next ∙ sym (ap (λ n. all_sent plan n place l) one) ∙ so_far.whole;
+      whole = ap (λ k. all_sent plan (upto - (place + 1)) (place + 1) k) next ∙ sym (ap (λ n. all_sent plan n place l) one) ∙ so_far.whole;
       after = subst (IsAfter (place + 1)) (sym next) (one_sent plan place (before_message plan place l) (prepared plan place l so_far.after));
     }
 
-pub ends : (plan : Network) (number size place : ℕ) (l : Load) → plan ≡ load_plan number → size ≤ place → StillLeads plan number size place l → l.counts ≡ load_counts number size
-unfolding load_counts
-ends plan number size place l own le so_far =
-    let none : size - place ≡ 0 = omega (arith, le) in
-    ap (λ (k : Load). k.counts) (sym (ap (λ n. all_sent plan n place l) none) ∙ so_far.whole) ∙ ap (λ p. (all_sent p size 0 (begun number p)).counts) own
+pub ends : (plan : Network) (from upto place : ℕ) (first l : Load) → upto ≤ place → StillSends plan from upto place first l → l ≡ all_sent plan (upto - from) from first
+ends plan from upto place first l le so_far =
+    let none : upto - place ≡ 0 = omega (arith, le) in
+    sym (ap (λ n. all_sent plan n place l) none) ∙ so_far.whole
+
+-- what all leave that are sent from a place on
+pub all_after : (plan : Network) (count place : ℕ) (l : Load) → IsAfter place l → IsAfter (place + count) (all_sent plan count place l)
+all_after plan zero place l is = subst (λ n. IsAfter n l) (omega arith) is
+all_after plan (suc count) place l is =
+    subst (λ n. IsAfter n (all_sent plan count (place + 1) (sent plan place (before_message plan place l)))) (omega arith)
+    (all_after plan count (place + 1) (sent plan place (before_message plan place l)) (one_sent plan place (before_message plan place l) (prepared plan place l is)))
+
+-- where a load stands before the message at a place
+pub stands_after : (plan : Network) (number place : ℕ) → plan ≡ load_plan number → IsAfter place (all_sent plan place 0 (begun number plan))
+stands_after plan number place own =
+    subst (λ n. IsAfter n (all_sent plan place 0 (begun number plan))) (omega arith) (all_after plan place 0 (begun number plan) (begun_after number plan (of_eight plan number own)))

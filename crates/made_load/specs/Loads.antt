@@ -1,5 +1,5 @@
 -- What becomes of the messages that are made from a number.
-use Rattle.std.specs.Prelude.{ℕ, zero, suc, ◌≡◌, ◌≤◌, ◌<◌, ◌+◌, ◌*◌, ◌/◌, ◌%◌, ◌^◌, ◌==◌, List, length, if◌then◌else◌}
+use Rattle.std.specs.Prelude.{ℕ, zero, suc, ◌≡◌, ◌≤◌, ◌<◌, ◌+◌, ◌-◌, ◌*◌, ◌/◌, ◌%◌, ◌^◌, ◌==◌, List, length, if◌then◌else◌}
 use Rattle.sccp_base.specs.Marks.{holds}
 use Rattle.sccp_base.specs.declared.mark.Mark.TheVariants.{PointCode}
 use Rattle.sccp_manage.specs.declared.event.Event.{Event}
@@ -93,3 +93,35 @@ pub record IsAfter (count : ℕ) (l : Load) : Type 0 where
   pub ended : l.counts.ended ≤ count
   pub returned : l.counts.returned ≤ count
   pub translations : l.counts.translations ≤ 15 * count
+
+-- ---- in parts
+
+-- its ten digits are drawn, and it isn't sent
+abbrev pub passed : Load → Load
+passed l = record l { at = after_digits 10 l.at }
+
+-- so many messages, from a place on, aren't sent: relays lose and find destinations, and digits are drawn
+abbrev pub all_passed : Network → ℕ → ℕ → Load → Load
+all_passed plan zero i l = l
+all_passed plan (suc left) i l = all_passed plan left (i + 1) (passed (before_message plan i l))
+
+-- the counts of so many messages from a place on
+abbrev pub part_counts : ℕ → ℕ → ℕ → Counts
+part_counts number from count =
+    (all_sent (load_plan number) count from (all_passed (load_plan number) from 0 (begun number (load_plan number)))).counts
+
+abbrev pub plus : Counts → Counts → Counts
+plus c d = record {
+  messages = c.messages + d.messages;
+  ended = c.ended + d.ended;
+  returned = c.returned + d.returned;
+  translations = c.translations + d.translations;
+}
+
+-- the place at which a part begins, of so many that are about equal
+abbrev pub beginning : ℕ → ℕ → ℕ → ℕ
+beginning size parts part = size * part / parts
+
+abbrev pub counts_of_part : ℕ → ℕ → ℕ → ℕ → Counts
+counts_of_part number size parts part =
+    part_counts number (beginning size parts part) (beginning size parts (part + 1) - beginning size parts part)

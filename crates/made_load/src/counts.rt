@@ -13,7 +13,7 @@ pub struct Counts {
 }
 
 impl Counts {
-    ghost use Rattle.made_load.specs.Loads.{no_counts, with_message, IsRoomy};
+    ghost use Rattle.made_load.specs.Loads.{no_counts, plus, with_message, IsRoomy};
 
     /// Before the first message.
     pub(crate) fn none() -> Counts
@@ -40,5 +40,16 @@ impl Counts {
             Fate::Returned => self.returned += 1,
             Fate::Other => {}
         }
+    }
+
+    /// The counts of further messages.
+    pub(crate) fn join(&mut self, more: &Counts)
+        requires room { IsRoomy (plus self.old more.now) }
+        ensures { self.new ≡ plus self.old more.now }
+    {
+        self.messages += more.messages;
+        self.ended += more.ended;
+        self.returned += more.returned;
+        self.translations += more.translations;
     }
 }

@@ -1,6 +1,6 @@
 //! Numbers that follow one from the other.
 ghost use Rattle.std.specs.Prelude.{◌≡◌, ◌<◌};
-ghost use Rattle.made_load.specs.Draws.{after, drawn, digit, pair};
+ghost use Rattle.made_load.specs.Draws.{after, after_digits, drawn, digit, pair};
 
 use std::marker::Model;
 
@@ -53,5 +53,14 @@ impl Draws {
         let low = self.digit();
         let high = self.digit();
         low + 16 * high
+    }
+
+    /// Ten digits are drawn and not looked at.
+    pub(crate) fn pass(&mut self)
+        ensures { self.new ≡ after_digits 10 self.old }
+    {
+        for _turn in 0..10_u32 {
+            self.draw();
+        }
     }
 }

@@ -2,6 +2,7 @@
 //!
 //! The layer above may rely on this: the same number gives the same plan and the same messages, and the four counts are those of
 //! the journeys of exactly these messages, with relays that lose and find destinations on the way (ITU-T Q.714 sections 2 and 5).
+//! They are so however many workers send them.
 #![tactic(auto)]
 
 mod counts;
@@ -9,9 +10,10 @@ mod draws;
 mod fate;
 mod load;
 mod messages;
+mod parts;
 mod relays;
 mod rows;
 
 pub use counts::Counts;
-pub use load::load_counts;
+pub use parts::load_counts;
 pub use relays::load_plan;

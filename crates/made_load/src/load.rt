@@ -1,9 +1,9 @@
 //! Messages that are made and sent one after the other.
-ghost use Rattle.std.specs.Prelude.{◌≡◌, ◌<◌, ◌+◌, ◌^◌, length, IfOk, OnOk};
+ghost use Rattle.std.specs.Prelude.{◌≡◌, ◌<◌, ◌+◌, ◌-◌, ◌^◌, length, IfOk, OnOk};
 ghost use Rattle.relay_net.specs.Journeys.{held_at, journey};
 ghost use Rattle.relay_net.specs.States.{markings_of};
 ghost use Rattle.made_load.specs.Relays.{load_plan};
-ghost use Rattle.made_load.specs.Loads.{begun, before_message, counted, load_counts, sent, turn, turned, IsAfter, IsRoomy};
+ghost use Rattle.made_load.specs.Loads.{all_passed, all_sent, before_message, begun, counted, part_counts, sent, turn, turned, IsAfter, IsRoomy};
 ghost use Rattle.made_load.specs.Messages.{origin};
 ghost use Rattle.made_load.specs.Draws.{after, drawn};
 
@@ -121,23 +121,53 @@ impl Load {
         let octets = made_octets(place, &mut self.draws);
         carry(alloc, accepted, &self.net, &octets, &mut self.counts)
     }
+
+    /// The messages from a place up to another are made and sent. Each is made when it is sent, and not kept.
+    fn send_all(
+        &mut self,
+        alloc: Global,
+        accepted: &Accepted,
+        from: u32,
+        upto: u32,
+    ) -> Result<(), OutOfMemory>
+        requires nodes { length accepted.now.plan.nodes ≡ 8 }
+        requires after { IsAfter from self.old }
+        ensures { OnOk result (self.new ≡ all_sent accepted.now.plan (upto - from) from self.old) }
+    {
+        for place in from..upto {
+            self.prepare(accepted.plan(), place)?;
+            self.send(alloc, accepted, place)?;
+        }
+        Ok(())
+    }
+
+    /// The messages up to a place aren't sent.
+    fn pass_all(&mut self, plan: &Plan, upto: u32) -> Result<(), OutOfMemory>
+        requires nodes { length plan.now.nodes ≡ 8 }
+        requires states { length self.old.states ≡ 8 }
+        ensures { OnOk result (self.new ≡ all_passed plan.now upto 0 self.old) }
+    {
+        for place in 0..upto {
+            self.prepare(plan, place)?;
+            self.draws.pass();
+        }
+        Ok(())
+    }
 }
 
-/// The counts of so many messages over the relays of an accepted plan, which is the number's. Each message is made when it is
-/// sent, and not kept.
-pub fn load_counts(
+/// The counts of the messages from a place up to another, over the relays of an accepted plan, which is the number's.
+pub(crate) fn part_counts(
     alloc: Global,
     accepted: &Accepted,
     number: u32,
-    size: u32,
+    from: u32,
+    upto: u32,
 ) -> Result<Counts, OutOfMemory>
     requires { accepted.now.plan ≡ load_plan number }
-    ensures { IfOk result (λ counts. counts ≡ load_counts number size) }
+    ensures { IfOk result (λ counts. counts ≡ part_counts number from (upto - from)) }
 {
     let mut load = Load::begin(alloc, number, accepted.plan())?;
-    for place in 0..size {
-        load.prepare(accepted.plan(), place)?;
-        load.send(alloc, accepted, place)?;
-    }
+    load.pass_all(accepted.plan(), from)?;
+    load.send_all(alloc, accepted, from, upto)?;
     Ok(load.counts)
 }

@@ -47,6 +47,13 @@ impl Accepted {
         &self.plan
     }
 
+    /// The plan that was checked, which its verdict leaves.
+    pub fn into_plan(self) -> Plan
+        ensures { result ≡ self.plan }
+    {
+        self.plan
+    }
+
     /// The most hops that a covered title's route has, from 1 to 14.
     pub fn bound(&self) -> u8
         ensures value { result ≡ self.now.bound }

@@ -1,6 +1,6 @@
 -- The command that makes a plan and messages from a number, and counts what becomes of the messages.
-use Rattle.std.specs.Prelude.{ℕ, ◌==◌, Bool, false, nat_le, List, [], ◌∷◌, ◌++◌, codes, Option, Some, None, option_and_then, if◌then◌else◌}
-use Rattle.std.specs.Option.{option_map_or}
+use Rattle.std.specs.Prelude.{ℕ, nat_le, List, [], ◌∷◌, ◌++◌, codes, Option, Some, None, option_and_then, if◌then◌else◌}
+use Rattle.std.specs.Option.{option_map}
 use Rattle.sccp_base.specs.Text.{decimal_of}
 use Rattle.plan_verify.specs.declared.verdict.Verdict.{Verdict}
 use Rattle.plan_verify.specs.declared.verdict.Verdict.TheVariants as verdicts
@@ -9,6 +9,7 @@ use Rattle.made_load.specs.Relays.{load_plan}
 use Rattle.made_load.specs.declared.counts.Counts.{Counts}
 use Rattle.sccp_report.specs.Values.{numbered}
 use Rattle.sccp_report.specs.Verdicts.{verdict_text}
+use Rattle.sccp_tool.specs.Replay.{workers_in}
 use Rattle.sccp_tool.specs.ReplayEnds.{IsOnRefusal}
 use Rattle.sccp_tool.specs.Task.{Task, Load}
 use Rattle.sccp_tool.specs.Verify.{status_of, IsSafe, IsBad, IsWide, Tells}
@@ -20,14 +21,10 @@ use Rattle.sccp_tool.specs.declared.status.Status.TheVariants.{Done, Refused, To
 abbrev pub number_to : ℕ → List ℕ → Option ℕ
 number_to most word = option_and_then (λ n. if nat_le n most then Some n else None) (decimal_of 10 word)
 
--- one to ten decimal digits that spell 1
-abbrev pub is_one : List ℕ → Bool
-is_one word = option_map_or (λ workers. workers == 1) (decimal_of 10 word) false
-
--- a number of 32 bits, how many messages, and the number of workers: one carries out a load
+-- a number of 32 bits, how many messages, and the number of workers
 unfoldable pub load_of : List ℕ → List ℕ → List ℕ → Option Task
 load_of number size workers =
-    option_and_then (λ n. option_and_then (λ s. if is_one workers then Some (Load n s 1) else None) (number_to 100000 size)) (number_to 4294967295 number)
+    option_and_then (λ n. option_and_then (λ s. option_map (λ w. Load n s w) (workers_in workers)) (number_to 100000 size)) (number_to 4294967295 number)
 
 -- NUMBER SIZE WORKERS
 unfoldable pub load_words : List (List ℕ) → Option Task

@@ -31,8 +31,8 @@ pub enum Command<'a> {
     Route(&'a str, Start),
     /// To replay the trace of the second file under the plan of the first one, with so many workers.
     Replay(&'a str, &'a str, Workers),
-    /// To make a plan and so many messages from a number, and to count what becomes of them.
-    Load(u32, u32),
+    /// To make a plan and so many messages from a number, and to count what becomes of them, with so many workers.
+    Load(u32, u32, Workers),
     /// To show every cut of the message of these octets.
     Cuts(Octets),
     /// To make a trace of the second file under the plan of the first one.

@@ -7,7 +7,7 @@ ghost use Rattle.plan_verify.specs.Lawful.{IsLawful, plan_of};
 ghost use Rattle.sccp_io.specs.Files.{Contents};
 ghost use Rattle.sccp_tool.specs.Commands.{texts};
 ghost use Rattle.sccp_tool.specs.Ending.{Works};
-ghost use Rattle.sccp_tool.specs.Load.{count_line, counts_text, is_one, load_of, load_text, load_words, load_work, number_to};
+ghost use Rattle.sccp_tool.specs.Load.{count_line, counts_text, load_of, load_text, load_words, load_work, number_to};
 ghost use Rattle.sccp_tool.specs.Parsed.{task_in};
 ghost use Rattle.sccp_tool.specs.Verify.{status_of};
 ghost use Rattle.sccp_tool.specs.Writing.{Writes};
@@ -16,6 +16,7 @@ use crate::command::Command;
 use crate::status::Status;
 use crate::stop::Stop;
 use crate::verify::tell_verdict;
+use crate::workers::Workers;
 use crate::writing::print_last;
 use made_load::{Counts, load_counts, load_plan};
 use plan_check::Accepted;
@@ -24,6 +25,7 @@ use sccp_base::{Octets, OutOfMemory, decimal};
 use sccp_io::Sink;
 use sccp_report::Text;
 use std::alloc::Global;
+use std::thread::Threads;
 
 /// Its words: `NUMBER SIZE WORKERS`.
 #[tactic(auto, unfolding(crate::specs::Load::load_words))]
@@ -43,20 +45,9 @@ fn load_of<'a>(number: &str, size: &str, workers: &str) -> Option<Command<'a>>
 {
     let number = number_to(number.as_bytes(), u32::MAX)?;
     let size = number_to(size.as_bytes(), 100_000)?;
-    if is_one(workers.as_bytes()) {
-        Some(Command::Load(number, size))
-    } else {
-        None
-    }
-}
-
-/// One to ten decimal digits that spell 1.
-fn is_one(word: &[u8]) -> bool
-    ensures { result ≡ is_one word.now }
-{
-    match decimal(word, 10) {
-        Some(value) => value == 1,
-        None => false,
+    match Workers::parse(workers.as_bytes()) {
+        Some(workers) => Some(Command::Load(number, size, workers)),
+        None => None,
     }
 }
 
@@ -76,24 +67,33 @@ fn number_to(word: &[u8], most: u32) -> Option<u32>
     }
 }
 
-/// Makes the plan of a number, sends so many messages over its relays where it is accepted, and prints the counts. It comes
-/// to no file, so the clause speaks of whatever the files tell.
-pub fn load<K: Sink>(alloc: Global, number: u32, size: u32, out: &mut K) -> Result<Status, Stop>
+/// Makes the plan of a number, sends so many messages over its relays where it is accepted, and prints the counts, which are
+/// the same for each number of workers. It comes to no file, so the clause speaks of whatever the files tell.
+pub fn load<R: Threads + Sync, K: Sink>(
+    rt: &R,
+    alloc: Global,
+    number: u32,
+    size: u32,
+    workers: &Workers,
+    out: &mut K,
+) -> Result<Status, Stop>
     ensures { (contents : Option Contents) (sound : Bool) (faults : ℕ) → Works (load_work number size) result
         (record { contents = contents; sound = sound; read_faults = faults; taken = K.taken out.old; write_faults = K.faults out.old })
         (record { contents = contents; sound = sound; read_faults = faults; taken = K.taken out.new; write_faults = K.faults out.new }) }
 {
     let plan = load_plan(alloc, number)?;
     let verdict = plan_verify::verify(alloc, plan)?;
-    load_judged(alloc, &verdict, number, size, out)
+    load_judged(rt, alloc, &verdict, number, size, workers, out)
 }
 
 /// What follows the verdict on the plan.
-fn load_judged<K: Sink>(
+fn load_judged<R: Threads + Sync, K: Sink>(
+    rt: &R,
     alloc: Global,
     verdict: &Verdict,
     number: u32,
     size: u32,
+    workers: &Workers,
     out: &mut K,
 ) -> Result<Status, Stop>
     requires same { plan_of verdict.now ≡ load_plan number }
@@ -103,25 +103,29 @@ fn load_judged<K: Sink>(
     ensures answer { IfOk result (λ s. s ≡ status_of verdict.now) }
 {
     match verdict {
-        Verdict::Accepted(accepted) => load_accepted(alloc, accepted, number, size, out),
+        Verdict::Accepted(accepted) => {
+            load_accepted(rt, alloc, accepted, number, size, workers, out)
+        }
         Verdict::Refused(_, _) => tell_verdict(alloc, verdict, out),
         Verdict::TooWide(_) => tell_verdict(alloc, verdict, out),
     }
 }
 
 /// The plan was accepted: the messages are sent, and the counts printed.
-fn load_accepted<K: Sink>(
+fn load_accepted<R: Threads + Sync, K: Sink>(
+    rt: &R,
     alloc: Global,
     accepted: &Accepted,
     number: u32,
     size: u32,
+    workers: &Workers,
     out: &mut K,
 ) -> Result<Status, Stop>
     requires { accepted.now.plan ≡ load_plan number }
     ensures text { Writes (counts_text (load_counts number size)) result (K.taken out.old) (K.taken out.new) (K.faults out.old) (K.faults out.new) }
     ensures answer { IfOk result (λ s. s ≡ Status.Done) }
 {
-    let counts = load_counts(alloc, accepted, number, size)?;
+    let counts = load_counts(rt, alloc, accepted, number, size, workers.count())?;
     let text = counts_text(alloc, &counts)?;
     print_last(out, text.as_slice(), Status::Done)
 }

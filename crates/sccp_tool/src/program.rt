@@ -176,7 +176,7 @@ fn obey<R: Threads + Wait + Sync, G: Gate + Sync, F: Files, K: Sink>(
         Command::Replay(plan, trace, workers) => {
             replay(rt, gate, alloc, plan, trace, workers, files, out)
         }
-        Command::Load(number, size) => load(alloc, *number, *size, out),
+        Command::Load(number, size, workers) => load(rt, alloc, *number, *size, workers, out),
         Command::Cuts(octets) => cuts(alloc, octets.as_slice(), out),
         Command::Import(plan, file) => import(alloc, plan, file, files, out),
         Command::Change(old, new) => change(alloc, old, new, files, out),

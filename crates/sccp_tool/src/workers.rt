@@ -3,7 +3,7 @@ ghost use Rattle.sccp_tool.specs.Replay.{workers_in};
 
 use sccp_base::decimal;
 
-/// How many workers route the messages of a replay.
+/// How many workers route the messages of a replay or a load.
 #[derive(Drop)]
 pub struct Workers {
     count: u32,

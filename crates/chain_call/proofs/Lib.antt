@@ -1,0 +1,4 @@
+pub mod NextLink
+pub mod Offered
+pub mod Turns
+mod Rows

@@ -1,0 +1,4 @@
+pub mod Notes
+pub mod Course
+pub mod Links
+pub mod Steps

@@ -1,0 +1,17 @@
+use sccp_base::{Digits, Octets, PointCode, Selector};
+
+/// A connection that an end asks for, and what it is to carry.
+#[derive(Drop)]
+pub struct Call {
+    /// The point of the end that requests the connection.
+    pub from: PointCode,
+    /// The point of the relay that it sends the request to.
+    pub entry: PointCode,
+    /// The title that is called: its selector, and its digits. One of kind 2 has an even number of them.
+    pub selector: Selector,
+    pub digits: Digits,
+    /// The subsystem number that is called, where there is one.
+    pub ssn: Option<u8>,
+    /// What is sent over the connection, one octet in each data message.
+    pub octets: Octets,
+}

@@ -1,0 +1,267 @@
+//! The lines of connections: what went in at an end, and what the other one was handed.
+use super::chain_of_sixteen::CHAIN_OF_SIXTEEN;
+use super::{deliver, fault_name, offer, point, point_name, settle};
+use chain_world::{Line, Piece, World};
+use plan_text::read;
+use sample_plans::ROAMING;
+use sccp_base::Reference;
+use std::alloc::Global;
+use std::test::Fail;
+
+/// What is done with a world.
+#[derive(Clone, Copy)]
+enum Turn {
+    /// An end offers octets to a relay, and then links deliver until none holds a message.
+    Sends(&'static str, &'static str, &'static str),
+    /// An end offers octets to a relay.
+    Offers(&'static str, &'static str, &'static str),
+    /// A link delivers its oldest message.
+    Delivers(&'static str, &'static str),
+    /// The line from an end's point and the reference that it gave is asked for.
+    Line(&'static str, u32),
+}
+
+/// Pieces, each behind a sign that more follow or that none do.
+fn put_pieces(alloc: Global, text: &mut String, name: &str, pieces: &[Piece]) -> Result<(), Fail> {
+    text.push_str(name)?;
+    for piece in pieces {
+        text.push(if piece.more { '+' } else { '.' })?;
+        text.push_str(&hex::encode_upper(alloc, piece.payload.as_slice())?)?;
+    }
+    Ok(())
+}
+
+/// The relays of a line by their places, its far end, and what came out of what went in, both ways.
+fn put_line(alloc: Global, text: &mut String, line: &Line) -> Result<(), Fail> {
+    text.push_str(&hex::encode_upper(alloc, line.path.as_slice())?)?;
+    text.push(' ')?;
+    text.push_str(point_name(line.far))?;
+    put_pieces(alloc, text, " forth ", line.forth_out.as_slice())?;
+    put_pieces(alloc, text, " of ", line.forth_in.as_slice())?;
+    put_pieces(alloc, text, " back ", line.back_out.as_slice())?;
+    put_pieces(alloc, text, " of ", line.back_in.as_slice())?;
+    Ok(())
+}
+
+fn ask(
+    alloc: Global,
+    world: &World,
+    text: &mut String,
+    from: &str,
+    reference: u32,
+) -> Result<(), Fail> {
+    let reference = Reference::new(reference).ok_or("a reference")?;
+    match world.line(point(from)?, reference)? {
+        Some(line) => put_line(alloc, text, &line),
+        None => Ok(text.push_str("none")?),
+    }
+}
+
+/// What an offer comes to: its fault, or nothing.
+fn put_offer(
+    alloc: Global,
+    world: &mut World,
+    text: &mut String,
+    from: &str,
+    to: &str,
+    octets: &str,
+) -> Result<(), Fail> {
+    match offer(alloc, world, from, to, octets)? {
+        Some(fault) => Ok(text.push_str(fault_name(fault))?),
+        None => Ok(()),
+    }
+}
+
+/// What is told of one turn.
+fn put_turn(alloc: Global, world: &mut World, text: &mut String, turn: &Turn) -> Result<(), Fail> {
+    match turn {
+        Turn::Sends(from, to, octets) => {
+            put_offer(alloc, world, text, from, to, octets)?;
+            settle(alloc, world, text)
+        }
+        Turn::Offers(from, to, octets) => put_offer(alloc, world, text, from, to, octets),
+        Turn::Delivers(from, to) => deliver(alloc, world, text, point(from)?, point(to)?),
+        Turn::Line(from, reference) => ask(alloc, world, text, from, *reference),
+    }
+}
+
+fn is_told(alloc: Global, world: &mut World, turn: &Turn, told: &str) -> Result<bool, Fail> {
+    let mut text = String::new(alloc);
+    put_turn(alloc, world, &mut text, turn)?;
+    Ok(text.as_str() == told)
+}
+
+/// The place of the first turn of which something else is told.
+fn first_other(
+    alloc: Global,
+    world: &mut World,
+    turns: &[(Turn, &str)],
+) -> Result<Option<usize>, Fail> {
+    for (place, turn) in turns.iter().enumerate() {
+        if !is_told(alloc, world, &turn.0, turn.1)? {
+            return Ok(Some(place));
+        }
+    }
+    Ok(None)
+}
+
+/// The same of a new world of a plan's relays.
+fn other_turn(alloc: Global, plan: &str, turns: &[(Turn, &str)]) -> Result<Option<usize>, Fail> {
+    let plan = read(alloc, plan.as_bytes())?;
+    let mut world = World::new(alloc, plan)?;
+    first_other(alloc, &mut world, turns)
+}
+
+/// There is no line before both sections of each pair have a remote, nor from a relay's point; then it has what went over it,
+/// both ways, with M; and none after the release.
+#[test]
+fn a_line_has_what_went_over_it(rt: HostRuntime) -> Result<(), Fail> {
+    let turns: [(Turn, &str); 12] = [
+        (
+            Turn::Sends(
+                "1-0-1",
+                "1-0-2",
+                "0101000002020D0B120600120494710100002111010F00",
+            ),
+            "2-0-1 0102000002020D0B520600110310170000100211010D00",
+        ),
+        (Turn::Line("1-0-1", 1), "none"),
+        (
+            Turn::Sends("2-0-1", "1-0-3", "020200000200000200"),
+            "1-0-1 020100000100000200",
+        ),
+        (Turn::Line("1-0-1", 1), "0001 2-0-1 forth  of  back  of "),
+        (Turn::Line("1-0-2", 1), "none"),
+        (
+            Turn::Sends("1-0-1", "1-0-2", "0601000001010141"),
+            "2-0-1 0602000001010141",
+        ),
+        (
+            Turn::Sends("1-0-1", "1-0-2", "0601000000010142"),
+            "2-0-1 0602000000010142",
+        ),
+        (
+            Turn::Sends("2-0-1", "1-0-3", "0602000000010143"),
+            "1-0-1 0601000000010143",
+        ),
+        (
+            Turn::Line("1-0-1", 1),
+            "0001 2-0-1 forth +41.42 of +41.42 back .43 of .43",
+        ),
+        (
+            Turn::Sends("1-0-1", "1-0-2", "040100000100000000"),
+            "1-0-1 05010000010000 2-0-1 040200000200000000",
+        ),
+        (Turn::Sends("2-0-1", "1-0-3", "05020000020000"), ""),
+        (Turn::Line("1-0-1", 1), "none"),
+    ];
+    assert_eq!(rt; other_turn(rt.alloc(), ROAMING, &turns)?, None);
+    Ok(())
+}
+
+/// What waits on a link has entered the line, and hasn't come out of it.
+#[test]
+fn what_comes_out_is_the_beginning(rt: HostRuntime) -> Result<(), Fail> {
+    let turns: [(Turn, &str); 12] = [
+        (
+            Turn::Sends("1-0-1", "1-0-2", "010100000202000B1206001204947101000021"),
+            "2-0-1 010200000202000B5206001103101700001002",
+        ),
+        (
+            Turn::Sends("2-0-1", "1-0-3", "020200000200000200"),
+            "1-0-1 020100000100000200",
+        ),
+        (Turn::Offers("1-0-1", "1-0-2", "0601000001010141"), ""),
+        (Turn::Offers("1-0-1", "1-0-2", "0601000000010142"), ""),
+        (Turn::Line("1-0-1", 1), "0001 2-0-1 forth  of  back  of "),
+        (Turn::Delivers("1-0-1", "1-0-2"), ""),
+        (Turn::Delivers("1-0-1", "1-0-2"), ""),
+        (Turn::Delivers("1-0-2", "1-0-3"), ""),
+        (
+            Turn::Line("1-0-1", 1),
+            "0001 2-0-1 forth  of +41.42 back  of ",
+        ),
+        (Turn::Delivers("1-0-3", "2-0-1"), "2-0-1 0602000001010141"),
+        (Turn::Delivers("1-0-3", "2-0-1"), ""),
+        (
+            Turn::Line("1-0-1", 1),
+            "0001 2-0-1 forth +41 of +41.42 back  of ",
+        ),
+    ];
+    assert_eq!(rt; other_turn(rt.alloc(), ROAMING, &turns)?, None);
+    Ok(())
+}
+
+/// Two ends' connections over the same relays, whose links are delivered in turn: each line has its own.
+#[test]
+fn each_line_has_its_own(rt: HostRuntime) -> Result<(), Fail> {
+    let turns: [(Turn, &str); 12] = [
+        (
+            Turn::Sends("1-0-1", "1-0-2", "010100000202000B1206001204947101000021"),
+            "2-0-1 010200000202000B5206001103101700001002",
+        ),
+        (
+            Turn::Sends("1-0-4", "1-0-2", "010100000202000B1206001204947101000021"),
+            "2-0-1 010400000202000B5206001103101700001002",
+        ),
+        (
+            Turn::Sends("2-0-1", "1-0-3", "020400000300000200"),
+            "1-0-4 020100000300000200",
+        ),
+        (
+            Turn::Sends("2-0-1", "1-0-3", "020200000200000200"),
+            "1-0-1 020100000100000200",
+        ),
+        (Turn::Offers("1-0-1", "1-0-2", "0601000000010141"), ""),
+        (Turn::Offers("1-0-4", "1-0-2", "0603000000010151"), ""),
+        (Turn::Delivers("1-0-4", "1-0-2"), ""),
+        (Turn::Delivers("1-0-1", "1-0-2"), ""),
+        (Turn::Delivers("1-0-2", "1-0-3"), ""),
+        (Turn::Delivers("1-0-3", "2-0-1"), "2-0-1 0603000000010151"),
+        (Turn::Line("1-0-1", 1), "0001 2-0-1 forth  of .41 back  of "),
+        (
+            Turn::Line("1-0-4", 1),
+            "0001 2-0-1 forth .51 of .51 back  of ",
+        ),
+    ];
+    assert_eq!(rt; other_turn(rt.alloc(), ROAMING, &turns)?, None);
+    Ok(())
+}
+
+/// A line of fifteen pairs stands; over sixteen the data go on too, but no line stands.
+#[test]
+fn fifteen_pairs_at_most(rt: HostRuntime) -> Result<(), Fail> {
+    let turns: [(Turn, &str); 8] = [
+        (
+            Turn::Sends("1-0-1", "3-1-0", "010100000202000B1206001204947101000021"),
+            "2-0-1 010200000202000B5206001204947101000021",
+        ),
+        (
+            Turn::Sends("2-0-1", "3-15-0", "020200000200000200"),
+            "1-0-1 020100000100000200",
+        ),
+        (
+            Turn::Sends("1-0-1", "3-1-0", "0601000001010141"),
+            "2-0-1 0602000001010141",
+        ),
+        (
+            Turn::Line("1-0-1", 1),
+            "0102030405060708090A0B0C0D0E0F 2-0-1 forth +41 of +41 back  of ",
+        ),
+        (
+            Turn::Sends("1-0-4", "3-0-0", "010100000202000B1206001204947101000021"),
+            "2-0-1 010400000202000B5206001204947101000021",
+        ),
+        (
+            Turn::Sends("2-0-1", "3-15-0", "020400000300000200"),
+            "1-0-4 020100000100000200",
+        ),
+        (
+            Turn::Sends("1-0-4", "3-0-0", "0601000000010151"),
+            "2-0-1 0603000000010151",
+        ),
+        (Turn::Line("1-0-4", 1), "none"),
+    ];
+    assert_eq!(rt; other_turn(rt.alloc(), CHAIN_OF_SIXTEEN, &turns)?, None);
+    Ok(())
+}

@@ -1,0 +1,180 @@
+//! The pairs that a connection goes through, as running relays find them: by their sections alone.
+ghost use Rattle.std.specs.Prelude.{◌≡◌, ◌<◌, ◌≤◌, find, length, position, IfOk, IfSome};
+ghost use Rattle.std.specs.Option.{option_copied};
+ghost use Rattle.sccp_couple.specs.Sections.{is_that, is_near_of, section_at};
+ghost use Rattle.plan_model.specs.Network.{has_point};
+ghost use Rattle.sccp_scrc.specs.Arriving.{point_of};
+ghost use Rattle.chain_world.specs.Staged.{stage_of, sections_at, first_in, joined_to, next_in, is_open, stages_from};
+
+use couple_chain::Relay;
+use plan_model::Plan;
+use sccp_base::{List, OutOfMemory, PointCode, Reference};
+use sccp_couple::Section;
+use std::alloc::Global;
+
+/// A standing pair of a relay: the relay's place in the plan, and the two sections.
+#[derive(Clone, Copy)]
+pub(crate) struct Stage {
+    pub(crate) node: u8,
+    pub(crate) near: Section,
+    pub(crate) far: Section,
+}
+
+/// Where the near section with this point and remote is.
+fn near_at(sections: &[Section], point: PointCode, remote: Reference) -> Option<&Section>
+    ensures { option_copied result ≡ find (is_near_of point remote) sections.now }
+{
+    sections
+        .iter()
+        .find(|s| s.near && s.point == point && s.remote == Some(remote))
+}
+
+/// The near section with this point and remote.
+fn near_of(sections: &[Section], point: PointCode, remote: Reference) -> Option<Section>
+    ensures { result ≡ find (is_near_of point remote) sections.now }
+{
+    match near_at(sections, point, remote) {
+        Some(section) => Some(*section),
+        None => None,
+    }
+}
+
+/// Where the section with an own reference is.
+fn found_at(sections: &[Section], own: Reference) -> Option<&Section>
+    ensures { option_copied result ≡ section_at sections.now own }
+{
+    sections.iter().find(|s| s.own == own)
+}
+
+/// The section with an own reference.
+fn section_at(sections: &[Section], own: Reference) -> Option<Section>
+    ensures { result ≡ section_at sections.now own }
+{
+    match found_at(sections, own) {
+        Some(section) => Some(*section),
+        None => None,
+    }
+}
+
+/// The pair of these sections whose near one has this point and remote.
+fn stage_in(sections: &[Section], node: u8, point: PointCode, remote: Reference) -> Option<Stage>
+    ensures value { result ≡ stage_of sections.now node point remote }
+    ensures node { IfSome result (λ stage. stage.node ≡ node) }
+{
+    let near = near_of(sections, point, remote)?;
+    let other = near.other?;
+    let far = section_at(sections, other)?;
+    Some(Stage { node, near, far })
+}
+
+/// The same at a relay.
+fn stage_at(relays: &[Relay], node: u8, point: PointCode, remote: Reference) -> Option<Stage>
+    requires { node < length relays.now }
+    ensures value { result ≡ stage_of (sections_at relays.now node) node point remote }
+    ensures node { IfSome result (λ stage. stage.node ≡ node) }
+{
+    let relay = &relays[usize::from(node)];
+    stage_in(relay.sections().as_slice(), node, point, remote)
+}
+
+/// The same at the first relay that has one.
+pub(crate) fn first_stage(relays: &[Relay], point: PointCode, remote: Reference) -> Option<Stage>
+    requires { length relays.now ≤ 64 }
+    ensures { result ≡ first_in 0 relays.now point remote }
+{
+    for (i, relay) in relays.iter().enumerate() {
+        if let Some(stage) = stage_in(relay.sections().as_slice(), i as u8, point, remote) {
+            return Some(stage);
+        }
+    }
+    None
+}
+
+/// Whether both sections have a remote.
+fn is_open(stage: &Stage) -> bool
+    ensures { result ≡ is_open stage.now }
+{
+    stage.near.remote.is_some() && stage.far.remote.is_some()
+}
+
+/// The point of a node.
+pub(crate) fn point_at(plan: &Plan, node: u8) -> PointCode
+    requires { node < length plan.now.nodes }
+    ensures { result ≡ point_of plan.now node }
+{
+    plan.nodes().as_slice()[usize::from(node)].pc
+}
+
+/// The node that a pair's far section has as its point.
+fn node_behind(plan: &Plan, stage: &Stage) -> Option<u8>
+    ensures { result ≡ position (has_point stage.now.far.point) plan.now.nodes }
+{
+    let point = stage.far.point;
+    plan.node_at(point)
+}
+
+/// Whether the near section's own reference of one pair is the remote of another one's far section.
+fn is_joined(stage: &Stage, next: &Stage) -> bool
+    ensures { result ≡ is_that stage.now.far.remote next.now.near.own }
+{
+    match stage.far.remote {
+        Some(remote) => remote == next.near.own,
+        None => false,
+    }
+}
+
+/// The pair, where its near section's own reference is the remote of another one's far section.
+fn joined_to(stage: &Stage, next: Stage) -> Option<Stage>
+    ensures value { result ≡ joined_to stage.now next }
+    ensures node { IfSome result (λ joined. joined.node ≡ next.node) }
+{
+    if is_joined(stage, &next) {
+        Some(next)
+    } else {
+        None
+    }
+}
+
+/// The pair behind one: of the relay that its far section has as its point, the one whose near section has this relay's point
+/// and the far section's own reference, where the far section's remote is that near section's own.
+fn next_stage(plan: &Plan, relays: &[Relay], stage: &Stage, node: u8) -> Option<Stage>
+    requires inside { stage.now.node < length plan.now.nodes }
+    requires node { node < length relays.now }
+    ensures value { result ≡ next_in plan.now relays.now stage.now node }
+    ensures node { IfSome result (λ next. next.node ≡ node) }
+{
+    let point = point_at(plan, stage.node);
+    let own = stage.far.own;
+    let next = stage_at(relays, node, point, own)?;
+    joined_to(stage, next)
+}
+
+/// The pairs from one on, at most as many as the number: all with both remotes, and behind the last one an end.
+pub(crate) fn follow(
+    alloc: Global,
+    plan: &Plan,
+    relays: &[Relay],
+    most: u8,
+    first: &Stage,
+) -> Result<Option<List<Stage>>, OutOfMemory>
+    requires count { length relays.now ≡ length plan.now.nodes }
+    requires inside { first.now.node < length plan.now.nodes }
+    ensures { IfOk result (λ stages. stages ≡ stages_from plan.now relays.now most first.now) }
+{
+    let mut path = List::new(alloc);
+    let mut stage = *first;
+    for _turn in 0..most {
+        if !is_open(&stage) {
+            return Ok(None);
+        }
+        path.push(stage)?;
+        let Some(node) = node_behind(plan, &stage) else {
+            return Ok(Some(path));
+        };
+        let Some(next) = next_stage(plan, relays, &stage, node) else {
+            return Ok(None);
+        };
+        stage = next;
+    }
+    Ok(None)
+}
