@@ -267,10 +267,10 @@ joined_has_parts l p of_type fits named =
       params = params_here l p fits named;
     }
 
-abbrev some : Layout → Option Layout
+abbrev pub some : Layout → Option Layout
 some l = Some l
 
-same_layout : (l m : Layout) → some l ≡ some m → l ≡ m
+pub same_layout : (l m : Layout) → some l ≡ some m → l ≡ m
 same_layout l m e = cc
 
 unless_ok : (o : Option JoinFault) (x w : List ℕ) → unless o x ≡ Ok w → x ≡ w

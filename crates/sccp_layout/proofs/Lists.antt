@@ -74,10 +74,10 @@ list_again (q ∷ qs) (suc most) b p rest lt e named =
     let later : listed_below most b (p + 2 + length q.octets) ≡ Some qs = list_again qs most b (p + 2 + length q.octets) rest (omega arith) next named.1 in
     one most b p s.inside ∙ rw (s.is, ne_eqb q.name 0 named.0, read, later) refl
 
-abbrev listing : List Parameter → Option (List Parameter)
+abbrev pub listing : List Parameter → Option (List Parameter)
 listing x = Some x
 
-list_is : (x y : List Parameter) → listing x ≡ listing y → x ≡ y
+pub list_is : (x y : List Parameter) → listing x ≡ listing y → x ≡ y
 list_is x y e = cc
 
 ended : (b : List ℕ) (p : ℕ) (params : List Parameter) → p < length b → get_or b p 0 ≡ 0 → [] ≡ params → BeginsWithList (drop p b) params
