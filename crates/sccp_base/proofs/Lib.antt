@@ -1,5 +1,6 @@
 pub mod AllOk
 pub mod Among
+pub mod Cases
 pub mod Halves
 pub mod Inserted
 pub mod LaidOut

@@ -1,10 +1,11 @@
 -- A list of parameters that is read stands there, and one that stands there is read.
-use Rattle.std.proofs.Common.{◌≡◌, ◌≢◌, ℕ, zero, suc, ◌+◌, ◌-◌, ◌<◌, Bool, true, false, cond, leb, eqb, List, [], ◌∷◌, ◌++◌, length, get_or, take, drop, Option, Some, None, refl, sym, ap, subst, ◌∙◌, append_assoc, arith, inl, inr, ◌⊎◌}
+use Rattle.std.proofs.Common.{◌≡◌, ◌≢◌, ℕ, zero, suc, ◌+◌, ◌-◌, ◌<◌, true, false, leb, eqb, List, [], ◌∷◌, ◌++◌, length, get_or, take, drop, Option, Some, None, refl, sym, ap, subst, ◌∙◌, append_assoc, arith, inl, inr}
 use Rattle.std.specs.Prelude.{option_map, option_and_then, slice_range}
 use Rattle.std.specs.List.{flat_map, AllByRecursion}
 use Rattle.std.proofs.lemmas.Bool.{cases_lt, le-leb, leb-true, ne_eqb, eqb-true, eqb-false}
 use Rattle.std.proofs.lemmas.List.{length-append, length-drop, length-take, get_or-drop, drop-drop, take_at, drop_at, take-append-drop}
 use Rattle.std.proofs.Math.Seq.{drop-cons}
+use Rattle.sccp_base.proofs.Cases.{chosen}
 use Rattle.sccp_layout.specs.Parameter.{Parameter, parameter}
 use Rattle.sccp_layout.specs.Places.{contents, listed_below}
 use Rattle.sccp_layout.specs.Joining.{spelled_parameter}
@@ -34,10 +35,6 @@ contents_again b q octets more e =
 
 abbrev some : List ℕ → Option (List ℕ)
 some x = Some x
-
-chosen : {A : Type 0} (b : Bool) (x y z : A) → cond b x y ≡ z → ((b ≡ true) × (x ≡ z)) ⊎ ((b ≡ false) × (y ≡ z))
-chosen true x y z e = inl (refl, e)
-chosen false x y z e = inr (refl, e)
 
 some_is : (x y : List ℕ) → some x ≡ some y → x ≡ y
 some_is x y e = cc
