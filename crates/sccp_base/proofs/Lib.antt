@@ -8,3 +8,4 @@ pub mod MarkPlaces
 pub mod NameLaidOut
 pub mod NameTexts
 pub mod Prefix
+pub mod Selectors

@@ -7,6 +7,7 @@ use Rattle.sccp_base.specs.Bcd.{packed}
 use Rattle.sccp_base.specs.Selector.{Numbers, IsSelector}
 use Rattle.sccp_base.proofs.Among.{Among, All-among, position-None, list_any-none, Among-slice_get}
 use Rattle.sccp_base.proofs.Prefix.{fits-starts_with}
+use Rattle.sccp_base.proofs.Selectors.{same_selector-≡}
 use Rattle.sccp_address.specs.declared.address.Address.{Address}
 use Rattle.sccp_address.specs.declared.address.Title.TheVariants.{Global}
 use Rattle.sccp_address.specs.Written.{flag, heading, written, IsAddress}
@@ -16,7 +17,6 @@ use Rattle.plan_rules.specs.declared.target.Target.TheVariants.{Relay}
 use Rattle.plan_rules.specs.Rows.{has_selector, takes_ssn}
 use Rattle.plan_rules.specs.Tables.{IsTable, IsRule, strips_too_long, makes_odd}
 use Rattle.plan_rules.specs.Target.{ssn_of, strips_more, target_makes_odd, IsTarget}
-use Rattle.plan_rules.proofs.TitleParts.{same_selector-≡}
 use Rattle.plan_model.specs.declared.node.Node.{Node}
 use Rattle.plan_model.specs.declared.spot.Spot.{Spot}
 use Rattle.plan_model.specs.Network.{Network, IsPlan, IsNode, IsSubsystem, NamesSubsystems}
