@@ -1,14 +1,14 @@
 -- What a relay sends for a message that it can handle is again such a message.
-use Rattle.std.specs.Prelude.{ℕ, ◌≡◌, ◌<◌, ◌==◌, nat_lt, Bool, true, false, not, cond, ◌&&◌, List, [], ◌∷◌, ◌++◌, length, find, Option, Some, None, is_none, option_map, IfSome, unwrap_or, Ok, refl}
+use Rattle.std.specs.Prelude.{ℕ, ◌≡◌, ◌==◌, nat_lt, Bool, true, false, not, cond, ◌&&◌, List, [], ◌∷◌, ◌++◌, length, find, Option, Some, None, is_none, option_map, Ok, refl}
 use Rattle.std.specs.List.{list_any, AllByRecursion}
-use Rattle.std.proofs.Common.{sym, ◌∙◌, ap, subst, arith}
+use Rattle.std.proofs.Common.{sym, ◌∙◌, ap, subst}
 use Rattle.std.proofs.lemmas.Bool.{eqb-true}
 use Rattle.sccp_base.specs.Bits.{bits}
 use Rattle.sccp_base.specs.Marks.{holds}
 use Rattle.sccp_base.specs.declared.mark.Mark.{Mark}
 use Rattle.sccp_base.specs.declared.mark.Mark.TheVariants.{Subsystem}
 use Rattle.sccp_address.specs.declared.address.Address.{Address}
-use Rattle.sccp_address.specs.Written.{IsAddress, IsTitle}
+use Rattle.sccp_address.specs.Written.{IsAddress}
 use Rattle.sccp_layout.specs.Joining.{are_short}
 use Rattle.sccp_layout.specs.Parameter.{Parameter, parameter}
 use Rattle.sccp_layout.specs.Table as names
@@ -26,7 +26,7 @@ use Rattle.plan_model.proofs.Leading.{Facts, step_facts}
 use Rattle.sccp_scrc.specs.Arriving.{point_of, subsystems_of}
 use Rattle.sccp_scrc.specs.Rewriting.{spot_of, to_place}
 use Rattle.sccp_scrc.proofs.Addresses.{IsSpot, IsSpot-sent, IsAddress-relay, IsAddress-place}
-use Rattle.sccp_scrc.proofs.Arrivals.{spot_title, ended_ssn}
+use Rattle.sccp_scrc.proofs.Arrivals.{is_spot, ended_ssn}
 use Rattle.sccp_scrc.proofs.Redirected.{reads_again}
 use Rattle.sccp_couple.specs.declared.section.Section.{Section}
 use Rattle.sccp_couple.specs.declared.way.Way.{Way}
@@ -103,16 +103,6 @@ either : (b : Bool) (v w : Way) → FitsOn v → FitsOn w → FitsOn (cond b v w
 either true v w h k = h
 either false v w h k = k
 
-spot_fits : (node : ℕ) (a : Address) (s : Spot) → IsAddress a → spot_of node a ≡ Some s → IsSpot s
-spot_fits node a s h e =
-    let t = spot_title node a s e in
-    let title = subst IsTitle t.0 h.title in
-    record { selector = title.0; few = title.1; halves = title.2; even = title.3; ssn = subst (λ (n : ℕ). n < 256) t.1 (fits a.ssn h.ssn) }
-  where
-    fits : (o : Option ℕ) → IfSome o (λ n. n < 256) → unwrap_or o 0 < 256
-    fits None k = omega arith
-    fits (Some n) k = k
-
 subsystem_fits : (plan : Network) (node : ℕ) (marking : List Mark) (o : Option ℕ) → FitsOn (at_subsystem plan node marking o)
 subsystem_fits plan node marking None = tt
 subsystem_fits plan node marking (Some ssn) =
@@ -129,7 +119,7 @@ after_fits plan node marking called params s steps.Overgrown is h k spot facts =
 
 title_fits : (plan : Network) (node : ℕ) (marking : List Mark) (called : Address) (params : List Parameter) (o : Option Spot) → spot_of node called ≡ o → IsPlan plan → IsAddress called → AreFitParams params → FitsOn (translated plan node marking called params o)
 title_fits plan node marking called params None e is h k = tt
-title_fits plan node marking called params (Some s) e is h k = after_fits plan node marking called params s (step plan s marking) is h k (spot_fits node called s h e) (step_facts plan is s marking)
+title_fits plan node marking called params (Some s) e is h k = after_fits plan node marking called params s (step plan s marking) is h k (is_spot node called s h e) (step_facts plan is s marking)
 
 request_fits : (plan : Network) (node : ℕ) (marking : List Mark) (class : ℕ) (called : Address) (params : List Parameter) → IsPlan plan → IsAddress called → AreFitParams params → FitsOn (request_way plan node marking class called params)
 request_fits plan node marking class called params is h k =

@@ -10,7 +10,7 @@ use Rattle.couple_chain.specs.declared.passed.Passed.{Passed}
 use Rattle.couple_chain.specs.Line.{both_of, given}
 use Rattle.couple_chain.specs.Logged.{IsLogged, log_after}
 use Rattle.couple_chain.specs.Relays.{Relaying, first_relay, relay_after, relay_run}
-use Rattle.couple_chain.proofs.Ledgers.{carried_near, carried_far}
+use Rattle.sccp_couple.proofs.Ledger.{carried_near, carried_far}
 use Rattle.couple_chain.proofs.Logs.{logged_after}
 
 -- a relay's notes are those of a moment

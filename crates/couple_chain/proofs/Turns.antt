@@ -14,6 +14,7 @@ use Rattle.sccp_couple.specs.declared.way.Way.TheVariants.{Refused, Onward}
 use Rattle.sccp_couple.specs.Events.{Event, Answer, Outcome, data_of}
 use Rattle.sccp_couple.specs.Coupling.{coupled, on_request, request_goes, on_confirm, on_refusal, on_data, on_release, release, on_complete, toward, to_remote, to_one, only_sends}
 use Rattle.sccp_couple.specs.Invariant.{IsCoupling}
+use Rattle.sccp_couple.proofs.Changes.{is_none_true}
 use Rattle.sccp_couple.proofs.Lookups.{option_cases, own_at, without_cases, changed_cases}
 use Rattle.couple_chain.proofs.Counts.{Each, Each-append, answers}
 
@@ -104,10 +105,6 @@ no_answer h = cc
 at_known : (l : List Section) (origin dlr : ℕ) (s : Section) → section_at l dlr ≡ Some s → s.point ≡ origin → known l origin dlr ≡ Some s
 at_known l origin dlr s h k = ap (λ (o : Option Section). option_and_then (if_from origin) o) h ∙ ap (λ (b : Bool). cond b (Some s) None) (eq-eqb s.point origin k)
 
-none_of : (o : Option ℕ) → is_none o ≡ true → o ≡ None
-none_of None h = refl
-none_of (Some n) h = absurd (cc)
-
 request_turn : (l : List Section) (origin slr class : ℕ) (called : Address) (params : List Parameter) (way : Way) →
     TurnOf l (record { origin = origin; message = messages.Cr slr class called params; way = way }) (on_request l origin slr class way)
 request_turn l origin slr class called params (Refused cause) =
@@ -136,7 +133,7 @@ confirm_turn l c origin way dlr slr class params (Some s) h back =
     elim (not s.near && is_none s.remote) as (λ b. (not s.near && is_none s.remote) ≡ b → TurnOf l event (cond b (record { sections = changed (confirmed slr) s.own l; sent = sent }) (only_sends l (cond (is_that s.remote slr) [] (to_one origin (messages.Err slr 1)))))) [
       | true ↦ λ e.
           let parts = and_parts (not s.near) (is_none s.remote) e in
-          let none : s.remote ≡ None = none_of s.remote parts.1 in
+          let none : s.remote ≡ None = is_none_true s.remote parts.1 in
           ⊎_elim
           (λ (alone : s.other ≡ None). absurd (c.released_has_remote dlr s at.0 alone none))
           (λ (o : (o : ℕ) × (s.other ≡ Some o)).

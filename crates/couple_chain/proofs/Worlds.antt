@@ -2,7 +2,7 @@
 use Rattle.std.specs.Prelude.{ℕ, ◌≡◌, ◌≤◌, ◌==◌, ◌⊎◌, Bool, true, false, not, cond, ◌&&◌, ◌||◌, List, [], ◌∷◌, ◌++◌, length, filter, Option, Some, None, is_some, refl}
 use Rattle.std.specs.List.{list_any}
 use Rattle.std.proofs.Common.{sym, ◌∙◌, ap, subst, ⊎_elim, inl, inr, arith, append_assoc}
-use Rattle.std.proofs.lemmas.Bool.{cases_Bool, cases_eq, eq-eqb, eqb-true, ne_eqb, and_parts}
+use Rattle.std.proofs.lemmas.Bool.{not-false, cases_Bool, cases_eq, eq-eqb, eqb-true, ne_eqb, and_parts}
 use Rattle.std.proofs.lemmas.List.Elements.{All-nil}
 use Rattle.sccp_message.specs.declared.message.Message.{Message}
 use Rattle.sccp_message.specs.declared.message.Message.TheVariants as messages
@@ -220,14 +220,10 @@ none_by false false false true e h = absurd (cc)
 none_by false false false false true h = absurd (cc)
 none_by false false false false false h = (refl, refl, refl, refl, refl)
 
-not_false : (b : Bool) → not b ≡ false → b ≡ true
-not_false true h = refl
-not_false false h = absurd (cc)
-
 pub accepted_parts : (network : Network) (w : World) (from to : ℕ) (message : Message) → offer_fault network w from to message ≡ None → (is_node network from ≡ false) × (is_node network to ≡ true) × (uses_again network w from (name_of message) ≡ false)
 accepted_parts network w from to message h =
     let parts = none_by (is_node network from) (not (is_node network to)) (is_some (called_of message)) (uses_again network w from (name_of message)) (not (is_writable message)) h in
-    (parts.0, not_false (is_node network to) parts.1, parts.3)
+    (parts.0, not-false (is_node network to) parts.1, parts.3)
 
 -- what a message names
 pub name_is : (own : ℕ) (message : Message) → names own message ≡ true → name_of message ≡ Some own

@@ -8,6 +8,7 @@ use Rattle.sccp_base.specs.Bits.{bit, bits}
 use Rattle.sccp_address.specs.declared.address.Address.{Address}
 use Rattle.sccp_address.specs.Written.{flag}
 use Rattle.sccp_layout.specs.Parameter.{Parameter}
+use Rattle.sccp_message.proofs.Writing.{reference_again}
 use Rattle.sccp_segment.specs.declared.arrival.Arrival.{Arrival}
 use Rattle.sccp_segment.specs.declared.segment.Segment.{Segment}
 use Rattle.sccp_segment.specs.Segments.{arrival_of, segment_of, segmentation_octets}
@@ -17,9 +18,6 @@ use Rattle.sccp_segment.proofs.Cut.{cut_is_whole}
 use Rattle.sccp_segment.proofs.InTurn.{come_whole}
 use Rattle.long_segments.specs.Sending.{is_in_sequence, reference_of, segment_message, cut}
 use Rattle.long_segments.specs.Carried.{arrivals_in, segment_in, segments_in}
-
-reference_again : (n : ℕ) → n % 256 + 256 * (n / 256 % 256) + 65536 * (n / 65536) ≡ n
-reference_again n = omega arith
 
 -- ---- the first octet of the contents: two flags and a number of four bits
 

@@ -1,7 +1,6 @@
 -- Where a segment can be written, so can one with no more data.
-use Rattle.std.specs.Prelude.{◌≡◌, ℕ, ◌+◌, ◌-◌, ◌*◌, ◌<◌, ◌≤◌, ◌==◌, nat_le, nat_lt, Bool, true, false, cond, List, [], ◌∷◌, length, map, filter, not, drop, Option, Some, None, option_map, Result, Ok, Err, refl}
+use Rattle.std.specs.Prelude.{◌≡◌, ℕ, ◌+◌, ◌-◌, ◌*◌, ◌<◌, ◌≤◌, ◌==◌, nat_le, nat_lt, Bool, true, false, cond, List, [], ◌∷◌, length, map, filter, not, drop, Option, Some, None, Result, Ok, Err, refl}
 use Rattle.std.specs.List.{All, list_all, range_with_len}
-use Rattle.std.specs.Option.{option_or}
 use Rattle.std.proofs.Common.{zero, suc, sym, ap, subst, arith, get_or, length-take, length-drop}
 use Rattle.std.proofs.lemmas.Bool.{leb-true, le-leb}
 use Rattle.sccp_base.proofs.AllOk.{guard_ok}
@@ -9,8 +8,7 @@ use Rattle.sccp_address.specs.declared.address.Address.{Address}
 use Rattle.sccp_address.specs.Written.{written}
 use Rattle.sccp_layout.specs.Parameter.{Parameter}
 use Rattle.sccp_layout.specs.Table.{segmentation}
-use Rattle.sccp_layout.specs.declared.parts.JoinFault.{JoinFault}
-use Rattle.sccp_layout.specs.declared.parts.JoinFault.TheVariants.{TooLong, PointerTooFar}
+use Rattle.sccp_layout.proofs.Tests.{first_failed, none_failed, fault, none_of_both}
 use Rattle.sccp_message.specs.declared.message.Message.{Message}
 use Rattle.sccp_message.specs.declared.message.Message.TheVariants.{Ludt}
 use Rattle.sccp_message.specs.Fields.{param, reads_if}
@@ -22,10 +20,6 @@ use Rattle.sccp_segment.specs.Cutting.{piece, piece_count, pieces, segments, spl
 use Rattle.long_segments.specs.Sending.{segment_message, FirstTells}
 
 -- ---- tests of lengths and pointers, one after the other
-
--- the first of four tests that fails
-first_failed : Bool → Bool → Bool → Bool → Option ℕ
-first_failed a b c d = cond a (cond b (cond c (cond d None (Some 3)) (Some 2)) (Some 1)) (Some 0)
 
 passed : (b : Bool) (x : Option ℕ) (i : ℕ) → cond b x (Some i) ≡ None → (b ≡ true) × (x ≡ None)
 passed true x i e = (refl, e)
@@ -40,23 +34,11 @@ all_passed a b c d e =
     let s = passed d None 3 r.1 in
     (p.0, q.0, r.0, s.0)
 
-none_failed : (a b c d : Bool) → a ≡ true → b ≡ true → c ≡ true → d ≡ true → first_failed a b c d ≡ None
-unfolding first_failed
-none_failed a b c d p q r s = λ i. cond (p i) (cond (q i) (cond (r i) (cond (s i) None (Some 3)) (Some 2)) (Some 1)) (Some 0)
-
--- lengths, and then pointers
-fault : Option ℕ → Option ℕ → Option JoinFault
-fault x y = option_or (option_map TooLong x) (option_map PointerTooFar y)
-
 neither : (x y : Option ℕ) → fault x y ≡ None → (x ≡ None) × (y ≡ None)
 unfolding fault
 neither None None e = (refl, refl)
 neither None (Some y) e = absurd (cc)
 neither (Some x) y e = absurd (cc)
-
-none_of_both : (x y : Option ℕ) → x ≡ None → y ≡ None → fault x y ≡ None
-unfolding fault
-none_of_both x y p q = λ i. option_or (option_map TooLong (p i)) (option_map PointerTooFar (q i))
 
 no_more : (m n limit : ℕ) → m ≤ n → nat_le n limit ≡ true → nat_le m limit ≡ true
 no_more m n limit le e = le-leb m limit (omega (arith, le, leb-true n limit e))

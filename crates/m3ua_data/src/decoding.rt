@@ -1,8 +1,9 @@
 //! Reading a DATA message (RFC 4666 sections 1.3, 3.1 to 3.3.1).
 ghost use Rattle.std.specs.Prelude.{◌≡◌, ◌≤◌, ◌<◌, ◌^◌, length, List, Ok, ◌+◌, IfOk, IfErr, IfSome, ◌⊎◌, Some};
+ghost use Rattle.sccp_base.specs.Answers.{unless};
 ghost use Rattle.m3ua_data.specs.DataIs.{DataIs};
 ghost use Rattle.m3ua_data.specs.Fields.{field_fault};
-ghost use Rattle.m3ua_data.specs.Reading.{Gives, is_header, is_length, param_in, params_from, unless, reading, first_fault};
+ghost use Rattle.m3ua_data.specs.Reading.{Gives, is_header, is_length, param_in, params_from, reading, first_fault};
 ghost use Rattle.m3ua_data.specs.Parts.{tagged_at};
 ghost use Rattle.m3ua_data.specs.declared.tagged.Tagged.{Tagged};
 
@@ -89,7 +90,7 @@ fn params_of(alloc: Global, octets: &[u8], end: usize) -> Result<Params<Tagged>,
 // The message of parameters that were read, where their contents are sound.
 fn sound(params: Params<Tagged>) -> Result<Data, DataFault>
     requires { length params ≤ 1024 }
-    ensures { Gives (λ value. value) result (unless (field_fault params) params) }
+    ensures { Gives (λ value. value) result (unless (field_fault params) (Ok params)) }
 {
     match field_fault(params.as_slice()) {
         Some(fault) => Err(fault),

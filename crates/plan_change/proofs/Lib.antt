@@ -1,5 +1,4 @@
 pub mod Growing
-pub mod Crowded
 pub mod Onward
 pub mod SafeMixtures
 pub mod Starts

@@ -10,14 +10,17 @@ use Rattle.plan_model.specs.declared.spot.Spot.{Spot}
 use Rattle.plan_model.specs.declared.hop.Step.{Step}
 use Rattle.plan_model.specs.declared.hop.Step.TheVariants.{Sent, Ended, Blocked, NoRow, Overgrown}
 use Rattle.plan_model.specs.declared.hop.Hop.{Hop}
-use Rattle.plan_model.specs.Network.{Network, IsPlan, IsCover}
+use Rattle.plan_model.specs.Network.{Network, IsPlan}
 use Rattle.plan_model.specs.Next.{next_of}
 use Rattle.plan_model.specs.Steps.{step}
 use Rattle.plan_model.specs.Routes.{onward}
 use Rattle.plan_model.specs.Covered.{Covers, Covered}
 use Rattle.plan_model.specs.Verdicts.{last, MayEnd, HasSpot}
+use Rattle.plan_model.proofs.Spots.{cover_at}
+use Rattle.plan_model.proofs.Ways.{last-onward}
 use Rattle.plan_classes.specs.Titles.{Titles, HasTitle}
 use Rattle.plan_check.specs.Ranked.{Allows}
+use Rattle.plan_check.proofs.Soundness.{some_of}
 use Rattle.plan_mixed.specs.declared.which.Which.{Which}
 use Rattle.plan_mixed.specs.declared.which.Which.TheVariants.{Old, New}
 use Rattle.plan_model.specs.SameNodes.{SameNodes, without_rows}
@@ -53,10 +56,6 @@ beyond layers bound hop through le =
     (λ (lt : bound < hop). get_or_past layers hop [] (omega (arith, through.0)))
     (λ (ge : hop ≤ bound). ap (stops_at layers) (let e : hop ≡ bound = omega (arith, le, ge) in e) ∙ through.1)
     (cases_lt bound hop)
-
-last-onward : (h : Hop) (hs : List Hop) (P : Step → Type 0) → IsSomeAnd (last hs) P → IsSomeAnd (last (h ∷ hs)) P
-last-onward h [] P e = absurd e
-last-onward h (k ∷ ks) P e = e
 
 -- what the titles of a stop do in a turn
 in_turn : (old new : Network) (c : Titles) (stops : List Stop) (spot : Spot) (turn : Turn) → LeadsInto old new c stops → HasTitle c spot → GoesWell old new c.cover stops (made old new turn spot)
@@ -113,14 +112,6 @@ started : (old new : Network) (layers : List (List Stop)) (spot : Spot) → AreL
 started old new layers spot are a b is also =
     are.started a.number b.number a.cover b.cover a.at b.at (meets a.cover b.cover spot a.has b.has) spot
     ((shared_exact old.nodes new.nodes (pair a.number b.number) a.cover b.cover (shared (pair a.number b.number) a.cover b.cover) (cover_at old a.number a.cover is a.at) (cover_at new b.number b.cover also b.at) (meets a.cover b.cover spot a.has b.has) refl spot).1 (a.has, b.has))
-  where
-    cover_at : (plan : Network) (number : ℕ) (cover : Cover) → IsPlan plan → slice_get plan.covers number ≡ Some cover → IsCover plan.nodes cover
-    cover_at plan number cover is at =
-        subst (IsCover plan.nodes) (get_or_from_slice_get plan.covers number cover cover at) (is.sound_covers number cover (slice_get_within plan.covers number cover at))
-
-some_of : {X : Type 0} (o : Option X) (P : X → Type 0) → IsSomeAnd o P → (x : X) × (o ≡ Some x) × P x
-some_of None P h = absurd h
-some_of (Some x) P h = (x, refl, h)
 
 -- an end that suits each pair of covers of a spot suits all its covers
 suits_all : (old new : Network) (spot : Spot) (x : Step) → IsPlan new → (a : HasCover old spot) (b : HasCover new spot) → ((c : HasCover old spot) (d : HasCover new spot) → MayEnd (PairAllows old new (pair c.number d.number)) x) → MayEnd (BothAllow old new spot) x
@@ -181,10 +172,6 @@ first_covered old new layers number spot is also are h =
       node = omega (arith, both.0.node, (cover_at old start.i start.a is start.old_at).node);
     }
   where
-    cover_at : (plan : Network) (number : ℕ) (cover : Cover) → IsPlan plan → slice_get plan.covers number ≡ Some cover → IsCover plan.nodes cover
-    cover_at plan number cover is at =
-        subst (IsCover plan.nodes) (get_or_from_slice_get plan.covers number cover cover at) (is.sound_covers number cover (slice_get_within plan.covers number cover at))
-
     stop : (s : Stop) × (slice_get (stops_at layers 0) h.0 ≡ Some s) × ((s.class.cover ≡ number) × HasTitle s.class spot)
     stop = some_of (slice_get (stops_at layers 0) h.0) (λ s. (s.class.cover ≡ number) × HasTitle s.class spot) h.1
 

@@ -2,6 +2,7 @@ pub mod Causes
 pub mod Covering
 pub mod Fullness
 pub mod Greatest
+pub mod Listed
 pub mod Orders
 pub mod Soundness
 pub mod Targets

@@ -1,7 +1,7 @@
 -- where the targets so far lead a class
-use Rattle.std.specs.Prelude.{ℕ, ◌≡◌, ◌+◌, ◌<◌, ◌≤◌, List, [], ◌∷◌, ◌++◌, length, Option, Some, None, IsSomeAnd, slice_get}
+use Rattle.std.specs.Prelude.{ℕ, ◌≡◌, ◌+◌, ◌<◌, ◌≤◌, List, [], ◌∷◌, ◌++◌, length, IsSomeAnd, slice_get}
 use Rattle.std.specs.List.{All, Contains}
-use Rattle.std.proofs.Common.{sym, ◌∙◌, subst, ⊎_elim, arith}
+use Rattle.std.proofs.Common.{subst, ⊎_elim, arith}
 use Rattle.std.proofs.lemmas.Bool.{cases_lt}
 use Rattle.std.proofs.lemmas.Option.{slice_get_within}
 use Rattle.std.proofs.lemmas.List.Elements.{All-push, Contains-append_left, Contains-push}
@@ -9,6 +9,7 @@ use Rattle.plan_model.specs.Network.{Network}
 use Rattle.plan_classes.specs.declared.leads.Image.{Image}
 use Rattle.plan_classes.specs.Titles.{Titles}
 use Rattle.plan_classes.specs.Classes.{class_targets, Reaches, image_at, HasImage}
+use Rattle.plan_classes.proofs.Taking.{one_image}
 use Rattle.plan_check.specs.Checks.{LeadsTo}
 use Rattle.plan_check.proofs.Soundness.{some_of}
 
@@ -16,26 +17,6 @@ use Rattle.plan_check.proofs.Soundness.{some_of}
 pub record AreImages (plan : Network) (c : Titles) (count : ℕ) (images : List Image) : Type 0 where
   pub each : All (LeadsTo plan c) images
   pub every : (place : ℕ) (image : Image) → place < count → Reaches plan c place → HasImage plan c place image → Contains images image
-
--- what two options give is one value
-same_of : {X : Type 0} (o : Option X) (P Q R : X → Type 0) → ((x : X) → P x → Q x → R x) → IsSomeAnd o P → IsSomeAnd o Q → IsSomeAnd o R
-same_of None P Q R f p q = p
-same_of (Some x) P Q R f p q = f x p q
-
-always : {X : Type 0} (o : Option X) (R : Type 0) → IsSomeAnd o (λ x. R) → R
-always None R h = absurd h
-always (Some x) R h = h
-
-same_image : (plan : Network) (c : Titles) (place : ℕ) (i j : Image) → HasImage plan c place i → HasImage plan c place j → i ≡ j
-same_image plan c place i j h k =
-    always (slice_get plan.nodes c.node) (i ≡ j)
-    (same_of (slice_get plan.nodes c.node)
-    (λ node. IsSomeAnd (slice_get (class_targets plan c) place) (λ t. i ≡ image_at plan node c t))
-    (λ node. IsSomeAnd (slice_get (class_targets plan c) place) (λ t. j ≡ image_at plan node c t))
-    (λ node. i ≡ j)
-    (λ node p q. always (slice_get (class_targets plan c) place) (i ≡ j)
-    (same_of (slice_get (class_targets plan c) place) (λ t. i ≡ image_at plan node c t) (λ t. j ≡ image_at plan node c t) (λ t. i ≡ j) (λ t e f. e ∙ sym f) p q))
-    h k)
 
 -- a target that leads somewhere is one of the class's
 inside : (plan : Network) (c : Titles) (place : ℕ) (image : Image) → HasImage plan c place image → place < length (class_targets plan c)
@@ -51,7 +32,7 @@ images_pushed plan c count images new image is h reached has = rw is (record {
       (λ (before : place < count). Contains-append_left images (image ∷ []) other (h.every place other before there leads))
       (λ (past : count ≤ place).
       let same : place ≡ count = omega (arith, lt, past) in
-      let one : image ≡ other = same_image plan c count image other has (subst (λ (n : ℕ). HasImage plan c n other) same leads) in
+      let one : image ≡ other = one_image plan c count image other has (subst (λ (n : ℕ). HasImage plan c n other) same leads) in
       subst (Contains (images ++ image ∷ [])) one (Contains-push images image))
       (cases_lt place count);
 })

@@ -140,6 +140,10 @@ splits_parts c is more =
     ] refl
 
 -- one more part
+-- an element of the parts is one of them
+pub part_of : (c : Titles) (ps qs : List Titles) (i : ℕ) (p : Titles) → Splits c ps → qs ≡ ps → i < length qs → p ≡ get_or qs i p → IsPart c p
+part_of c ps qs i p splits same lt at = subst (IsPart c) (sym at) (subst (λ (xs : List Titles). IsPart c (get_or xs i p)) (sym same) (splits.each i p (omega (arith, ap length same))))
+
 pub parts_more : (f : ℕ → Titles) (front ps qs : List Titles) (n : ℕ) (x : Titles) → qs ≡ ps ++ x ∷ [] → x ≡ f n → ps ≡ front ++ map f (range_with_len 0 n) → qs ≡ front ++ map f (range_with_len 0 (n + 1))
 parts_more f front ps qs n x e at h =
     e ∙ (ap (λ (ys : List Titles). ys ++ x ∷ []) h ∙ (append_assoc front (map f (range_with_len 0 n)) (x ∷ [])

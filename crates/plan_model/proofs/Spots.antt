@@ -1,10 +1,11 @@
 -- the spots that covered titles come to
-use Rattle.std.specs.Prelude.{ℕ, ◌≡◌, ◌+◌, ◌-◌, ◌<◌, ◌≤◌, ◌%◌, ◌==◌, ◌&&◌, Bool, true, false, List, [], ◌∷◌, ◌++◌, length, drop, Option, Some, None, IfSome, refl}
+use Rattle.std.specs.Prelude.{ℕ, ◌≡◌, ◌+◌, ◌-◌, ◌<◌, ◌≤◌, ◌%◌, ◌==◌, ◌&&◌, Bool, true, false, List, [], ◌∷◌, ◌++◌, length, drop, Option, Some, None, IfSome, slice_get, refl}
 use Rattle.std.specs.List.{All}
 use Rattle.std.specs.Option.{unwrap_or}
 use Rattle.std.proofs.Common.{zero, suc, sym, ◌∙◌, ap, subst, arith, length-append, length-drop}
 use Rattle.std.proofs.lemmas.Bool.{ltb-false}
 use Rattle.std.proofs.lemmas.List.Elements.{All-append, All-drop, All-cons, All-nil}
+use Rattle.std.proofs.lemmas.Option.{slice_get_within, get_or_from_slice_get}
 use Rattle.sccp_base.specs.Selector.{Numbers, IsSelector}
 use Rattle.sccp_base.specs.Marks.{IsMarking}
 use Rattle.sccp_base.specs.declared.mark.Mark.{Mark}
@@ -41,12 +42,17 @@ covered_by_one plan cover s is h = record {
   even = λ two. absurd (is.kind (ap (λ (n : Numbers). n.kind) h.selector ∙ two));
 }
 
+-- a cover of a plan is sound
+pub cover_at : (plan : Network) (number : ℕ) (cover : Cover) → IsPlan plan → slice_get plan.covers number ≡ Some cover → IsCover plan.nodes cover
+cover_at plan number cover is at =
+    subst (IsCover plan.nodes) (get_or_from_slice_get plan.covers number cover cover at) (is.sound_covers number cover (slice_get_within plan.covers number cover at))
+
 pub covered_spot : (plan : Network) (s : Spot) → IsPlan plan → Covered plan s → IsSpotOf plan s
 covered_spot plan s is h =
     covered_by_one plan h.1 s (subst (IsCover plan.nodes) h.3 (is.sound_covers h.0 h.1 h.2)) h.4
 
 -- a new selector is one, or the title's own stays
-selector_fits : (o : Option Numbers) (s : Numbers) → IfSome o IsSelector → IsSelector s → IsSelector (unwrap_or o s)
+pub selector_fits : (o : Option Numbers) (s : Numbers) → IfSome o IsSelector → IsSelector s → IsSelector (unwrap_or o s)
 selector_fits None s h k = k
 selector_fits (Some t) s h k = h
 
@@ -68,7 +74,7 @@ true_false true e f = cc
 true_false false e f = cc
 
 -- with kind 2 the number of digits stays even
-stays_even : (o : Option Numbers) (s : Numbers) (kind strip : ℕ) (put digits : List ℕ) → kind ≡ s.kind → change_makes_odd kind (strip + length put) o ≡ false → strip ≤ length digits → (s.kind ≡ 2 → length digits % 2 ≡ 0) → (unwrap_or o s).kind ≡ 2 → length (put ++ drop strip digits) % 2 ≡ 0
+pub stays_even : (o : Option Numbers) (s : Numbers) (kind strip : ℕ) (put digits : List ℕ) → kind ≡ s.kind → change_makes_odd kind (strip + length put) o ≡ false → strip ≤ length digits → (s.kind ≡ 2 → length digits % 2 ≡ 0) → (unwrap_or o s).kind ≡ 2 → length (put ++ drop strip digits) % 2 ≡ 0
 stays_even (Some t) s kind strip put digits same even le h two = absurd (true_false (t.kind == 2) even (let e : (t.kind == 2) ≡ true = rw two refl in e))
 stays_even None s kind strip put digits same even le h two =
     let size : length (put ++ drop strip digits) ≡ length put + (length digits - strip) = length-append put (drop strip digits) ∙ ap (λ n. length put + n) (length-drop strip digits) in

@@ -5,4 +5,3 @@ pub mod Ranking
 pub mod SameSteps
 pub mod Tracing
 pub mod Unions
-pub mod Wide

@@ -10,9 +10,10 @@ use Rattle.plan_model.specs.RowFor.{row_of}
 use Rattle.plan_classes.specs.declared.leads.Image.{Image}
 use Rattle.plan_classes.specs.declared.leads.Image.TheVariants.{Next, Ends, NotEquipped, TooLong}
 use Rattle.plan_classes.specs.Titles.{Titles, IsClass, IsMember, IsPart, Splits, spot_of, parts_of}
-use Rattle.plan_classes.specs.Classes.{Decided, Reachable, Reaches, HasImage, IsReached, class_row, class_targets, image_at}
+use Rattle.plan_classes.specs.Classes.{Decided, Reachable, Reaches, HasImage, IsReached, class_row, class_targets}
 use Rattle.plan_classes.specs.Classes.Reachable.{Part, Onward}
 use Rattle.plan_classes.proofs.Openings.{reached_place}
+use Rattle.plan_classes.proofs.Taking.{one_image}
 use Rattle.plan_check.specs.Ranking.{rank_in}
 use Rattle.plan_check.specs.Ranked.{RanksUpTo, LeadsWell, IsRankedClass}
 use Rattle.plan_check.proofs.Greatest.{wider}
@@ -62,10 +63,6 @@ open_borne plan ranks c ps rank n same all is node cover undecided more low high
       attained = λ two. inl (record { undecided = undecided; part = subst (Any (RanksFrom (rank_in ranks) rank)) (take_all n ps all ∙ same) (some two) });
     }
 
--- an element of the parts is one of them
-pub part_of : (c : Titles) (ps qs : List Titles) (i : ℕ) (p : Titles) → Splits c ps → qs ≡ ps → i < length qs → p ≡ get_or qs i p → IsPart c p
-part_of c ps qs i p splits same lt at = subst (IsPart c) (sym at) (subst (λ (xs : List Titles). IsPart c (get_or xs i p)) (sym same) (splits.each i p (omega (arith, ap length same))))
-
 pub part_reached : (plan : Network) (depth : ℕ) (c : Titles) (ps qs : List Titles) (i : ℕ) (p : Titles) → ps ≡ parts_of c → qs ≡ ps → i < length qs → p ≡ get_or qs i p → Reachable plan depth c → (Decided plan c → ⊥) → Reachable plan depth p
 part_reached plan depth c ps qs i p are same lt at reached apart =
     Part depth c p reached apart (i, omega (arith, ap length (same ∙ are)), sym (at ∙ ap (λ (xs : List Titles). get_or xs i p) (same ∙ are)))
@@ -105,18 +102,6 @@ targets_high plan old new c rank other keeps here before two =
 -- a reached image is reachable
 pub image_reached : (plan : Network) (depth place : ℕ) (c next : Titles) → HasImage plan c place (Next next) → Reaches plan c place → Decided plan c → depth < 14 → Reachable plan depth c → Reachable plan (depth + 1) next
 image_reached plan depth place c next has reached decided lt at = Onward depth c next place at lt decided reached has
-
--- a target has one image
-pub one_image : (plan : Network) (c : Titles) (place : ℕ) (i j : Image) → HasImage plan c place i → HasImage plan c place j → i ≡ j
-one_image plan c place i j h k =
-    elim (slice_get plan.nodes c.node) as (λ o. IsSomeAnd o (λ node. IsSomeAnd (slice_get (class_targets plan c) place) (λ t. i ≡ image_at plan node c t)) → IsSomeAnd o (λ node. IsSomeAnd (slice_get (class_targets plan c) place) (λ t. j ≡ image_at plan node c t)) → i ≡ j) [
-      | None ↦ λ f g. absurd f
-      | Some node ↦ λ f g.
-          elim (slice_get (class_targets plan c) place) as (λ o. IsSomeAnd o (λ t. i ≡ image_at plan node c t) → IsSomeAnd o (λ t. j ≡ image_at plan node c t) → i ≡ j) [
-            | None ↦ λ a b. absurd a
-            | Some t ↦ λ a b. a ∙ sym b
-          ] f g
-    ] h k
 
 -- where a target leads to a ranked class, the rank is one more
 pub led_next_rank : (plan : Network) (ranks : List (Titles × ℕ)) (c next : Titles) (place other : ℕ) → HasImage plan c place (Next next) → Reaches plan c place → rank_in ranks next ≡ Some other → IsLedTo plan (rank_in ranks) c place (other + 1)

@@ -1,5 +1,5 @@
 -- titles with bad or long routes, and how they are carried back
-use Rattle.std.specs.Prelude.{ℕ, ◌≡◌, ◌+◌, ◌≤◌, ◌<◌, ◌⊎◌, List, [], ◌∷◌, length, Option, Some, None, Result, Ok, Err, IfOk, IsSomeAnd, slice_get, refl, if◌then◌else◌, get_or}
+use Rattle.std.specs.Prelude.{ℕ, ◌≡◌, ◌+◌, ◌≤◌, ◌<◌, ◌⊎◌, List, [], ◌∷◌, length, Option, Some, None, Result, Ok, Err, IfOk, IsSomeAnd, slice_get, refl, if◌then◌else◌}
 use Rattle.std.specs.List.{list_any}
 use Rattle.std.specs.Option.{option_and_then}
 use Rattle.std.proofs.Common.{sym, ◌∙◌, ap, subst, inl, inr, ⊎_elim, arith}
@@ -8,17 +8,17 @@ use Rattle.sccp_base.specs.declared.mark.Mark.{Mark}
 use Rattle.plan_rules.specs.Rows.{has_selector}
 use Rattle.plan_model.specs.declared.cover.Cover.{Cover}
 use Rattle.plan_model.specs.declared.spot.Spot.{Spot}
-use Rattle.plan_model.specs.declared.hop.Step.{Step}
 use Rattle.plan_model.specs.declared.hop.Step.TheVariants.{Sent, NoRow}
 use Rattle.plan_model.specs.declared.hop.Hop.{Hop}
-use Rattle.plan_model.specs.Network.{Network, IsPlan, IsCover}
+use Rattle.plan_model.specs.Network.{Network, IsPlan}
 use Rattle.plan_model.specs.Next.{next_of}
 use Rattle.plan_model.specs.RowFor.{row_for, row_of}
 use Rattle.plan_model.specs.Steps.{step, step_at, step_by}
 use Rattle.plan_model.specs.Routes.{route, onward}
 use Rattle.plan_model.specs.Covered.{Covers, Covered}
 use Rattle.plan_model.specs.Verdicts.{last, HasSpot}
-use Rattle.plan_model.proofs.Ways.{hop_at}
+use Rattle.plan_model.proofs.Ways.{hop_at, last-onward}
+use Rattle.plan_model.proofs.Spots.{cover_at}
 use Rattle.plan_classes.specs.declared.leads.Image.TheVariants.{Next}
 use Rattle.plan_classes.specs.Titles.{Titles, IsMember, IsPart, spot_of}
 use Rattle.plan_classes.specs.Classes.{start_of, sample_of, class_row, HasImage}
@@ -92,10 +92,6 @@ sent_before plan c place behind t m member front takes leads =
           );
     }
 
-last_behind : (h : Hop) (hs : List Hop) (P : Step → Type 0) → IsSomeAnd (last hs) P → IsSomeAnd (last (h ∷ hs)) P
-last_behind h [] P e = absurd e
-last_behind h (k ∷ ks) P e = e
-
 -- a bad route behind a hop is a bad route
 pub trace_before : (plan : Network) (c next : Titles) (place depth : ℕ) (behind t : Trace) → HasImage plan c place (Next next) → next.cover ≡ c.cover → IsTrace plan next (depth + 1) behind → GoesBefore plan c place behind t → IsTrace plan c depth t
 trace_before plan c next place depth behind t has cover trace before =
@@ -107,7 +103,7 @@ trace_before plan c next place depth behind t has cover trace before =
         few = omega (arith, before.more, trace.bad.few);
         ends = ⊎_elim
             (λ (bad : IsSomeAnd (last rest) (IsBadEnd plan next.cover)).
-            inl (subst (λ (hs : List Hop). IsSomeAnd (last hs) (IsBadEnd plan c.cover)) (sym follows.1) (last_behind follows.0 rest (IsBadEnd plan c.cover) (subst (λ (n : ℕ). IsSomeAnd (last rest) (IsBadEnd plan n)) cover bad))))
+            inl (subst (λ (hs : List Hop). IsSomeAnd (last hs) (IsBadEnd plan c.cover)) (sym follows.1) (last-onward follows.0 rest (IsBadEnd plan c.cover) (subst (λ (n : ℕ). IsSomeAnd (last rest) (IsBadEnd plan n)) cover bad))))
             (λ (long : depth + 1 + length behind.markings ≡ 15). inr (omega (arith, before.more)))
             trace.bad.ends;
       };
@@ -157,11 +153,6 @@ way_bad plan c depth hops t fifteen some way =
       bad = record { each = way.each ∙ sym way.count; some = omega (arith, way.count); few = omega (arith, way.count); ends = inr (omega (arith, way.count)) };
     }
 
-cover_at : (plan : Network) (number : ℕ) (cover : Cover) → IsPlan plan → slice_get plan.covers number ≡ Some cover → IsCover plan.nodes cover
-cover_at plan number cover is at =
-    let e : get_or plan.covers number cover ≡ cover = get_or_from_slice_get plan.covers number cover cover at in
-    subst (IsCover plan.nodes) e (is.sound_covers number cover (slice_get_within plan.covers number cover at))
-
 -- so the spot of a bad route from a start is one that its cover has
 pub start_has : (plan : Network) (number : ℕ) (cover : Cover) (digits : List ℕ) → IsPlan plan → slice_get plan.covers number ≡ Some cover → IsMember (start_of number cover) digits → HasSpot plan number (spot_of (start_of number cover) digits)
 start_has plan number cover digits is at m =
@@ -175,10 +166,6 @@ pub start_node : (plan : Network) (number : ℕ) (cover : Cover) → IsPlan plan
 start_node plan number cover is at = (cover_at plan number cover is at).node
 
 -- what holds of what an Ok has
-pub ok_map : {T E : Type 0} (r : Result T E) (P Q : T → Type 0) → ((t : T) → P t → Q t) → IfOk r P → IfOk r Q
-ok_map (Ok t) P Q f p = f t p
-ok_map (Err e) P Q f p = p
-
 pub ok_both : {T E : Type 0} (r : Result T E) (P Q R : T → Type 0) → ((t : T) → P t → Q t → R t) → IfOk r P → IfOk r Q → IfOk r R
 ok_both (Ok t) P Q R f p q = f t p q
 ok_both (Err e) P Q R f p q = p

@@ -1,5 +1,5 @@
 -- What octets say keeps the ranges of an address.
-use Rattle.std.proofs.Common.{◌≡◌, ℕ, zero, suc, ◌-◌, ◌*◌, ◌%◌, ◌<◌, ◌^◌, Bool, false, cond, List, [], ◌∷◌, ◌++◌, length, get_or, take, refl, sym, subst, arith, inl, inr}
+use Rattle.std.proofs.Common.{◌≡◌, ℕ, zero, suc, ◌-◌, ◌*◌, ◌%◌, ◌<◌, ◌^◌, Bool, false, cond, List, [], ◌∷◌, ◌++◌, length, get_or, take, drop, refl, sym, subst, arith, inl, inr}
 use Rattle.std.specs.Prelude.{IfSome, IfOk, Result, Ok, Err}
 use Rattle.std.specs.List.{AllByRecursion}
 use Rattle.std.proofs.lemmas.List.{length-take}
@@ -18,13 +18,23 @@ use Rattle.sccp_address.specs.Written.{IsTitle, IsAddress}
 abbrev pub AreOctets : List ℕ → Type 0
 AreOctets octets = AllByRecursion (λ o. o < 256) octets
 
-front : (xs ys : List ℕ) → AreOctets (xs ++ ys) → AreOctets xs
-front [] ys h = tt
-front (x ∷ xs) ys h = (h.0, front xs ys h.1)
+octets_front : (xs ys : List ℕ) → AreOctets (xs ++ ys) → AreOctets xs
+octets_front [] ys h = tt
+octets_front (x ∷ xs) ys h = (h.0, octets_front xs ys h.1)
 
-back : (xs ys : List ℕ) → AreOctets (xs ++ ys) → AreOctets ys
-back [] ys h = h
-back (x ∷ xs) ys h = back xs ys h.1
+pub octets_back : (xs ys : List ℕ) → AreOctets (xs ++ ys) → AreOctets ys
+octets_back [] ys h = h
+octets_back (x ∷ xs) ys h = octets_back xs ys h.1
+
+pub octets_take : (n : ℕ) (b : List ℕ) → AreOctets b → AreOctets (take n b)
+octets_take zero b h = tt
+octets_take (suc n) [] h = tt
+octets_take (suc n) (o ∷ b) h = (h.0, octets_take n b h.1)
+
+pub octets_drop : (n : ℕ) (b : List ℕ) → AreOctets b → AreOctets (drop n b)
+octets_drop zero b h = h
+octets_drop (suc n) [] h = tt
+octets_drop (suc n) (o ∷ b) h = octets_drop n b h.1
 
 pc_kept : (pc : List ℕ) → AreOctets pc → IfSome (point_code pc) (λ n. n < 2 ^ 14)
 pc_kept [] h = tt
@@ -56,10 +66,10 @@ title_kept : (kind : ℕ) (octets : List ℕ) (t : Title) → kind < 16 → AreO
 title_kept kind octets Absent lt h is = tt
 title_kept kind octets (Global s digits) lt h (same, has, few) =
     let whole : AreOctets (has.heading ++ has.packed) = subst AreOctets has.parts h in
-    let kept = heading_kept has.heading s has.odd (front has.heading has.packed whole) has.says in (
+    let kept = heading_kept has.heading s has.odd (octets_front has.heading has.packed whole) has.says in (
       kept.0,
       few,
-      subst (λ (x : List ℕ). AllByRecursion (λ d. d < 16) x) (sym has.are) (digits_kept has.packed (2 * length has.packed - cond has.odd 1 0) (back has.heading has.packed whole)),
+      subst (λ (x : List ℕ). AllByRecursion (λ d. d < 16) x) (sym has.are) (digits_kept has.packed (2 * length has.packed - cond has.odd 1 0) (octets_back has.heading has.packed whole)),
       λ two. rw has.are (even_length has.packed has.odd (kept.1 two)),
     )
 title_kept kind octets (Raw k kept) lt h (same, whole, is) = (rw same lt, rw (same, whole) is)
@@ -67,11 +77,11 @@ title_kept kind octets (Raw k kept) lt h (same, whole, is) = (rw same lt, rw (sa
 pub address_kept : (octets : List ℕ) (a : Address) → AreOctets octets → AddressIs octets a → IsAddress a
 address_kept octets a h is =
     let all : AreOctets (is.indicator ∷ (is.pc ++ (is.ssn ++ is.title))) = subst AreOctets is.parts h in
-    let rest = back is.pc (is.ssn ++ is.title) all.1 in
+    let rest = octets_back is.pc (is.ssn ++ is.title) all.1 in
     record {
-      pc = rw is.pc_is (pc_kept is.pc (front is.pc (is.ssn ++ is.title) all.1));
-      ssn = rw is.ssn_is (ssn_kept is.ssn (front is.ssn is.title rest));
-      title = title_kept (bits is.indicator 3 6) is.title a.title (omega arith) (back is.ssn is.title rest) is.title_is;
+      pc = rw is.pc_is (pc_kept is.pc (octets_front is.pc (is.ssn ++ is.title) all.1));
+      ssn = rw is.ssn_is (ssn_kept is.ssn (octets_front is.ssn is.title rest));
+      title = title_kept (bits is.indicator 3 6) is.title a.title (omega arith) (octets_back is.ssn is.title rest) is.title_is;
     }
 
 pub are_octets : (octets : List ℕ) → ((i : ℕ) → get_or octets i 0 < 256) → AreOctets octets

@@ -1,21 +1,18 @@
 -- A title that is read is one, and one that is one is read.
-use Rattle.std.proofs.Common.{◌≡◌, ◌≢◌, ℕ, zero, suc, ◌<◌, ◌≤◌, Bool, true, false, cond, leb, eqb, ◌&&◌, List, [], ◌∷◌, ◌++◌, length, Result, Ok, refl, sym, ap, subst, ◌∙◌, arith, inl, inr, ◌⊎◌}
+use Rattle.std.proofs.Common.{◌≡◌, ◌≢◌, ℕ, zero, suc, ◌<◌, ◌≤◌, Bool, true, false, cond, leb, eqb, ◌&&◌, List, [], ◌∷◌, ◌++◌, length, Result, Ok, refl, sym, ap, subst, ◌∙◌, arith, inl, inr}
 use Rattle.std.specs.Prelude.{IsTrue}
 use Rattle.std.proofs.lemmas.Bool.{leb-true, leb-false, le-leb, lt-leb, eqb-true, eqb-false, ne_eqb}
 use Rattle.sccp_base.specs.Bcd.{unpacked}
 use Rattle.sccp_base.specs.Bits.{bit, bits}
 use Rattle.sccp_base.specs.Selector.{Numbers, numbers}
 use Rattle.sccp_base.proofs.AllOk.{guard_ok}
+use Rattle.sccp_base.proofs.Cases.{chosen}
 use Rattle.sccp_address.specs.declared.address.Title.{Title}
 use Rattle.sccp_address.specs.declared.address.Title.TheVariants.{Absent, Global, Raw}
 use Rattle.sccp_address.specs.declared.fault.AddressFault.{AddressFault}
 use Rattle.sccp_address.specs.declared.fault.AddressFault.TheVariants.{OddWithoutDigits}
 use Rattle.sccp_address.specs.Reading.{global_or_raw, by_scheme, none_at, nature_at, translation_at, plan_at, full_at, title_at}
 use Rattle.sccp_address.specs.Addresses.{IsHeading, HasDigits, HasOtherScheme, TitleIs}
-
-chosen : {A : Type 0} (b : Bool) (x y z : A) → cond b x y ≡ z → ((b ≡ true) × (x ≡ z)) ⊎ ((b ≡ false) × (y ≡ z))
-chosen true x y z e = inl (refl, e)
-chosen false x y z e = inr (refl, e)
 
 abbrev done : Title → Result Title AddressFault
 done t = Ok t

@@ -1,5 +1,6 @@
 pub mod AllOk
 pub mod Among
+pub mod Cases
 pub mod Halves
 pub mod Inserted
 pub mod LaidOut
@@ -7,3 +8,4 @@ pub mod MarkPlaces
 pub mod NameLaidOut
 pub mod NameTexts
 pub mod Prefix
+pub mod Selectors

@@ -37,7 +37,7 @@ knows_at l origin dlr s h =
     ] g)
     (option_cases (section_at l dlr))
 
-is_none_true : (o : Option ℕ) → is_none o ≡ true → o ≡ None
+pub is_none_true : (o : Option ℕ) → is_none o ≡ true → o ≡ None
 is_none_true None h = refl
 is_none_true (Some n) h = absurd (cc)
 

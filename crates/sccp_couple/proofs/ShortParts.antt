@@ -1,11 +1,12 @@
 -- What is read of octets is short: one octet tells the length of each parameter, and of the data of a type with short pointers.
-use Rattle.std.proofs.Common.{◌≡◌, ℕ, zero, suc, ◌+◌, ◌-◌, ◌<◌, ◌≤◌, Bool, true, false, cond, leb, eqb, ◌&&◌, List, [], ◌∷◌, ◌++◌, length, get_or, take, drop, Option, Some, None, refl, sym, ap, subst, ◌∙◌, arith, inl, inr, ◌⊎◌}
-use Rattle.std.specs.Prelude.{IfSome, nat_le, slice_range, slice_get, unwrap_or}
+use Rattle.std.proofs.Common.{◌≡◌, ℕ, zero, suc, ◌+◌, ◌-◌, ◌<◌, ◌≤◌, Bool, true, false, cond, leb, eqb, ◌&&◌, List, [], ◌∷◌, ◌++◌, length, get_or, take, drop, Option, Some, None, refl, sym, ap, subst, ◌∙◌, arith, inl, inr}
+use Rattle.std.specs.Prelude.{IfSome, nat_le, slice_range, unwrap_or}
 use Rattle.std.specs.List.{AllByRecursion, flat_map, list_all}
 use Rattle.std.proofs.lemmas.Bool.{cases_lt, eqb-true, le-leb}
 use Rattle.std.proofs.lemmas.List.{length-take}
+use Rattle.std.proofs.lemmas.Option.{slice_get_past}
 use Rattle.sccp_address.specs.declared.address.Address.{Address}
-use Rattle.sccp_address.proofs.Kept.{AreOctets}
+use Rattle.sccp_address.proofs.Kept.{AreOctets, octets_back, octets_drop}
 use Rattle.sccp_layout.specs.declared.shape.Layout.{Layout}
 use Rattle.sccp_layout.specs.declared.parts.Parts.{Parts}
 use Rattle.sccp_layout.specs.Parameter.{Parameter}
@@ -19,23 +20,15 @@ use Rattle.sccp_message.specs.Reading.{part_of}
 use Rattle.sccp_message.specs.Reads.{Reads}
 use Rattle.sccp_message.specs.Written.{content}
 use Rattle.sccp_scrc.specs.Unitdata.{called_of}
+use Rattle.sccp_message.proofs.Made.{made, made_here}
 use Rattle.sccp_couple.specs.Sending.{HasShortParts}
 
 -- ---- octets
-
-octets_drop : (n : ℕ) (b : List ℕ) → AreOctets b → AreOctets (drop n b)
-octets_drop zero b h = h
-octets_drop (suc n) [] h = tt
-octets_drop (suc n) (o ∷ b) h = octets_drop n b h.1
 
 octet_at : (b : List ℕ) (n : ℕ) → AreOctets b → get_or b n 0 < 256
 octet_at [] n h = omega arith
 octet_at (o ∷ b) zero h = h.0
 octet_at (o ∷ b) (suc n) h = octet_at b n h.1
-
-back : (xs ys : List ℕ) → AreOctets (xs ++ ys) → AreOctets ys
-back [] ys h = h
-back (x ∷ xs) ys h = back xs ys h.1
 
 -- ---- parameters
 
@@ -44,7 +37,7 @@ listed_short [] more h = refl
 listed_short (p ∷ params) more h =
     let whole : AreOctets (p.name ∷ length p.octets ∷ (p.octets ++ (flat_map spelled_parameter params ++ more))) = subst AreOctets (regrouped p.octets) h in
     let here = whole.1.0 in
-    rw (le-leb (length p.octets) 255 (omega arith)) (listed_short params more (back p.octets _ whole.1.1))
+    rw (le-leb (length p.octets) 255 (omega arith)) (listed_short params more (octets_back p.octets _ whole.1.1))
   where
     append_again : (xs ys zs : List ℕ) → (xs ++ ys) ++ zs ≡ xs ++ (ys ++ zs)
     append_again [] ys zs = refl
@@ -87,16 +80,11 @@ neither false b e = refl
 part_short : (l : Layout) (b : List ℕ) (i : ℕ) → l.long ≡ false → AreOctets b → IsShort (part l b i)
 part_short l b i short h = contents_by (l.long && eqb i 2) b (place l b i) (neither l.long (eqb i 2) short) h
 
-past : (xs : List (List ℕ)) (i : ℕ) → length xs ≤ i → slice_get xs i ≡ None
-past [] i le = refl
-past (x ∷ xs) zero le = absurd (omega arith)
-past (x ∷ xs) (suc i) le = past xs i (omega arith)
-
 data_short : (b : List ℕ) (p : Parts) (i : ℕ) (has : HasParts b p) → has.layout.long ≡ false → AreOctets b → length (part_of p.variable i) ≤ 255
 data_short b p i has short h =
     elim (cases_lt i has.layout.variable) [
       | inl lt ↦ subst IsShort (has.variable i lt).1 (part_short has.layout b i short h)
-      | inr le ↦ subst IsShort (sym (past p.variable i (omega (arith, has.count)))) (omega arith)
+      | inr le ↦ subst IsShort (sym (slice_get_past p.variable i (omega (arith, has.count)))) (omega arith)
     ]
 
 -- ---- a line for each type
@@ -170,20 +158,10 @@ both f called calling payload params l = (
   ),
 )
 
-abbrev made : Message → Option Message
-made m = Some m
-
-made_is : (m n : Message) → made m ≡ made n → m ≡ n
-made_is m n e = cc
-
-here : (b : Bool) (x : Message) (others : Option Message) (m : Message) → cond b (made x) others ≡ made m → ((b ≡ true) × (x ≡ m)) ⊎ (others ≡ made m)
-here true x others m e = inl (refl, made_is x m e)
-here false x others m e = inr e
-
 of_lines : (code : ℕ) (lines : List (ℕ × Message)) (payload : List ℕ) (params : List Parameter) (l : Layout) (m : Message) → AreLines params payload l lines → of_code code lines ≡ made m → IsLine params payload l (code, m)
 of_lines code [] payload params l m all e = absurd cc
 of_lines code (line ∷ lines) payload params l m all e =
-    elim (here (eqb code line.0) line.1 (of_code code lines) m e) [
+    elim (made_here (eqb code line.0) line.1 (of_code code lines) m e) [
       | inl w ↦ subst (λ (x : Message). IsLine params payload l (code, x)) w.1 (subst (λ (n : ℕ). IsLine params payload l (n, line.1)) (sym (eqb-true _ _ w.0)) all.0)
       | inr w ↦ of_lines code lines payload params l m all.1 w
     ]

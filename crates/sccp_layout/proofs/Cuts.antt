@@ -11,9 +11,9 @@ use Rattle.sccp_layout.specs.Table.{layout_of}
 use Rattle.sccp_layout.specs.Places.{width, number_at, pointer_place, pointer, place, after_pointers, names_place, contents, part, listed_below}
 use Rattle.sccp_layout.specs.Joining.{number_octets, spelled_part, spelled_parts, spelled_parameter, spelled_list, pieces, joined}
 use Rattle.sccp_layout.specs.Parts.{Fits, BeginsWithList, ParamsAre, HasParts}
-use Rattle.sccp_layout.proofs.Lists.{list_again}
-use Rattle.sccp_layout.proofs.Laws.{some_part}
-use Rattle.sccp_layout.proofs.Joined.{whole, head, length-head, length-number_octets, number_here, number_drop, length-spelled_parts, some_octets, with_optional, PointsTo, points_to}
+use Rattle.sccp_layout.proofs.Lists.{listing, list_is, list_again}
+use Rattle.sccp_layout.proofs.Laws.{first_true, some_part}
+use Rattle.sccp_layout.proofs.Joined.{whole, head, length-head, length-number_octets, number_here, number_drop, length-spelled_parts, some_octets, with_optional, PointsTo, points_to, same_layout}
 
 -- ---- a beginning has the same pointers
 
@@ -46,12 +46,6 @@ part_ends two b n at y x le here read =
     number_cut two b n at (omega (arith, inside, cut)) ∙ number_drop two b at ∙ ap (λ (z : List ℕ). number_at two z 0) here ∙ number_here two (length y) [] y in
     omega (arith, inside, cut, number, length-drop at b, ap length here, length-append (number_octets two (length y)) y, length-number_octets two (length y))
 
-abbrev listing : List Parameter → Option (List Parameter)
-listing ps = Some ps
-
-same_list : (ps qs : List Parameter) → listing ps ≡ listing qs → ps ≡ qs
-same_list ps qs e = cc
-
 list_ends : (b : List ℕ) (n at : ℕ) (ps qs : List Parameter) → at < n → n ≤ length b → drop at b ≡ flat_map spelled_parameter ps ++ 0 ∷ [] → AllByRecursion (λ q. q.name ≢ 0) ps → BeginsWithList (drop at (take n b)) qs → length b ≤ n
 list_ends b n at ps qs lt le here named h =
     let most : ℕ = suc (length ps + length qs) in
@@ -60,7 +54,7 @@ list_ends b n at ps qs lt le here named h =
     ap (drop at) (sym (take-append-drop n b)) ∙ drop-append-le at (take n b) (drop n b) (omega (arith, cut)) ∙ ap (λ (x : List ℕ). x ++ drop n b) h.spelled ∙ append_assoc (flat_map spelled_parameter qs) (0 ∷ h.rest) (drop n b) in
     let one : listed_below most b at ≡ listing ps = list_again ps most b at [] (omega arith) here named in
     let other : listed_below most b at ≡ listing qs = list_again qs most b at (h.rest ++ drop n b) (omega arith) longer h.named in
-    let same : ps ≡ qs = same_list ps qs (sym one ∙ other) in
+    let same : ps ≡ qs = list_is ps qs (sym one ∙ other) in
     omega (arith, cut, length-drop at b, length-drop at (take n b), ap length here, ap length h.spelled, ap (λ (z : List Parameter). length (flat_map spelled_parameter z)) same, length-append (flat_map spelled_parameter ps) (0 ∷ []), length-append (flat_map spelled_parameter qs) (0 ∷ h.rest))
 
 -- ---- the last piece
@@ -123,10 +117,6 @@ ends_with_list l p q qs fits same e =
 
 -- ---- the law
 
-first_true : (a b c : Bool) → (not a && b && c) ≡ true → a ≡ false
-first_true true b c h = absurd cc
-first_true false b c h = refl
-
 last_true : (a b c : Bool) → (not a && b && c) ≡ true → c ≡ true
 last_true true b c h = absurd cc
 last_true false true c h = h
@@ -187,12 +177,6 @@ whole_or_less l p q n fits named le h same =
           | inl e ↦ list_cut l b n (o ∷ os) q.params after le e (ends_with_list l p o os fits is e) (subst (λ (ps : List Parameter). AllByRecursion (λ q. q.name ≢ 0) ps) is named) (subst (λ (m : Layout). ParamsAre m (take n b) q.params) same h.params)
           | inr e ↦ absurd (let none : o ∷ os ≡ [] = sym is ∙ fits.params e in cc)
         ]
-
-abbrev some : Layout → Option Layout
-some l = Some l
-
-same_layout : (l m : Layout) → some l ≡ some m → l ≡ m
-same_layout l m e = cc
 
 abbrev some_code : ℕ → Option ℕ
 some_code c = Some c

@@ -1,16 +1,17 @@
 -- A message that is joined has the parts that it was joined from.
-use Rattle.std.proofs.Common.{◌≡◌, ◌≢◌, ℕ, zero, suc, ◌+◌, ◌-◌, ◌*◌, ◌/◌, ◌%◌, ◌<◌, ◌≤◌, Bool, true, false, cond, not, ltb, leb, eqb, ◌&&◌, List, [], ◌∷◌, ◌++◌, length, get_or, drop, Option, Some, None, Result, Ok, Err, refl, sym, ap, subst, ◌∙◌, zero-add, add-zero, append_assoc, arith, inl, inr, ◌⊎◌}
+use Rattle.std.proofs.Common.{◌≡◌, ◌≢◌, ℕ, zero, suc, ◌+◌, ◌-◌, ◌*◌, ◌/◌, ◌%◌, ◌<◌, ◌≤◌, Bool, true, false, cond, not, ltb, leb, eqb, ◌&&◌, List, [], ◌∷◌, ◌++◌, length, get_or, drop, Option, Some, Result, Ok, Err, refl, sym, ap, subst, ◌∙◌, zero-add, add-zero, append_assoc, arith, inl, inr, ◌⊎◌}
 use Rattle.std.specs.Prelude.{IsTrue, slice_range, slice_get, IfOk, OnOk}
 use Rattle.std.specs.List.{flat_map, AllByRecursion}
 use Rattle.std.proofs.lemmas.Bool.{le-leb, lt-ltb, ne_eqb}
 use Rattle.std.proofs.lemmas.List.{length-append, length-drop, take_at, drop_at, drop-drop, get_or-drop, append-nil}
 use Rattle.std.proofs.lemmas.Grind.{flat_map-append}
+use Rattle.sccp_base.proofs.Cases.{unless_ok}
 use Rattle.sccp_layout.specs.declared.shape.Layout.{Layout}
 use Rattle.sccp_layout.specs.declared.parts.Parts.{Parts}
 use Rattle.sccp_layout.specs.Parameter.{Parameter}
 use Rattle.sccp_layout.specs.Table.{layout_of}
 use Rattle.sccp_layout.specs.Places.{width, number_at, pointer_place, pointer, place, after_pointers, names_place, contents, part}
-use Rattle.sccp_layout.specs.Joining.{number_octets, spelled_part, spelled_parts, spelled_parameter, spelled_list, pieces, pointer_to, pointers_to, joined, join_fault, joining, unless, Gives}
+use Rattle.sccp_layout.specs.Joining.{number_octets, spelled_part, spelled_parts, spelled_parameter, spelled_list, pieces, pointer_to, pointers_to, joined, join_fault, joining, Gives}
 use Rattle.sccp_layout.specs.Parts.{Fits, FitsLayout, ParamsAre, HasParts}
 use Rattle.sccp_layout.specs.Splitting.{parts_of}
 use Rattle.sccp_layout.specs.declared.parts.JoinFault.{JoinFault}
@@ -267,22 +268,18 @@ joined_has_parts l p of_type fits named =
       params = params_here l p fits named;
     }
 
-abbrev some : Layout → Option Layout
+abbrev pub some : Layout → Option Layout
 some l = Some l
 
-same_layout : (l m : Layout) → some l ≡ some m → l ≡ m
+pub same_layout : (l m : Layout) → some l ≡ some m → l ≡ m
 same_layout l m e = cc
-
-unless_ok : (o : Option JoinFault) (x w : List ℕ) → unless o x ≡ Ok w → x ≡ w
-unless_ok None x w h = cc
-unless_ok (Some f) x w h = absurd cc
 
 -- what joining answers has the parts
 pub answer_has_parts : (l : Layout) (p : Parts) (r : Result (List ℕ) JoinFault) → layout_of p.code ≡ Some l → FitsLayout p → Gives (λ octets. octets) r (joining l p) → OnOk r (AllByRecursion (λ q. q.name ≢ 0) p.params) → IfOk r (λ octets. HasParts octets p)
 answer_has_parts l p (Err e) of_type fits given named = tt
 answer_has_parts l p (Ok octets) of_type fits given named =
     let same : fits.layout ≡ l = same_layout fits.layout l (sym fits.of_type ∙ of_type) in
-    let is : joined l p ≡ octets = unless_ok (join_fault l p) (joined l p) octets given in
+    let is : joined l p ≡ octets = (unless_ok (join_fault l p) (joined l p) octets given).1 in
     subst (λ (b : List ℕ). HasParts b p) is (joined_has_parts l p of_type (subst (λ (m : Layout). Fits m p) same fits.fits) named)
 
 -- what is joined is split into the same parts

@@ -60,7 +60,7 @@ or_true false = refl
 none_false : (o z : Bool) → o ≡ true → z ≡ false → (not o || z) ≡ false
 none_false o z t f = rw (t, f) refl
 
-first_true : (a b c : Bool) → (not a && b && c) ≡ true → a ≡ false
+pub first_true : (a b c : Bool) → (not a && b && c) ≡ true → a ≡ false
 first_true true b c h = absurd cc
 first_true false b c h = refl
 

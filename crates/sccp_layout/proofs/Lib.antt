@@ -6,3 +6,4 @@ pub mod Laws
 pub mod Pieces
 pub mod Joined
 pub mod Cuts
+pub mod Tests

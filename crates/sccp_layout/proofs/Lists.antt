@@ -1,10 +1,11 @@
 -- A list of parameters that is read stands there, and one that stands there is read.
-use Rattle.std.proofs.Common.{◌≡◌, ◌≢◌, ℕ, zero, suc, ◌+◌, ◌-◌, ◌<◌, Bool, true, false, cond, leb, eqb, List, [], ◌∷◌, ◌++◌, length, get_or, take, drop, Option, Some, None, refl, sym, ap, subst, ◌∙◌, append_assoc, arith, inl, inr, ◌⊎◌}
+use Rattle.std.proofs.Common.{◌≡◌, ◌≢◌, ℕ, zero, suc, ◌+◌, ◌-◌, ◌<◌, true, false, leb, eqb, List, [], ◌∷◌, ◌++◌, length, get_or, take, drop, Option, Some, None, refl, sym, ap, subst, ◌∙◌, append_assoc, arith, inl, inr}
 use Rattle.std.specs.Prelude.{option_map, option_and_then, slice_range}
 use Rattle.std.specs.List.{flat_map, AllByRecursion}
 use Rattle.std.proofs.lemmas.Bool.{cases_lt, le-leb, leb-true, ne_eqb, eqb-true, eqb-false}
 use Rattle.std.proofs.lemmas.List.{length-append, length-drop, length-take, get_or-drop, drop-drop, take_at, drop_at, take-append-drop}
 use Rattle.std.proofs.Math.Seq.{drop-cons}
+use Rattle.sccp_base.proofs.Cases.{chosen}
 use Rattle.sccp_layout.specs.Parameter.{Parameter, parameter}
 use Rattle.sccp_layout.specs.Places.{contents, listed_below}
 use Rattle.sccp_layout.specs.Joining.{spelled_parameter}
@@ -34,10 +35,6 @@ contents_again b q octets more e =
 
 abbrev some : List ℕ → Option (List ℕ)
 some x = Some x
-
-chosen : {A : Type 0} (b : Bool) (x y z : A) → cond b x y ≡ z → ((b ≡ true) × (x ≡ z)) ⊎ ((b ≡ false) × (y ≡ z))
-chosen true x y z e = inl (refl, e)
-chosen false x y z e = inr (refl, e)
 
 some_is : (x y : List ℕ) → some x ≡ some y → x ≡ y
 some_is x y e = cc
@@ -74,10 +71,10 @@ list_again (q ∷ qs) (suc most) b p rest lt e named =
     let later : listed_below most b (p + 2 + length q.octets) ≡ Some qs = list_again qs most b (p + 2 + length q.octets) rest (omega arith) next named.1 in
     one most b p s.inside ∙ rw (s.is, ne_eqb q.name 0 named.0, read, later) refl
 
-abbrev listing : List Parameter → Option (List Parameter)
+abbrev pub listing : List Parameter → Option (List Parameter)
 listing x = Some x
 
-list_is : (x y : List Parameter) → listing x ≡ listing y → x ≡ y
+pub list_is : (x y : List Parameter) → listing x ≡ listing y → x ≡ y
 list_is x y e = cc
 
 ended : (b : List ℕ) (p : ℕ) (params : List Parameter) → p < length b → get_or b p 0 ≡ 0 → [] ≡ params → BeginsWithList (drop p b) params

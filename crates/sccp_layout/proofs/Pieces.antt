@@ -7,6 +7,8 @@ use Rattle.std.proofs.lemmas.Bool.{le-leb, leb-true}
 use Rattle.std.proofs.lemmas.List.{append-nil}
 use Rattle.std.proofs.lemmas.Grind.{flat_map-append}
 use Rattle.std.proofs.Math.Seq.{drop-cons}
+use Rattle.sccp_base.specs.Answers.{unless}
+use Rattle.sccp_base.proofs.Cases.{unless_ok}
 use Rattle.sccp_layout.specs.declared.shape.Layout.{Layout}
 use Rattle.sccp_layout.specs.declared.parts.Parts.{Parts}
 use Rattle.sccp_layout.specs.declared.parts.JoinFault.{JoinFault}
@@ -14,7 +16,7 @@ use Rattle.sccp_layout.specs.declared.parts.JoinFault.TheVariants.{PointerTooFar
 use Rattle.sccp_layout.specs.Parameter.{Parameter}
 use Rattle.sccp_layout.specs.Places.{width, pointer_place, after_pointers}
 use Rattle.sccp_layout.specs.Parts.{Fits}
-use Rattle.sccp_layout.specs.Joining.{number_octets, spelled_part, spelled_parts, spelled_list, optional_pieces, pieces, pointer_to, pointers_to, joined, most, first_long, first_far, unless, joining, with_number, with_numbers, are_short}
+use Rattle.sccp_layout.specs.Joining.{number_octets, spelled_part, spelled_parts, spelled_list, optional_pieces, pieces, pointer_to, pointers_to, joined, most, first_long, first_far, joining, with_number, with_numbers, are_short}
 
 -- the item at a place, and those behind it
 pub at_place : {A : Type 0} (xs : List A) (i : ℕ) (x : A) → i < length xs → drop i xs ≡ get_or xs i x ∷ drop (i + 1) xs
@@ -89,7 +91,7 @@ abbrev ok : List ℕ → Result (List ℕ) JoinFault
 ok octets = Ok octets
 
 abbrev numbered : Layout → ℕ → List ℕ → List ℕ → Result (List ℕ) JoinFault
-numbered l i octets ns = unless (option_map PointerTooFar (first_far l i ns)) (octets ++ flat_map (number_octets l.long) ns)
+numbered l i octets ns = unless (option_map PointerTooFar (first_far l i ns)) (Ok (octets ++ flat_map (number_octets l.long) ns))
 
 number_by : (b : Bool) (l : Layout) (i : ℕ) (octets : List ℕ) (n : ℕ) (ns : List ℕ) → leb n (most l.long) ≡ b → with_numbers l (i + 1) (octets ++ number_octets l.long n) ns ≡ numbered l (i + 1) (octets ++ number_octets l.long n) ns → with_numbers l i octets (n ∷ ns) ≡ numbered l i octets (n ∷ ns)
 number_by true l i octets n ns t later = rw t (later ∙ rw (append_assoc octets (number_octets l.long n) (flat_map (number_octets l.long) ns)) refl)
@@ -110,13 +112,9 @@ list_is l p fits = by_test l.optional fits.params
     by_test true none = append-nil (spelled_list p.params)
     by_test false none = rw (none refl) refl
 
-unless_err : (o : Option JoinFault) (x y : List ℕ) (e : JoinFault) → unless o x ≡ Err e → unless o y ≡ Err e
+unless_err : (o : Option JoinFault) (x y : List ℕ) (e : JoinFault) → unless o (ok x) ≡ Err e → unless o (ok y) ≡ Err e
 unless_err None x y e h = absurd cc
 unless_err (Some f) x y e h = h
-
-unless_ok : (o : Option JoinFault) (x w : List ℕ) → unless o x ≡ ok w → (o ≡ None) × (x ≡ w)
-unless_ok None x w h = (refl, cc)
-unless_ok (Some f) x w h = absurd cc
 
 abbrev start : Parts → List ℕ
 start p = p.code ∷ p.fixed
@@ -129,7 +127,7 @@ pub join_far : (memory : Bool) (l : Layout) (p : Parts) (e : JoinFault) → firs
 join_far true l p e short far = tt
 join_far false l p e short far =
     let fault = option_map PointerTooFar (first_far l 0 (pointers l p)) in
-    let is : unless fault (start p ++ flat_map (number_octets l.long) (pointers l p)) ≡ Err e = sym (with_numbers-unless l 0 (start p) (pointers l p)) ∙ far in
+    let is : unless fault (Ok (start p ++ flat_map (number_octets l.long) (pointers l p))) ≡ Err e = sym (with_numbers-unless l 0 (start p) (pointers l p)) ∙ far in
     rw short (unless_err fault (start p ++ flat_map (number_octets l.long) (pointers l p)) (joined l p) e is)
 
 -- where no part is too long and all pointers fit, the message is what is put together

@@ -8,7 +8,7 @@ use Rattle.sccp_layout.specs.declared.parts.JoinFault.{JoinFault}
 use Rattle.sccp_layout.specs.declared.parts.JoinFault.TheVariants.{TooLong, PointerTooFar, OutOfMemory}
 use Rattle.sccp_layout.specs.Parameter.{Parameter}
 use Rattle.sccp_layout.specs.Places.{pointer_place, after_pointers}
-use Rattle.sccp_base.specs.Answers.{◌>>=◌, Answers}
+use Rattle.sccp_base.specs.Answers.{◌>>=◌, Answers, unless}
 
 -- a number in one octet, or in two with the low one first, which is this project's choice
 abbrev pub number_octets : Bool → ℕ → List ℕ
@@ -72,13 +72,9 @@ first_far l i (n ∷ ns) = if nat_le n (most l.long) then first_far l (i + 1) ns
 abbrev pub join_fault : Layout → Parts → Option JoinFault
 join_fault l p = option_or (option_map TooLong (first_long l 0 p.variable p.params)) (option_map PointerTooFar (first_far l 0 (pointers_to l 0 (after_pointers l) (pieces l p))))
 
-abbrev pub unless : Option JoinFault → List ℕ → Result (List ℕ) JoinFault
-unless None octets = Ok octets
-unless (Some f) octets = Err f
-
 -- the octets, or the first fault
 abbrev pub joining : Layout → Parts → Result (List ℕ) JoinFault
-joining l p = unless (join_fault l p) (joined l p)
+joining l p = unless (join_fault l p) (Ok (joined l p))
 
 -- want of memory is the one fault that no cause is given for
 abbrev pub is_memory : JoinFault → Bool

@@ -1,13 +1,14 @@
 -- What is made from parts has their code, addresses and parameters. So what is read is sound, and its fields keep their ranges.
-use Rattle.std.proofs.Common.{◌≡◌, ℕ, zero, suc, ◌+◌, ◌-◌, ◌<◌, ◌≤◌, Bool, true, false, cond, leb, eqb, ◌&&◌, List, [], ◌∷◌, length, take, drop, Option, Some, None, Result, Ok, Err, refl, sym, ap, subst, ◌∙◌, arith, inl, inr, ◌⊎◌}
+use Rattle.std.proofs.Common.{◌≡◌, ℕ, suc, ◌+◌, ◌-◌, ◌<◌, Bool, true, false, cond, leb, eqb, ◌&&◌, List, [], ◌∷◌, length, drop, Option, Some, None, Result, Ok, Err, refl, sym, ap, subst, ◌∙◌, arith, inl, inr, ◌⊎◌}
 use Rattle.std.specs.Prelude.{IfOk, slice_range, slice_get, unwrap_or}
 use Rattle.std.specs.List.{AllByRecursion}
 use Rattle.std.specs.Option.{option_map_or}
 use Rattle.std.proofs.lemmas.Bool.{cases_lt, eqb-true}
+use Rattle.std.proofs.lemmas.Option.{slice_get_past}
 use Rattle.sccp_base.specs.Bits.{bits}
 use Rattle.sccp_address.specs.declared.address.Address.{Address}
 use Rattle.sccp_address.specs.Written.{IsAddress}
-use Rattle.sccp_address.proofs.Kept.{AreOctets, address_kept}
+use Rattle.sccp_address.proofs.Kept.{AreOctets, octets_take, octets_drop, address_kept}
 use Rattle.sccp_layout.specs.declared.shape.Layout.{Layout}
 use Rattle.sccp_layout.specs.declared.parts.Parts.{Parts}
 use Rattle.sccp_layout.specs.Parameter.{Parameter}
@@ -31,7 +32,7 @@ record Made (code : ℕ) (addresses : List Address) (params : List Parameter) (m
   params_are : ((content m).params ≡ params) ⊎ ((content m).params ≡ [])
   sevens_fit : AreSevens (sevens m)
 
-abbrev made : Message → Option Message
+abbrev pub made : Message → Option Message
 made m = Some m
 
 made_is : (m n : Message) → made m ≡ made n → m ≡ n
@@ -112,14 +113,15 @@ both f called calling payload params = (
   ),
 )
 
-here : (b : Bool) (x : Message) (others : Option Message) (m : Message) → cond b (made x) others ≡ made m → ((b ≡ true) × (x ≡ m)) ⊎ (others ≡ made m)
-here true x others m e = inl (refl, made_is x m e)
-here false x others m e = inr e
+-- a line of a list of messages by their codes is the first with its code, or it is among the others
+pub made_here : (b : Bool) (x : Message) (others : Option Message) (m : Message) → cond b (made x) others ≡ made m → ((b ≡ true) × (x ≡ m)) ⊎ (others ≡ made m)
+made_here true x others m e = inl (refl, made_is x m e)
+made_here false x others m e = inr e
 
 of_lines : (code : ℕ) (lines : List (ℕ × Message)) (addresses : List Address) (params : List Parameter) (m : Message) → AreMade lines addresses params → of_code code lines ≡ made m → Made code addresses params m
 of_lines code [] addresses params m all e = absurd cc
 of_lines code (line ∷ lines) addresses params m all e =
-    elim (here (eqb code line.0) line.1 (of_code code lines) m e) [
+    elim (made_here (eqb code line.0) line.1 (of_code code lines) m e) [
       | inl w ↦ subst (Made code addresses params) w.1 (subst (λ (n : ℕ). Made n addresses params line.1) (sym (eqb-true _ _ w.0)) all.0)
       | inr w ↦ of_lines code lines addresses params m all.1 w
     ]
@@ -152,16 +154,6 @@ answer_sound b (Err e) h = tt
 
 -- ---- octets of parts are octets
 
-octets_take : (n : ℕ) (b : List ℕ) → AreOctets b → AreOctets (take n b)
-octets_take zero b h = tt
-octets_take (suc n) [] h = tt
-octets_take (suc n) (o ∷ b) h = (h.0, octets_take n b h.1)
-
-octets_drop : (n : ℕ) (b : List ℕ) → AreOctets b → AreOctets (drop n b)
-octets_drop zero b h = h
-octets_drop (suc n) [] h = tt
-octets_drop (suc n) (o ∷ b) h = octets_drop n b h.1
-
 abbrev OrNone : Option (List ℕ) → Type 0
 OrNone o = AreOctets (unwrap_or o [])
 
@@ -176,16 +168,11 @@ octets_part l b i h =
     let end : ℕ = start + number_at two b (place l b i) in
     in_range (leb end (length b)) (slice_range b start end) (octets_take (end - start) (drop start b) (octets_drop start b h))
 
-past : (xs : List (List ℕ)) (i : ℕ) → length xs ≤ i → slice_get xs i ≡ None
-past [] i le = refl
-past (x ∷ xs) zero le = absurd (omega arith)
-past (x ∷ xs) (suc i) le = past xs i (omega arith)
-
 octets_of : (b : List ℕ) (p : Parts) (i : ℕ) → AreOctets b → HasParts b p → AreOctets (part_of p.variable i)
 octets_of b p i h has =
     elim (cases_lt i has.layout.variable) [
       | inl lt ↦ subst OrNone (has.variable i lt).1 (octets_part has.layout b i h)
-      | inr le ↦ subst OrNone (sym (past p.variable i (omega (arith, has.count)))) tt
+      | inr le ↦ subst OrNone (sym (slice_get_past p.variable i (omega (arith, has.count)))) tt
     ]
 
 named_of : (l : Layout) (b : List ℕ) (params : List Parameter) → ParamsAre l b params → AreNamed params

@@ -3,6 +3,7 @@ use Rattle.std.proofs.Common.{◌≡◌, ℕ, Bool, true, false, eqb, List, [], 
 use Rattle.std.specs.Prelude.{IfOk, IsSome, IsTrue, option_map, ◌||◌, ◌&&◌}
 use Rattle.std.proofs.lemmas.Bool.{and_parts, eqb-true}
 use Rattle.std.proofs.lemmas.Slice.Eq.{bytes_eq-Decides}
+use Rattle.sccp_base.specs.Answers.{unless}
 use Rattle.sccp_layout.specs.declared.shape.Layout.{Layout}
 use Rattle.sccp_layout.specs.declared.parts.Parts.{Parts}
 use Rattle.sccp_layout.specs.declared.parts.JoinFault.{JoinFault}
@@ -10,7 +11,7 @@ use Rattle.sccp_layout.specs.declared.parts.JoinFault.TheVariants as joins
 use Rattle.sccp_layout.specs.Table.{Row, row, layout_of}
 use Rattle.sccp_layout.specs.Parameter.{Parameter}
 use Rattle.sccp_layout.specs.Parts.{ParamsAre, HasParts, FitsLayout}
-use Rattle.sccp_layout.specs.Joining.{Gives as JoinGives, joined, join_fault, joining, unless}
+use Rattle.sccp_layout.specs.Joining.{Gives as JoinGives, joined, join_fault, joining}
 use Rattle.sccp_message.specs.declared.message.Message.{Message}
 use Rattle.sccp_message.specs.declared.fault.DecodeFault.{DecodeFault}
 use Rattle.sccp_message.specs.declared.encode_fault.EncodeFault.{EncodeFault}
@@ -84,7 +85,7 @@ are_named (Ok octets) p has = named has.layout octets p.params has.params
     named l b params (inr listed) = listed.2.named
 are_named (Err e) p has = tt
 
-unless_ok : (o : Option JoinFault) (x octets : List ℕ) → as_join (unless o x) ≡ Ok octets → (o ≡ None) × (x ≡ octets)
+unless_ok : (o : Option JoinFault) (x octets : List ℕ) → as_join (unless o (Ok x)) ≡ Ok octets → (o ≡ None) × (x ≡ octets)
 unless_ok None x octets e = (refl, cc)
 unless_ok (Some (joins.TooLong part)) x octets e = absurd cc
 unless_ok (Some (joins.PointerTooFar i)) x octets e = absurd cc
@@ -103,7 +104,7 @@ encoding_of : (m : Message) → Writable m → encoding m ≡ Ok (message_octets
 encoding_of m writable =
     let t = typed m in
     let none : join_fault t.type.layout (parts_from m) ≡ None = rw t.of_type at writable in
-    encoding_at m ∙ ap (λ (o : Option JoinFault). as_join (unless o (joined t.type.layout (parts_from m)))) none ∙ ap ok (sym (octets_at m))
+    encoding_at m ∙ ap (λ (o : Option JoinFault). as_join (unless o (Ok (joined t.type.layout (parts_from m))))) none ∙ ap ok (sym (octets_at m))
 
 -- ---- what encode answers
 

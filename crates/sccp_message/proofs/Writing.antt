@@ -18,7 +18,7 @@ use Rattle.sccp_message.specs.Messages.{message_of}
 use Rattle.sccp_message.specs.Reads.{Reads}
 use Rattle.sccp_message.specs.Written.{content, sevens, parts_from, message_octets, Sound, AreSevens, IsMessage}
 
-reference_again : (n : ℕ) → n % 256 + 256 * (n / 256 % 256) + 65536 * (n / 65536) ≡ n
+pub reference_again : (n : ℕ) → n % 256 + 256 * (n / 256 % 256) + 65536 * (n / 65536) ≡ n
 reference_again n = omega arith
 
 flag_again : (b : Bool) → bit (flag b) 1 ≡ b

@@ -1,12 +1,13 @@
 -- the called address behind a step
 use Rattle.std.specs.Prelude.{◌≡◌, ℕ, zero, suc, ◌+◌, ◌-◌, ◌*◌, ◌%◌, ◌<◌, ◌≤◌, ◌==◌, ◌&&◌, Bool, true, false, List, [], ◌∷◌, ◌++◌, length, drop, Option, Some, None, slice_get, IfSome, unwrap_or, refl, nat_eq, if◌then◌else◌}
 use Rattle.std.specs.List.{AllByRecursion, All, starts_with}
-use Rattle.std.proofs.Common.{sym, ◌∙◌, ap, subst, arith, length-append, length-drop}
+use Rattle.std.proofs.Common.{sym, ◌∙◌, ap, subst, arith, length-append}
 use Rattle.std.proofs.lemmas.Bool.{and_parts, ltb-false, eqb-true}
 use Rattle.sccp_base.specs.Bcd.{packed}
 use Rattle.sccp_base.specs.Selector.{Numbers, IsSelector}
 use Rattle.sccp_base.proofs.Among.{Among, All-among, position-None, list_any-none, Among-slice_get}
 use Rattle.sccp_base.proofs.Prefix.{fits-starts_with}
+use Rattle.sccp_base.proofs.Selectors.{same_selector-≡}
 use Rattle.sccp_address.specs.declared.address.Address.{Address}
 use Rattle.sccp_address.specs.declared.address.Title.TheVariants.{Global}
 use Rattle.sccp_address.specs.Written.{flag, heading, written, IsAddress}
@@ -15,12 +16,12 @@ use Rattle.plan_rules.specs.declared.target.Target.{Target}
 use Rattle.plan_rules.specs.declared.target.Target.TheVariants.{Relay}
 use Rattle.plan_rules.specs.Rows.{has_selector, takes_ssn}
 use Rattle.plan_rules.specs.Tables.{IsTable, IsRule, strips_too_long, makes_odd}
-use Rattle.plan_rules.specs.Target.{ssn_of, strips_more, target_makes_odd, change_makes_odd, IsTarget}
-use Rattle.plan_rules.proofs.TitleParts.{same_selector-≡}
+use Rattle.plan_rules.specs.Target.{ssn_of, strips_more, target_makes_odd, IsTarget}
 use Rattle.plan_model.specs.declared.node.Node.{Node}
 use Rattle.plan_model.specs.declared.spot.Spot.{Spot}
 use Rattle.plan_model.specs.Network.{Network, IsPlan, IsNode, IsSubsystem, NamesSubsystems}
 use Rattle.plan_model.proofs.Leading.{IsSentBy}
+use Rattle.plan_model.proofs.Spots.{selector_fits, stays_even}
 use Rattle.sccp_scrc.specs.Rewriting.{ssn_after, to_relay, to_place, spot_of}
 
 -- ---- how long an address is
@@ -105,32 +106,6 @@ halves_drop (suc n) (d ∷ ds) h = halves_drop n ds h.1
 halves_append : (xs ys : List ℕ) → AllByRecursion (λ d. d < 16) xs → AllByRecursion (λ d. d < 16) ys → AllByRecursion (λ d. d < 16) (xs ++ ys)
 halves_append [] ys h k = k
 halves_append (x ∷ xs) ys h k = (h.0, halves_append xs ys h.1 k)
-
-selector_fits : (o : Option Numbers) (s : Numbers) → IfSome o IsSelector → IsSelector s → IsSelector (unwrap_or o s)
-selector_fits None s h k = k
-selector_fits (Some t) s h k = h
-
--- with kind 2 the number of digits stays even
-stays_even : (o : Option Numbers) (s : Numbers) (kind strip : ℕ) (put digits : List ℕ) → kind ≡ s.kind → change_makes_odd kind (strip + length put) o ≡ false → strip ≤ length digits → (s.kind ≡ 2 → length digits % 2 ≡ 0) → (unwrap_or o s).kind ≡ 2 → length (put ++ drop strip digits) % 2 ≡ 0
-stays_even (Some t) s kind strip put digits same even le h two = absurd (contradiction (t.kind == 2) even (let e : (t.kind == 2) ≡ true = rw two refl in e))
-  where
-    contradiction : (b : Bool) → b ≡ false → b ≡ true → ⊥
-    contradiction true e f = cc
-    contradiction false e f = cc
-stays_even None s kind strip put digits same even le h two =
-    let size : length (put ++ drop strip digits) ≡ length put + (length digits - strip) = length-append put (drop strip digits) ∙ ap (λ n. length put + n) (length-drop strip digits) in
-    let old : length digits % 2 ≡ 0 = h two in
-    let change : (strip + length put) % 2 ≡ 0 = not_one ((strip + length put) % 2) (omega arith) (second (kind == 2) ((strip + length put) % 2 == 1) (rw (same ∙ two) refl) even) in
-    omega (arith, size, old, change, le)
-  where
-    second : (a b : Bool) → a ≡ true → (a && b) ≡ false → b ≡ false
-    second true b e f = f
-    second false b e f = absurd (cc)
-
-    not_one : (n : ℕ) → n < 2 → (n == 1) ≡ false → n ≡ 0
-    not_one zero lt e = refl
-    not_one (suc zero) lt e = absurd (cc)
-    not_one (suc (suc n)) lt e = absurd (omega arith)
 
 -- what a spot's title keeps
 pub record IsSpot (s : Spot) : Type 0 where

@@ -1,6 +1,6 @@
 -- what lengths say of writing
-use Rattle.std.specs.Prelude.{◌≡◌, ℕ, ◌+◌, ◌*◌, ◌-◌, ◌%◌, ◌==◌, ◌≤◌, ◌⊎◌, nat_le, Bool, true, cond, List, [], ◌∷◌, ◌++◌, length, Option, Some, None, option_map, refl}
-use Rattle.std.specs.Option.{option_or, option_to_list}
+use Rattle.std.specs.Prelude.{◌≡◌, ℕ, ◌+◌, ◌*◌, ◌-◌, ◌%◌, ◌==◌, ◌≤◌, ◌⊎◌, nat_le, Bool, true, List, [], ◌∷◌, ◌++◌, length, Option, Some, None, refl}
+use Rattle.std.specs.Option.{option_to_list}
 use Rattle.std.proofs.Common.{suc, sym, subst, arith, inl, inr, ⊎_elim, length-append}
 use Rattle.std.proofs.lemmas.Bool.{le-leb}
 use Rattle.sccp_base.specs.Bcd.{packed}
@@ -10,8 +10,7 @@ use Rattle.sccp_address.specs.declared.address.Title.TheVariants.{Global}
 use Rattle.sccp_address.specs.Written.{title_octets, written, point_code_octets, heading}
 use Rattle.sccp_layout.specs.Joining.{are_short}
 use Rattle.sccp_layout.specs.Parameter.{Parameter}
-use Rattle.sccp_layout.specs.declared.parts.JoinFault.{JoinFault}
-use Rattle.sccp_layout.specs.declared.parts.JoinFault.TheVariants.{TooLong, PointerTooFar}
+use Rattle.sccp_layout.proofs.Tests.{first_failed, none_failed, fault, none_of_both}
 use Rattle.sccp_message.specs.declared.message.Message.{Message}
 use Rattle.sccp_message.specs.declared.message.Message.TheVariants.{Udt, Udts, Xudt, Xudts, Ludt, Ludts}
 use Rattle.sccp_message.specs.Written.{Writable}
@@ -40,22 +39,6 @@ global_enough s digits n le =
     omega (arith, sum, length-heading s odd, length-packed digits n le)
 
 -- ---- tests of lengths and pointers, one after the other
-
--- the first of four tests that fails
-first_failed : Bool → Bool → Bool → Bool → Option ℕ
-first_failed a b c d = cond a (cond b (cond c (cond d None (Some 3)) (Some 2)) (Some 1)) (Some 0)
-
-none_failed : (a b c d : Bool) → a ≡ true → b ≡ true → c ≡ true → d ≡ true → first_failed a b c d ≡ None
-unfolding first_failed
-none_failed a b c d p q r s = λ i. cond (p i) (cond (q i) (cond (r i) (cond (s i) None (Some 3)) (Some 2)) (Some 1)) (Some 0)
-
--- lengths, and then pointers
-fault : Option ℕ → Option ℕ → Option JoinFault
-fault x y = option_or (option_map TooLong x) (option_map PointerTooFar y)
-
-none_of_both : (x y : Option ℕ) → x ≡ None → y ≡ None → fault x y ≡ None
-unfolding fault
-none_of_both x y p q = λ i. option_or (option_map TooLong (p i)) (option_map PointerTooFar (q i))
 
 lengths : ℕ → List ℕ → List ℕ → List ℕ → List Parameter → Option ℕ
 lengths most called calling payload params = first_failed (nat_le (length called) 255) (nat_le (length calling) 255) (nat_le (length payload) most) (are_short params)

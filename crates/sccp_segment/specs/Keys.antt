@@ -1,7 +1,7 @@
 -- What tells messages that are under way apart (ITU-T Q.714 section 4.1): the calling address as a value, and the segmentation local reference.
 use Rattle.std.specs.Prelude.{ℕ, ◌==◌, Bool, true, false, ◌&&◌, Option, Some, None}
 use Rattle.std.specs.Str.{bytes_eq}
-use Rattle.sccp_base.specs.Selector.{Numbers}
+use Rattle.sccp_base.specs.Selector.{same_selector}
 use Rattle.sccp_address.specs.declared.address.Address.{Address}
 use Rattle.sccp_address.specs.declared.address.Title.{Title}
 use Rattle.sccp_address.specs.declared.address.Title.TheVariants.{Absent, Global, Raw}
@@ -19,9 +19,6 @@ same_number None None = true
 same_number (Some a) (Some b) = a == b
 same_number None (Some b) = false
 same_number (Some a) None = false
-
-abbrev pub same_selector : Numbers → Numbers → Bool
-same_selector s t = s.kind == t.kind && s.translation == t.translation && s.plan == t.plan && s.nature == t.nature
 
 abbrev pub same_title : Title → Title → Bool
 same_title Absent Absent = true

@@ -1,8 +1,8 @@
 ghost use Rattle.std.specs.Prelude.{◌≡◌};
-ghost use Rattle.sccp_segment.specs.Keys.{same_address, same_flag, same_key, same_number, same_selector, same_title};
+ghost use Rattle.sccp_segment.specs.Keys.{same_address, same_flag, same_key, same_number, same_title};
 
 use sccp_address::{Address, Title};
-use sccp_base::{PointCode, Reference, Selector};
+use sccp_base::{PointCode, Reference};
 
 /// What the segments of one message have in common, and no others that are under way (Q.714 section 4.1): the calling
 /// address, compared as a value, and the segmentation local reference.
@@ -34,16 +34,6 @@ fn same_ssn(a: &Option<u8>, b: &Option<u8>) -> bool
     }
 }
 
-// Whether two selectors have the same four numbers.
-fn same_selector(a: &Selector, b: &Selector) -> bool
-    ensures { result ≡ same_selector a.now b.now }
-{
-    a.kind() == b.kind()
-        && a.translation() == b.translation()
-        && a.plan() == b.plan()
-        && a.nature() == b.nature()
-}
-
 // Whether two global titles are one.
 fn same_title(a: &Title, b: &Title) -> bool
     ensures { result ≡ same_title a.now b.now }
@@ -56,7 +46,7 @@ fn same_title(a: &Title, b: &Title) -> bool
                 selector: other,
                 digits: others,
             },
-        ) => same_selector(selector, other) && digits.as_slice() == others.as_slice(),
+        ) => *selector == *other && digits.as_slice() == others.as_slice(),
         (
             Title::Raw { kind, octets },
             Title::Raw {

@@ -5,4 +5,7 @@ use Rattle.plan_model.proofs.faults.first_repeated.Given as goal
 
 -- the first repeat is found from this node on
 abbrev pub invariant-loop-i : goal.invariant-loop-i
-invariant-loop-i l = first_of (repeated_at l.nodes) l.i (drop l.i l.nodes) ≡ first_repeated l.nodes
+invariant-loop-i g l =
+    let name = g.N.Named.own_name in
+    let point = g.N.Named.own_point in
+    first_of (repeated_at name point l.nodes) l.i (drop l.i l.nodes) ≡ first_repeated name point l.nodes

@@ -6,7 +6,8 @@ use Rattle.plan_classes.specs.Titles.{IsPart}
 use Rattle.plan_verify.specs.declared.found.Found.{Found}
 use Rattle.plan_verify.specs.Searching.{IsFound, IsLed}
 use Rattle.plan_verify.proofs.Keeping.{keeps_more}
-use Rattle.plan_verify.proofs.Ranking.{parts_ranked, parts_attained, open_borne, part_of, part_reached, targets_led, targets_high, image_reached, decided_borne}
+use Rattle.plan_classes.proofs.Parting.{part_of}
+use Rattle.plan_verify.proofs.Ranking.{parts_ranked, parts_attained, open_borne, part_reached, targets_led, targets_high, image_reached, decided_borne}
 use Rattle.plan_verify.proofs.Tracing.{fifteenth, without_row}
 use Rattle.plan_verify.proofs.search.+search.Goals as goal
 

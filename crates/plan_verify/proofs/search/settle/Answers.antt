@@ -1,8 +1,9 @@
-use Rattle.std.proofs.Common.{◌≤◌, ◌∙◌, Err, length, subst, sym, ap, arith}
+use Rattle.std.proofs.Common.{ℕ, ◌≤◌, ◌∙◌, Err, length, subst, sym, ap, arith}
+use Rattle.plan_classes.specs.Classes.{Reachable}
+use Rattle.plan_check.proofs.Listed.{listed}
 use Rattle.plan_verify.specs.declared.found.Found.{Found}
 use Rattle.plan_verify.specs.Searching.{IsFollowed}
 use Rattle.plan_verify.proofs.Keeping.{keeps_put, sound_put, own_rank}
-use Rattle.plan_verify.proofs.Wide.{wide}
 use Rattle.plan_verify.proofs.search.settle.Goals as goal
 
 pub returns-then-len-lt-LIMIT-clause-sound : goal.returns-then-len-lt-LIMIT-clause-sound
@@ -30,12 +31,11 @@ pub returns-else-len-lt-LIMIT-clause-found : goal.returns-else-len-lt-LIMIT-clau
 returns-else-len-lt-LIMIT-clause-found c =
     let found = subst (λ (f : Found). IsFollowed c.args.plan.now c.args.class.now c.args.depth c.args.ranks.now f) c.in-Rank.is c.requires.found in
     let many : 262144 ≤ length c.put.new.self = omega (arith, c.if-len-lt-LIMIT.false, c.len.ensures.count) in
-    wide c.args.plan.now c.put.new.self 262144
-    (sound_put _ _ _ _ c.in-Rank.rank c.args.depth c.requires.sound (sym c.get.ensures ∙ c.in-None.is) c.in-Ok.ensures.ok found.0 c.requires.reached)
-    c.len.ensures.sound.ordered many
+    let sound = sound_put _ _ _ _ c.in-Rank.rank c.args.depth c.requires.sound (sym c.get.ensures ∙ c.in-None.is) c.in-Ok.ensures.ok found.0 c.requires.reached in
+    listed (λ t. (depth : ℕ) × Reachable c.args.plan.now depth t) c.put.new.self 262144 sound.reached c.len.ensures.sound.ordered many
 
 pub returns-in-Err-Full-clause-found : goal.returns-in-Err-Full-clause-found
 returns-in-Err-Full-clause-found c =
     let full = c.put.ensures.full.0 (c.in-Err-Full.is ∙ ap Err c.in-Err-Full.field-0-is) in
     let many : 262144 ≤ length c.args.ranks.now = omega (arith, full.full) in
-    wide c.args.plan.now c.args.ranks.now 262144 c.requires.sound c.put.ensures.sound.ordered many
+    listed (λ t. (depth : ℕ) × Reachable c.args.plan.now depth t) c.args.ranks.now 262144 c.requires.sound.reached c.put.ensures.sound.ordered many

@@ -1,6 +1,6 @@
--- a full table shows that the plan reaches many classes
-use Rattle.std.specs.Prelude.{ℕ, ◌≡◌, ◌≤◌, ◌<◌, true, false, List, [], ◌∷◌, length, take, Some, refl, get_or, cond, Bool}
-use Rattle.std.specs.List.{All}
+-- the classes of a table can be listed
+use Rattle.std.specs.Prelude.{ℕ, ◌≡◌, ◌≢◌, ◌≤◌, ◌<◌, true, false, List, [], ◌∷◌, length, take, Some, refl, get_or, cond, Bool}
+use Rattle.std.specs.List.{All, AllPairs}
 use Rattle.std.specs.List.Sorted.{IsStrictlySortedBy}
 use Rattle.std.specs.Ordering.{is_eq}
 use Rattle.std.specs.declared.cmp.Ordering.TheVariants.{Less, Equal}
@@ -8,12 +8,9 @@ use Rattle.std.proofs.Common.{sym, ◌∙◌, ap, arith, length-take-le}
 use Rattle.std.proofs.lemmas.List.{get_or-take, length-map}
 use Rattle.std.proofs.lemmas.List.Elements.{All-cons, All-nil, All-take}
 use Rattle.std.proofs.lemmas.Map.Keys.{Less-from_sorted}
-use Rattle.plan_model.specs.Network.{Network}
 use Rattle.plan_classes.specs.Titles.{Titles}
-use Rattle.plan_classes.specs.Classes.{Reachable, ReachesAtLeast}
 use Rattle.plan_check.specs.Ranking.{rank_in, class_cmp, classes_in}
 use Rattle.plan_check.proofs.Orders.{own_class, own_order}
-use Rattle.plan_verify.specs.Searching.{IsSound}
 
 -- a class of the table has a rank in it
 has_rank : (ranks : List (Titles × ℕ)) → All (λ c. (r : ℕ) × (rank_in ranks c ≡ Some r)) (classes_in ranks)
@@ -28,12 +25,14 @@ has_rank (e ∷ es) =
       | false ↦ h
     ])
 
-pub wide : (plan : Network) (ranks : List (Titles × ℕ)) (count : ℕ) → IsSound plan ranks → IsStrictlySortedBy class_cmp (classes_in ranks) → count ≤ length ranks → ReachesAtLeast plan count
-wide plan ranks count sound ordered le = (
+-- so many of them, no two the same, and what holds of each class that has a rank
+pub listed : (P : Titles → Type 0) (ranks : List (Titles × ℕ)) (count : ℕ) → ((c : Titles) (r : ℕ) → rank_in ranks c ≡ Some r → P c) → IsStrictlySortedBy class_cmp (classes_in ranks) → count ≤ length ranks
+    → (cs : List Titles) × (length cs ≡ count) × AllPairs (λ c d. c ≢ d) cs × All P cs
+listed P ranks count each ordered le = (
   take count (classes_in ranks),
   short,
   apart,
-  All-take (λ c. (depth : ℕ) × Reachable plan depth c) count (classes_in ranks) (λ k d lt. let h = has_rank ranks k d lt in sound.reached (get_or (classes_in ranks) k d) h.0 h.1),
+  All-take P count (classes_in ranks) (λ k d lt. let h = has_rank ranks k d lt in each (get_or (classes_in ranks) k d) h.0 h.1),
 )
   where
     long : count ≤ length (classes_in ranks)
