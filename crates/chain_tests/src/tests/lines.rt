@@ -43,7 +43,8 @@ fn put_line(alloc: Global, text: &mut String, line: &Line) -> Result<(), Fail> {
     Ok(())
 }
 
-fn ask(
+/// The line from an end's point and the reference that it gave, or that there is none.
+fn put_line_of(
     alloc: Global,
     world: &World,
     text: &mut String,
@@ -81,10 +82,11 @@ fn put_turn(alloc: Global, world: &mut World, text: &mut String, turn: &Turn) ->
         }
         Turn::Offers(from, to, octets) => put_offer(alloc, world, text, from, to, octets),
         Turn::Delivers(from, to) => deliver(alloc, world, text, point(from)?, point(to)?),
-        Turn::Line(from, reference) => ask(alloc, world, text, from, *reference),
+        Turn::Line(from, reference) => put_line_of(alloc, world, text, from, *reference),
     }
 }
 
+/// Whether this and nothing else is told of a turn.
 fn is_told(alloc: Global, world: &mut World, turn: &Turn, told: &str) -> Result<bool, Fail> {
     let mut text = String::new(alloc);
     put_turn(alloc, world, &mut text, turn)?;
