@@ -2,7 +2,6 @@
 mod calls;
 mod each_call;
 mod limits;
-mod live;
 mod memory_io;
 mod replays;
 mod wide_plans;
