@@ -2,6 +2,7 @@
 mod calls;
 mod each_call;
 mod limits;
+mod live;
 mod memory_io;
 mod replays;
 mod wide_plans;
