@@ -41,7 +41,7 @@ fn far_reference() -> Reference
     Reference::new(FAR_REFERENCE).unwrap()
 }
 
-/// The called address.
+/// The called address of the request: it routes on the title, and has no point code.
 fn called_of(call: &Call) -> Address
     ensures { result ≡ called_of call.now }
 {

@@ -19,7 +19,7 @@ fn one_more(seen: usize, all: usize) -> usize
     if seen < all { seen + 1 } else { seen }
 }
 
-// The entry at the plan of this number, counted from 1.
+// The entry at the plan of this number, counted from 1. None where the plan is shared too often to be shared once more.
 fn entry_at(plans: &[Arc<Accepted>], number: usize) -> Option<Entry>
     requires { (0 < number) × (number ≤ length plans.now) × (length plans.now < 2 ^ 32) }
     ensures number { IfSome result (λ e. e.number ≡ number) }

@@ -1,8 +1,9 @@
-//! The commands of the program: SCCP messages (ITU-T Q.713) that are shown, given in hexadecimal digits as a word or in a
-//! file with one a line, a plan of relays that is verified, a title that is followed through them (Q.714 section 2), a trace of
-//! traffic and failures that is replayed over them (Q.714 sections 2 to 5), two plans of which it is told whether relays may
-//! hold either, a connection that is made over relays and released (Q.714 section 3), and a message of which it is told what
-//! leaves a relay, a long one in segments (Q.714 section 4.1).
+//! The commands of the program. Of SCCP messages (ITU-T Q.713): they are shown, given in hexadecimal digits as a word or in a
+//! file with one a line, each cut of one is told, and captured ones become a trace (RFC 4666). Of a plan of relays: it is
+//! verified, a title is followed through it (Q.714 section 2), a trace of traffic and failures is replayed over it (Q.714
+//! sections 2 to 5), a connection is made over it and released (Q.714 section 3), it is told what leaves a relay, a long
+//! message in segments (Q.714 section 4.1), and whether relays may hold either of two plans. And of a load that is made from a
+//! number: what becomes of its messages is counted.
 //!
 //! The contract of `run` is what the program promises: the text that it writes and the status that it ends with, for any
 //! words, files and sink, with the cause of each status. The crate above only makes the real files and the real sink and
