@@ -6,3 +6,4 @@ pub mod Seats
 pub mod Tellers
 pub mod Batches
 pub mod Publishing
+pub mod ByPlace

@@ -13,6 +13,7 @@ use crate::gate::Gate;
 use crate::live_place::LivePlace;
 use crate::publishing::publish_all;
 use crate::share::keep_share;
+use crate::side_by_side::for_each_beside;
 use crate::teller::Teller;
 use crate::worker::Worker;
 use plan_check::Accepted;
@@ -41,7 +42,7 @@ fn serve_all<R: Threads + Sync, G: Gate + Sync>(
     ensures { (i : ℕ) (d : _) → i < length workers.old → HasServed states.now jobs.now (length workers.old) i (slice_index_or workers.old i d) (slice_index_or workers.new i d) }
 {
     let count = workers.len();
-    thread::for_each_mut(
+    for_each_beside(
         rt,
         workers,
         threads,

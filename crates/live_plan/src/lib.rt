@@ -25,6 +25,7 @@ mod published;
 mod publishing;
 mod rule;
 mod share;
+mod side_by_side;
 mod teller;
 mod worker;
 
