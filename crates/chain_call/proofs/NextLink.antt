@@ -1,8 +1,8 @@
 -- The link that is to deliver next is the one that a running world names.
-use Rattle.std.specs.Prelude.{ℕ, ◌≡◌, ◌<◌, ◌≤◌, ◌==◌, ◌⊎◌, nat_lt, nat_le, Bool, true, false, cond, ◌&&◌, ◌||◌, List, [], ◌∷◌, ◌++◌, Option, Some, None, IfSome, IfNone, refl}
+use Rattle.std.specs.Prelude.{ℕ, ◌≡◌, ◌==◌, ◌⊎◌, Bool, true, false, cond, ◌&&◌, ◌||◌, List, [], ◌∷◌, ◌++◌, Option, Some, None, IfSome, IfNone, refl}
 use Rattle.std.specs.List.{list_any, cons_option}
 use Rattle.std.proofs.Common.{sym, ◌∙◌, ap, subst, ⊎_elim, inl, inr, arith}
-use Rattle.std.proofs.lemmas.Bool.{and_parts, cases_Bool, cases_eq, eqb-true, eq-eqb, ltb-true, ltb-false, leb-true, leb-false}
+use Rattle.std.proofs.lemmas.Bool.{and_parts, or_parts, cases_Bool, eqb-true, eq-eqb}
 use Rattle.std.proofs.lemmas.List.Folds.{list_any-append}
 use Rattle.sccp_message.specs.declared.message.Message.{Message}
 use Rattle.sccp_couple.specs.Coupling.{coupled}
@@ -13,6 +13,7 @@ use Rattle.couple_chain.specs.declared.offer_fault.OfferFault.{OfferFault}
 use Rattle.couple_chain.specs.Line.{IsSettled}
 use Rattle.couple_chain.specs.World.{Network, World, is_node, start, messages_to, event_at, handled, left, offered_if, offer_fault, delivered_of, happens, run, after, IsNextLink}
 use Rattle.chain_world.specs.Running.{is_before, lesser}
+use Rattle.chain_world.proofs.Before.{Precedes, precedes_by, precedes_not}
 use Rattle.chain_call.specs.Links.{sent_links, links_of, links_by, links_from, is_some_message, holds, least_in, next_link}
 
 false_not_true : false ≡ true → ⊥
@@ -20,10 +21,7 @@ false_not_true e = cc
 
 -- ---- one link before another
 
-abbrev Precedes : ℕ × ℕ → ℕ × ℕ → Type 0
-Precedes p q = (p.0 < q.0) ⊎ ((p.0 ≡ q.0) × (p.1 ≤ q.1))
-
-both_ways : (p q : ℕ × ℕ) → Precedes p q → Precedes q p → p ≡ q
+both_ways : (p q : ℕ × ℕ) → Precedes p q.0 q.1 → Precedes q p.0 p.1 → p ≡ q
 both_ways p q (inl h) (inl k) = absurd (omega (arith, h, k))
 both_ways p q (inl h) (inr k) = absurd (let e = k.0 in omega (arith, h, e))
 both_ways p q (inr h) (inl k) = absurd (let e = h.0 in omega (arith, e, k))
@@ -31,46 +29,20 @@ both_ways p q (inr h) (inr k) =
     let second : p.1 ≡ q.1 = let a = h.1 in let b = k.1 in omega (arith, a, b) in
     ap (λ (n : ℕ). (n, p.1)) h.0 ∙ ap (λ (n : ℕ). (q.0, n)) second
 
-not_less : (m n : ℕ) → nat_lt m n ≡ false → (m < n) → ⊥
-not_less m n h lt = let le = ltb-false m n h in omega (arith, le, lt)
-
--- where the test says that one isn't before another, the other is before it
-before_not : (p q : ℕ × ℕ) → is_before p.0 p.1 q.0 q.1 ≡ false → Precedes q p
-before_not p q h =
-    ⊎_elim
-    (λ (less : nat_lt p.0 q.0 ≡ true). absurd (false_not_true (sym h ∙ ap (λ (c : Bool). c || ((p.0 == q.0) && nat_le p.1 q.1)) less)))
-    (λ (more : nat_lt p.0 q.0 ≡ false).
-    let le = ltb-false p.0 q.0 more in
-    ⊎_elim
-    (λ (e : p.0 ≡ q.0). inr (sym e, second e (sym (ap (λ (c : Bool). c || ((p.0 == q.0) && nat_le p.1 q.1)) more ∙ ap (λ (c : Bool). c && nat_le p.1 q.1) (eq-eqb p.0 q.0 e)) ∙ h)))
-    (λ (n : p.0 ≡ q.0 → ⊥). inl (omega (arith, le, n)))
-    (cases_eq p.0 q.0))
-    (cases_Bool (nat_lt p.0 q.0))
-  where
-    second : p.0 ≡ q.0 → nat_le p.1 q.1 ≡ false → q.1 ≤ p.1
-    second e k = let lt = leb-false p.1 q.1 k in omega (arith, lt)
-
-before_yes : (p q : ℕ × ℕ) → is_before p.0 p.1 q.0 q.1 ≡ true → Precedes p q
-before_yes p q h =
-    elim (nat_lt p.0 q.0) as (λ c. nat_lt p.0 q.0 ≡ c → (c || ((p.0 == q.0) && nat_le p.1 q.1)) ≡ true → Precedes p q) [
-      | true ↦ λ e k. inl (ltb-true p.0 q.0 e)
-      | false ↦ λ e k. let parts = and_parts (p.0 == q.0) (nat_le p.1 q.1) k in inr (eqb-true p.0 q.0 parts.0, leb-true p.1 q.1 parts.1)
-    ] refl h
-
 -- the lesser of two is the one that comes before both
-lesser_is : (p l : ℕ × ℕ) (o : Option (ℕ × ℕ)) → ((q : ℕ × ℕ) → o ≡ Some q → Precedes p q) → Precedes p l → (l ≡ p) ⊎ (o ≡ Some p) → lesser o l.0 l.1 ≡ p
+lesser_is : (p l : ℕ × ℕ) (o : Option (ℕ × ℕ)) → ((q : ℕ × ℕ) → o ≡ Some q → Precedes p q.0 q.1) → Precedes p l.0 l.1 → (l ≡ p) ⊎ (o ≡ Some p) → lesser o l.0 l.1 ≡ p
 lesser_is p l None all first (inl same) = same
 lesser_is p l None all first (inr e) = absurd (let z : None ≡ Some p = e in cc)
 lesser_is p l (Some q) all first (inl same) =
     elim (is_before q.0 q.1 l.0 l.1) as (λ c. is_before q.0 q.1 l.0 l.1 ≡ c → cond c q (l.0, l.1) ≡ p) [
-      | true ↦ λ e. both_ways q p (subst (Precedes q) same (before_yes q l e)) (all q refl)
+      | true ↦ λ e. both_ways q p (subst (λ (r : ℕ × ℕ). Precedes q r.0 r.1) same (precedes_by q l.0 l.1 e)) (all q refl)
       | false ↦ λ e. same
     ] refl
 lesser_is p l (Some q) all first (inr e) =
     let same : q ≡ p = cc in
     elim (is_before q.0 q.1 l.0 l.1) as (λ c. is_before q.0 q.1 l.0 l.1 ≡ c → cond c q (l.0, l.1) ≡ p) [
       | true ↦ λ f. same
-      | false ↦ λ f. both_ways l p (subst (Precedes l) same (before_not q l f)) first
+      | false ↦ λ f. both_ways l p (subst (λ (r : ℕ × ℕ). Precedes l r.0 r.1) same (precedes_not q l.0 l.1 f)) first
     ] refl
 
 -- ---- the least of a list of links
@@ -105,7 +77,7 @@ none_holds : (w : World) (links : List (ℕ × ℕ)) → ((l : ℕ × ℕ) → h
 none_holds w [] h = refl
 none_holds w (l ∷ links) h = ap (λ (c : Bool). cond c (Some (lesser (least_in w links) l.0 l.1)) (least_in w links)) (h l) ∙ none_holds w links h
 
-least_there : (w : World) (p : ℕ × ℕ) → holds w p ≡ true → ((q : ℕ × ℕ) → holds w q ≡ true → Precedes p q) → (links : List (ℕ × ℕ)) → list_any (is_pair p.0 p.1) links ≡ true → least_in w links ≡ Some p
+least_there : (w : World) (p : ℕ × ℕ) → holds w p ≡ true → ((q : ℕ × ℕ) → holds w q ≡ true → Precedes p q.0 q.1) → (links : List (ℕ × ℕ)) → list_any (is_pair p.0 p.1) links ≡ true → least_in w links ≡ Some p
 least_there w p held first [] h = absurd (false_not_true h)
 least_there w p held first (l ∷ links) h =
     elim (holds w l) as (λ c. holds w l ≡ c → cond c (Some (lesser (least_in w links) l.0 l.1)) (least_in w links) ≡ Some p) [
@@ -124,14 +96,10 @@ least_there w p held first (l ∷ links) h =
 
 -- ---- a link that holds a message is one that a message was put on
 
-none_of : (x y : Bool) → (x || y) ≡ false → (x ≡ false) × (y ≡ false)
-none_of true y h = absurd (false_not_true (sym h))
-none_of false y h = (refl, h)
-
 none_sent : (a b node : ℕ) (sent : List Answer) → (a == node) ≡ true → list_any (is_pair a b) (sent_links node sent) ≡ false → messages_to b sent ≡ []
 none_sent a b node [] e h = refl
 none_sent a b node (s ∷ sent) e h =
-    let parts = none_of ((a == node) && (b == s.to)) (list_any (is_pair a b) (sent_links node sent)) h in
+    let parts = or_parts ((a == node) && (b == s.to)) (list_any (is_pair a b) (sent_links node sent)) h in
     let other : (b == s.to) ≡ false = sym (ap (λ (c : Bool). c && (b == s.to)) e) ∙ parts.0 in
     let here : (s.to == b) ≡ false = ⊎_elim
     (λ (yes_to : (s.to == b) ≡ true). absurd (false_not_true (sym other ∙ eq-eqb b s.to (sym (eqb-true s.to b yes_to)))))
@@ -172,13 +140,13 @@ offered_empty w from to a b message (Some fault) e empty = empty
 offered_empty w from to a b message None e empty = ap (λ (c : Bool). cond c (w.waiting from to ++ message ∷ []) (w.waiting a b)) e ∙ empty
 
 happens_empty : (network : Network) (w : World) (a b : ℕ) (h : Happening) → list_any (is_pair a b) (links_by network w h) ≡ false → w.waiting a b ≡ [] → (happens network w h).waiting a b ≡ []
-happens_empty network w a b (Offers from to message) e empty = offered_empty w from to a b message (offer_fault network w from to message) (none_of ((a == from) && (b == to)) false e).0 empty
+happens_empty network w a b (Offers from to message) e empty = offered_empty w from to a b message (offer_fault network w from to message) (or_parts ((a == from) && (b == to)) false e).0 empty
 happens_empty network w a b (Delivers from to) e empty = delivered_empty network w from to a b (w.waiting from to) refl e empty
 
 run_empty : (network : Network) (w : World) (a b : ℕ) (history : List Happening) → list_any (is_pair a b) (links_from network w history) ≡ false → w.waiting a b ≡ [] → (run network w history).waiting a b ≡ []
 run_empty network w a b [] e empty = empty
 run_empty network w a b (h ∷ history) e empty =
-    let parts = none_of (list_any (is_pair a b) (links_by network w h)) (list_any (is_pair a b) (links_from network (happens network w h) history))
+    let parts = or_parts (list_any (is_pair a b) (links_by network w h)) (list_any (is_pair a b) (links_from network (happens network w h) history))
     (sym (list_any-append (is_pair a b) (links_by network w h) (links_from network (happens network w h) history)) ∙ e) in
     run_empty network (happens network w h) a b history parts.1 (happens_empty network w a b h parts.0 empty)
 
@@ -199,15 +167,18 @@ some_held (m ∷ ms) h = refl
 held_some : (ms : List Message) → is_some_message ms ≡ true → ms ≡ [] → ⊥
 held_some ms h e = false_not_true (sym (ap is_some_message e) ∙ h)
 
+-- the one link that may be named next is the one that the definition names
 pub next_is : (network : Network) (history : List Happening) (p : ℕ × ℕ) → IsNextLink (after network history) p.0 p.1 → next_link network (after network history) history ≡ Some p
 next_is network history p next =
     let w : World = after network history in
     let held : holds w p ≡ true = some_held (w.waiting p.0 p.1) next.holds in
     least_there w p held (λ q h. next.least q.0 q.1 (held_some (w.waiting q.0 q.1) h)) (links_from network start history) (among network history p held)
 
+-- where no link holds a message, the definition names none
 pub next_none : (network : Network) (history : List Happening) → IsSettled (after network history) → next_link network (after network history) history ≡ None
 next_none network history settled = none_holds (after network history) (links_from network start history) (λ l. ap is_some_message (settled l.0 l.1))
 
+-- what a running world names, a link or none, is what the definition names
 pub next_by : (network : Network) (history : List Happening) (o : Option (ℕ × ℕ)) → IfSome o (λ l. IsNextLink (after network history) l.0 l.1) → IfNone o (IsSettled (after network history))
     → o ≡ next_link network (after network history) history
 next_by network history None some none = sym (next_none network history none)

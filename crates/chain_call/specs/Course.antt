@@ -1,4 +1,4 @@
--- The course of a connection so far: a plan, what has happened in its world, what ends were handed, and how many messages were offered and delivered since it began.
+-- How far a connection has come.
 use Rattle.std.specs.Prelude.{ℕ, List, []}
 use Rattle.plan_model.specs.Network as plans
 use Rattle.couple_chain.specs.declared.happening.Happening.{Happening}
@@ -6,6 +6,7 @@ use Rattle.couple_chain.specs.World.{World}
 use Rattle.chain_world.specs.Kept.{Kept, kept, world_of}
 use Rattle.chain_call.specs.declared.handed.Handed.{Handed}
 
+-- the plan, all that has happened in its world, what ends were handed since the connection began, and how many messages were offered and how many deliveries made since then
 pub record Course : Type 0 where
   pub plan : plans.Network
   pub history : List Happening
@@ -13,13 +14,14 @@ pub record Course : Type 0 where
   pub offers : ℕ
   pub deliveries : ℕ
 
+-- the same, made of a world and the rest
 abbrev pub course : Kept → List Handed → ℕ → ℕ → Course
 course k handed offers deliveries = record { plan = k.plan; history = k.history; handed = handed; offers = offers; deliveries = deliveries }
 
--- a connection that is about to begin
+-- a connection that is about to begin in a world
 abbrev pub beginning : Kept → Course
 beginning k = course k [] 0 0
 
--- the world that was come to
+-- the world that the history leaves
 abbrev pub world_at : Course → World
 world_at c = world_of (kept c.plan c.history)

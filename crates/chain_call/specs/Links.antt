@@ -12,6 +12,7 @@ use Rattle.chain_world.specs.Running.{lesser}
 abbrev pub sent_links : ℕ → List Answer → List (ℕ × ℕ)
 sent_links node sent = map (λ (s : Answer). (node, s.to)) sent
 
+-- the links on which a delivery puts messages, where these messages stand on the link that delivers: those of the relay that takes the first of them
 abbrev pub links_of : Network → World → ℕ → ℕ → List Message → List (ℕ × ℕ)
 links_of network w from to [] = []
 links_of network w from to (message ∷ rest) =
@@ -22,15 +23,17 @@ abbrev pub links_by : Network → World → Happening → List (ℕ × ℕ)
 links_by network w (Offers from to message) = (from, to) ∷ []
 links_by network w (Delivers from to) = links_of network w from to (w.waiting from to)
 
+-- all links on which a history puts messages, from a world on
 abbrev pub links_from : Network → World → List Happening → List (ℕ × ℕ)
 links_from network w [] = []
 links_from network w (h ∷ history) = links_by network w h ++ links_from network (happens network w h) history
 
--- the link holds a message
+-- there is a message among these
 abbrev pub is_some_message : List Message → Bool
 is_some_message [] = false
 is_some_message (message ∷ rest) = true
 
+-- the link, which is given by its two points, holds a message
 abbrev pub holds : World → ℕ × ℕ → Bool
 holds w l = is_some_message (w.waiting l.0 l.1)
 

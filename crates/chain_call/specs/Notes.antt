@@ -8,6 +8,7 @@ use Rattle.chain_call.specs.declared.note.Note.TheVariants.{Request, Confirm, Re
 use Rattle.chain_call.specs.declared.handed.Handed.{Handed}
 use Rattle.chain_call.specs.declared.finding.Requested.{Requested}
 
+-- of each type of message what the steps of a connection ask for, and of any other type nothing
 abbrev pub note_of : Message → Note
 note_of (messages.Cr slr class called params) = Request slr
 note_of (messages.Cc dlr slr class params) = Confirm slr
@@ -21,50 +22,58 @@ abbrev pub release_of : Note → Option (ℕ × ℕ)
 release_of (Release dlr slr) = Some (dlr, slr)
 release_of note = None
 
+-- the first of two values where it is there, and else the later one
 abbrev pub or_later : {A : Type 0} → Option A → Option A → Option A
 or_later (Some x) later = Some x
 or_later None later = later
 
--- the first request that an end was handed: the relay and the end, and its source reference
+-- a request that an end was handed: the points of the relay and of the end, and its source reference
 abbrev pub request_of : ℕ → ℕ → Note → Option Requested
 request_of from to (Request slr) = Some (record { from = from; to = to; slr = slr })
 request_of from to note = None
 
+-- the first request that any end was handed
 abbrev pub first_request : List Handed → Option Requested
 first_request [] = None
 first_request (h ∷ handed) = or_later (request_of h.from h.to h.note) (first_request handed)
 
--- the source reference of the first confirmation that the end at a point was handed
+-- the source reference of a confirmation
 abbrev pub confirm_of : Note → Option ℕ
 confirm_of (Confirm slr) = Some slr
 confirm_of note = None
 
+-- the same, where the end at this point was handed it
 abbrev pub confirm_at : ℕ → Handed → Option ℕ
 confirm_at point h = if h.to == point then confirm_of h.note else None
 
+-- the source reference of the first confirmation that the end at this point was handed
 abbrev pub first_confirm : ℕ → List Handed → Option ℕ
 first_confirm point [] = None
 first_confirm point (h ∷ handed) = or_later (confirm_at point h) (first_confirm point handed)
 
--- the cause of the first refusal that it was handed
+-- the cause of a refusal
 abbrev pub refusal_of : Note → Option ℕ
 refusal_of (Refusal cause) = Some cause
 refusal_of note = None
 
+-- the same, where the end at this point was handed it
 abbrev pub refusal_at : ℕ → Handed → Option ℕ
 refusal_at point h = if h.to == point then refusal_of h.note else None
 
+-- the cause of the first refusal that the end at this point was handed
 abbrev pub first_refusal : ℕ → List Handed → Option ℕ
 first_refusal point [] = None
 first_refusal point (h ∷ handed) = or_later (refusal_at point h) (first_refusal point handed)
 
--- the data that it was handed with a destination reference, in order
+-- the data of a message with this destination reference
 abbrev pub data_of : ℕ → Note → List ℕ
 data_of reference (Data dlr payload) = if dlr == reference then payload else []
 data_of reference note = []
 
+-- the same, where the end at this point was handed it
 abbrev pub data_in : ℕ → ℕ → Handed → List ℕ
 data_in point reference h = if h.to == point then data_of reference h.note else []
 
+-- all data that the end at this point was handed with this destination reference, in order
 abbrev pub data_at : ℕ → ℕ → List Handed → List ℕ
 data_at point reference handed = flat_map (data_in point reference) handed

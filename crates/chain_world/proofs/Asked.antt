@@ -1,9 +1,9 @@
 -- What is asked of a running world, by its fields.
-use Rattle.std.specs.Prelude.{ℕ, ◌≡◌, ◌↔◌, ◌+◌, ◌<◌, ◌≤◌, ◌==◌, ◌⊎◌, nat_lt, nat_le, Bool, true, false, not, cond, ◌&&◌, ◌||◌, List, [], ◌∷◌, drop, length, map, sum, slice_get, All, Option, Some, None, is_some, refl}
+use Rattle.std.specs.Prelude.{ℕ, ◌≡◌, ◌↔◌, ◌+◌, ◌<◌, ◌≤◌, ◌==◌, ◌⊎◌, Bool, true, false, not, cond, ◌&&◌, ◌||◌, List, [], ◌∷◌, drop, length, map, sum, slice_get, All, Option, Some, None, is_some, refl}
 use Rattle.std.specs.List.{list_any, list_all}
 use Rattle.std.proofs.Common.{zero, suc, sym, ◌∙◌, ap, subst, ⊎_elim, inl, inr, arith, get_or}
 use Rattle.std.proofs.Math.Seq.{drop-cons}
-use Rattle.std.proofs.lemmas.Bool.{and_parts, and_from, cases_Bool, cases_eq, eqb-true, eq-eqb, ltb-true, ltb-false, leb-true, leb-false}
+use Rattle.std.proofs.lemmas.Bool.{and_parts, and_from, cases_Bool, eqb-true}
 use Rattle.std.proofs.lemmas.Option.{slice_get-get_or}
 use Rattle.plan_model.specs.declared.node.Node.{Node}
 use Rattle.plan_model.specs.Network as plans
@@ -19,11 +19,13 @@ use Rattle.chain_world.specs.declared.link.Link.{Link}
 use Rattle.chain_world.specs.Kept.{network_of}
 use Rattle.chain_world.specs.Links.{is_link, of_link, octets_on, gone_from}
 use Rattle.chain_world.specs.Running.{IsRelay, IsWorld, holds_on, is_before, lesser, best_of, sections_of}
+use Rattle.chain_world.proofs.Before.{Precedes, precedes_by, precedes_not, precedes_then, precedes_same}
 use Rattle.chain_world.proofs.Happens.{front_is, oldest_not, regular}
 use Rattle.chain_world.proofs.Nodes.{point_by}
 
 -- ---- references that are given once
 
+-- references are given once each from a place on where the one at this place isn't given again and those behind it are given once each
 pub given_once : (ns : List ℕ) (i : ℕ) (b : Bool) → i < length ns → ((own : ℕ) → slice_get ns i ≡ Some own → b ≡ list_any (λ m. m == own) (drop (i + 1) ns)) → no_repeat (drop i ns) ≡ (not b && no_repeat (drop (i + 1) ns))
 given_once ns i b lt h =
     let own : ℕ = get_or ns i 0 in
@@ -33,6 +35,7 @@ given_once ns i b lt h =
     one_more : (n : ℕ) → suc n ≡ n + 1
     one_more n = omega arith
 
+-- no reference stands at or behind a place that is no place of the list
 pub nothing_left : (ns : List ℕ) (i : ℕ) → length ns ≤ i → drop i ns ≡ []
 nothing_left [] zero h = refl
 nothing_left [] (suc i) h = refl
@@ -41,6 +44,7 @@ nothing_left (n ∷ ns) (suc i) h = nothing_left ns i (omega arith)
 
 -- ---- over the relays, in the order of the nodes
 
+-- a test that each relay passes exactly where its point passes another one: all relays pass the one where all points pass the other
 pub all_by_node : (f : Relaying → Bool) (g : ℕ → Bool) (rs : List Relaying) (nodes : List Node) → length rs ≡ length nodes → ((i : ℕ) (d : Relaying) (e : Node) → i < length rs → f (get_or rs i d) ≡ g (get_or nodes i e).pc) →
     list_all f rs ≡ list_all g (map (λ (node : Node). node.pc) nodes)
 all_by_node f g [] [] same h = refl
@@ -64,17 +68,20 @@ relay_by : (plan : plans.Network) (relays : List Relaying) (links : List Link) (
 relay_by plan relays links history is i d e lt =
     subst (λ (n : ℕ). IsRelay i ((after (network_of plan) history).moments n) (get_or relays i d)) (point_by plan i e (omega (arith, is.count, lt))) (is.each i d lt)
 
+-- what relays note of the references that they gave tells whether the world is fresh
 pub fresh_by : (plan : plans.Network) (relays : List Relaying) (links : List Link) (history : List Happening) → IsWorld plan relays links history → list_all (λ (r : Relaying). no_repeat r.given) relays ≡ is_fresh (network_of plan) (after (network_of plan) history)
 fresh_by plan relays links history is =
     all_by_node (λ (r : Relaying). no_repeat r.given) (λ n. no_repeat (given ((after (network_of plan) history).moments n))) relays plan.nodes is.count
     (λ i d e lt. ap no_repeat (relay_by plan relays links history is i d e lt).given_are)
 
+-- the relays have as many sections as the world of the definition
 pub sections_by : (plan : plans.Network) (relays : List Relaying) (links : List Link) (history : List Happening) → IsWorld plan relays links history → sum (map (λ (r : Relaying). length r.sections) relays) ≡ sections_of (network_of plan) (after (network_of plan) history)
 sections_by plan relays links history is =
     ap sum
     (maps_by_node (λ (r : Relaying). length r.sections) (λ n. length ((after (network_of plan) history).moments n).sections) relays plan.nodes is.count
     (λ i d e lt. ap length (relay_by plan relays links history is i d e lt).sections_are))
 
+-- each relay has at most 4,096 sections
 pub few_sections : (plan : plans.Network) (relays : List Relaying) (links : List Link) (history : List Happening) → IsWorld plan relays links history → All (λ (r : Relaying). length r.sections ≤ 4096) relays
 few_sections plan relays links history is = few_in relays (λ i d lt. few i d lt)
   where
@@ -126,6 +133,7 @@ all_always : (f : Link → Bool) (ls : List Link) → ((l : Link) → f l ≡ tr
 all_always f [] h = refl
 all_always f (l ∷ ls) h = and_from (f l) (list_all f ls) (h l) (all_always f ls h)
 
+-- no record of a link is one of a link that holds a message, exactly where no link of the world holds one
 pub settled_by : (plan : plans.Network) (relays : List Relaying) (links : List Link) (history : List Happening) → IsWorld plan relays links history → (list_all (λ l. not (holds_on links l)) links ≡ true) ↔ IsSettled (after (network_of plan) history)
 settled_by plan relays links history is = (
   λ h a b. oldest_not plan relays links history a b is (nothing_held links a b h),
@@ -133,43 +141,6 @@ settled_by plan relays links history is = (
 )
 
 -- ---- the least link that holds a message
-
-abbrev Precedes : ℕ × ℕ → ℕ → ℕ → Type 0
-Precedes p a b = (p.0 < a) ⊎ ((p.0 ≡ a) × (p.1 ≤ b))
-
-precedes_by : (p : ℕ × ℕ) (a b : ℕ) → is_before p.0 p.1 a b ≡ true → Precedes p a b
-precedes_by p a b h =
-    elim (nat_lt p.0 a) as (λ c. nat_lt p.0 a ≡ c → (c || ((p.0 == a) && nat_le p.1 b)) ≡ true → Precedes p a b) [
-      | true ↦ λ e k. inl (ltb-true p.0 a e)
-      | false ↦ λ e k. let parts = and_parts (p.0 == a) (nat_le p.1 b) k in inr (eqb-true p.0 a parts.0, leb-true p.1 b parts.1)
-    ] refl h
-
-precedes_not : (p : ℕ × ℕ) (a b : ℕ) → is_before p.0 p.1 a b ≡ false → Precedes (a, b) p.0 p.1
-precedes_not p a b h =
-    ⊎_elim
-    (λ (less : nat_lt p.0 a ≡ true). absurd (true_not_false (sym (ap (λ (c : Bool). c || ((p.0 == a) && nat_le p.1 b)) less) ∙ h)))
-    (λ (more : nat_lt p.0 a ≡ false).
-    let le = ltb-false p.0 a more in
-    ⊎_elim
-    (λ (e : p.0 ≡ a). inr (sym e, second e (sym (ap (λ (c : Bool). c || ((p.0 == a) && nat_le p.1 b)) more ∙ ap (λ (c : Bool). c && nat_le p.1 b) (eq-eqb p.0 a e)) ∙ h)))
-    (λ (n : p.0 ≡ a → ⊥). inl (omega (arith, le, n)))
-    (cases_eq p.0 a))
-    (cases_Bool (nat_lt p.0 a))
-  where
-    true_not_false : true ≡ false → ⊥
-    true_not_false z = cc
-
-    second : p.0 ≡ a → nat_le p.1 b ≡ false → b ≤ p.1
-    second e k = let lt = leb-false p.1 b k in omega (arith, lt)
-
-precedes_then : (p q : ℕ × ℕ) (a b : ℕ) → Precedes p q.0 q.1 → Precedes q a b → Precedes p a b
-precedes_then p q a b (inl h) (inl k) = inl (omega (arith, h, k))
-precedes_then p q a b (inl h) (inr k) = inl (let e = k.0 in omega (arith, h, e))
-precedes_then p q a b (inr h) (inl k) = inl (let e = h.0 in omega (arith, e, k))
-precedes_then p q a b (inr h) (inr k) = inr (h.0 ∙ k.0, let x = h.1 in let y = k.1 in omega (arith, x, y))
-
-precedes_same : (a b : ℕ) → Precedes (a, b) a b
-precedes_same a b = inr (refl, omega arith)
 
 -- what was found is a link that holds a message, and comes before what was best and before each one in the list
 record IsBest (links : List Link) (best : Option (ℕ × ℕ)) (ls : List Link) (found : Option (ℕ × ℕ)) : Type 0 where
@@ -264,6 +235,7 @@ best_cases : (o : Option (ℕ × ℕ)) → (o ≡ None) ⊎ ((p : ℕ × ℕ) ×
 best_cases None = inl refl
 best_cases (Some p) = inr (p, refl)
 
+-- the link that comes first among the records is the one that is to deliver next
 pub next_by : (plan : plans.Network) (relays : List Relaying) (links : List Link) (history : List Happening) → IsWorld plan relays links history → (p : ℕ × ℕ) → best_of links None links ≡ Some p → IsNextLink (after (network_of plan) history) p.0 p.1
 next_by plan relays links history is p e =
     let r = best_is links None links (λ q f. absurd (let z : None ≡ Some q = f in cc)) in
@@ -277,6 +249,7 @@ next_by plan relays links history is p e =
           subst (λ (q : ℕ × ℕ). Precedes q a b) same t.2;
     }
 
+-- where no record is one of a link that holds a message, no link of the world holds one
 pub none_next : (plan : plans.Network) (relays : List Relaying) (links : List Link) (history : List Happening) → IsWorld plan relays links history → best_of links None links ≡ None → IsSettled (after (network_of plan) history)
 none_next plan relays links history is e a b =
     let r = best_is links None links (λ q f. absurd (let z : None ≡ Some q = f in cc)) in
@@ -285,6 +258,7 @@ none_next plan relays links history is e a b =
     (λ (none : is_some (slice_get (octets_on links a b) (gone_from links a b)) ≡ false). oldest_not plan relays links history a b is (is_none_of (slice_get (octets_on links a b) (gone_from links a b)) (ap not none)))
     (cases_Bool (is_some (slice_get (octets_on links a b) (gone_from links a b))))
 
+-- where no link of the world holds a message, no record is one of a link that does
 pub settled_none : (plan : plans.Network) (relays : List Relaying) (links : List Link) (history : List Happening) → IsWorld plan relays links history → IsSettled (after (network_of plan) history) → best_of links None links ≡ None
 settled_none plan relays links history is settled =
     ⊎_elim

@@ -43,16 +43,19 @@ use Rattle.chain_world.specs.Answering.{octets_to, with_octets}
 use Rattle.chain_world.specs.Offering.{early_fault, offers_of}
 use Rattle.chain_world.specs.Running.{oldest_of, IsRelay, Keeps, IsWorld}
 use Rattle.chain_world.proofs.Nodes.{At, points_differ}
+use Rattle.chain_world.proofs.Stored.{same_way}
 
 run_more : (network : Network) (w : World) (history : List Happening) (h : Happening) → run network w (history ++ h ∷ []) ≡ happens network (run network w history) h
 run_more network w [] h = refl
 run_more network w (x ∷ history) h = run_more network (happens network w x) history h
 
+-- the world that a longer history leaves is what its last happening makes of the world before
 pub after_more : (network : Network) (history : List Happening) (h : Happening) → after network (history ++ h ∷ []) ≡ happens network (after network history) h
 after_more network history h = run_more network start history h
 
 -- ---- what every coupling of a world keeps
 
+-- what holds of each ledger that a run of a coupling leaves
 pub record IsRegular (m : Moment) : Type 0 where
   pub kept : IsKept m
   pub fair : All (IsFair m.sections) m.pairs
@@ -75,11 +78,17 @@ regular_run : (network : Network) (w : World) (history : List Happening) → ((n
 regular_run network w [] is = is
 regular_run network w (h ∷ history) is = regular_run network (happens network w h) history (regular_happens network w h is)
 
+-- it holds of each relay's ledger after every history
 pub regular : (network : Network) (history : List Happening) (n : ℕ) → IsRegular ((after network history).moments n)
 regular network history = regular_run network start history (λ n. record { kept = kept_after []; fair = All-nil (IsFair []) })
 
 -- ---- an empty link delivers
 
+or_false : (b : Bool) → (b || false) ≡ b
+or_false true = refl
+or_false false = refl
+
+-- the delivery of an empty link leaves all that relays and links keep as it was
 pub delivers_none : (plan : plans.Network) (relays : List Relaying) (links : List Link) (history : List Happening) (from to : ℕ) → IsWorld plan relays links history →
     (after (network_of plan) history).waiting from to ≡ [] → IsWorld plan relays links (history ++ Delivers from to ∷ [])
 delivers_none plan relays links history from to is none =
@@ -95,13 +104,10 @@ delivers_none plan relays links history from to is none =
       fit = is.fit;
       used = λ f own end. is.used f own end ∙ sym (list_any-append (offers_of f own) history (Delivers from to ∷ []) ∙ or_false (list_any (offers_of f own) history));
     })
-  where
-    or_false : (b : Bool) → (b || false) ≡ b
-    or_false true = refl
-    or_false false = refl
 
 -- ---- fields that are the same, point by point
 
+-- records of links that tell the same, point by point, fit the same world
 pub same_links : (plan : plans.Network) (relays : List Relaying) (links more : List Link) (history : List Happening) → IsWorld plan relays links history → ((a b : ℕ) → octets_on more a b ≡ octets_on links a b) → ((a b : ℕ) → gone_from more a b ≡ gone_from links a b) →
     IsWorld plan relays more history
 same_links plan relays links more history is octets gone =
@@ -141,10 +147,6 @@ octets_put w from to message a b =
           ∙ map-append message_octets (put_on w from to) (message ∷ [])
       | false ↦ λ e. ap (map message_octets) (put_on_else w from to message a b e)
     ] refl
-
-or_false : (b : Bool) → (b || false) ≡ b
-or_false true = refl
-or_false false = refl
 
 or_swap : (a b c : Bool) → ((a || c) || b) ≡ ((a || b) || c)
 or_swap true b c = refl
@@ -200,9 +202,6 @@ named_on w from to message f own n =
     and_false true = refl
     and_false false = refl
 
-    same_way : (m n : ℕ) → (m == n) ≡ (n == m)
-    same_way m n = grind arith
-
     last : (x y : Bool) → x ≡ true → (y || false) ≡ ((x && y) && true)
     last true true h = refl
     last true false h = refl
@@ -218,6 +217,7 @@ used_put network w from to message f own there =
     and_true true = refl
     and_true false = refl
 
+-- an accepted offer that went on its link leaves what the longer history says
 pub accepted : (plan : plans.Network) (relays : List Relaying) (links more : List Link) (history : List Happening) (from to : ℕ) (message : Message) → IsWorld plan relays links history →
     offer_fault (network_of plan) (after (network_of plan) history) from to message ≡ None → IsFit message →
     ((a b : ℕ) → octets_on more a b ≡ with_at from to (octets_on links from to ++ message_octets message ∷ []) (octets_on links) a b) → ((a b : ℕ) → gone_from more a b ≡ gone_from links a b) →
@@ -268,7 +268,7 @@ one_gone links more w from to message rest is gone a b =
 no_offer : (f own from to : ℕ) (history : List Happening) → list_any (offers_of f own) history ≡ list_any (offers_of f own) (history ++ Delivers from to ∷ [])
 no_offer f own from to history = sym (list_any-append (offers_of f own) history (Delivers from to ∷ []) ∙ or_false (list_any (offers_of f own) history))
 
--- at an end it comes out
+-- a message that comes out at an end leaves what the longer history says
 pub comes_out : (plan : plans.Network) (relays : List Relaying) (links more : List Link) (history : List Happening) (from to : ℕ) (message : Message) (rest : List Message) → IsWorld plan relays links history →
     (after (network_of plan) history).waiting from to ≡ message ∷ rest → is_node (network_of plan) to ≡ false → ((a b : ℕ) → octets_on more a b ≡ octets_on links a b) →
     ((a b : ℕ) → gone_from more a b ≡ with_at from to (gone_from links from to + 1) (gone_from links) a b) → IsWorld plan relays more (history ++ Delivers from to ∷ [])
@@ -322,6 +322,7 @@ is_relay_then node m r event fair is =
     let n = noted_happens m r event fair (record { sections = is.sections_are; passed = is.passed_is; given_is = is.given_are }) in
     record { node_is = is.node_is; sections_are = n.sections; passed_is = n.passed; given_are = n.given_is }
 
+-- a relay that took the message, whose answers went on their links, leaves what the longer history says
 pub handles : (plan : plans.Network) (relays : List Relaying) (links more : List Link) (history : List Happening) (from to place : ℕ) (message : Message) (rest : List Message) (r after_r : Relaying) → IsWorld plan relays links history →
     (after (network_of plan) history).waiting from to ≡ message ∷ rest → is_node (network_of plan) to ≡ true → At plan to place → r ≡ get_or relays place r → after_r ≡ relay_after r (event_of plan r.node [] from message) →
     ((a b : ℕ) → octets_on more a b ≡ with_octets to (map written_sent (coupled r.sections (event_of plan r.node [] from message)).sent) (octets_on links) a b) →
@@ -425,6 +426,7 @@ behind : {A : Type 0} (P : A → Type 0) (xs ys : List A) → AllByRecursion P (
 behind P [] ys h = h
 behind P (x ∷ xs) ys h = behind P xs ys h.1
 
+-- the octets behind those that a link has delivered are those of the first message that waits on it
 pub front_is : (plan : plans.Network) (relays : List Relaying) (links : List Link) (history : List Happening) (from to : ℕ) → IsWorld plan relays links history →
     slice_get (octets_on links from to) (gone_from links from to) ≡ slice_get (map message_octets ((after (network_of plan) history).waiting from to)) 0
 front_is plan relays links history from to is =
@@ -433,12 +435,14 @@ front_is plan relays links history from to is =
     ∙ ap (λ (n : ℕ). slice_get (map message_octets (put_on w from to)) n) (is.gone from to)
     ∙ at_front (w.arrived from to) (w.waiting from to)
 
+-- where a link has such octets, they read as the message that it delivers next, which can be handled
 pub oldest_there : (plan : plans.Network) (relays : List Relaying) (links : List Link) (history : List Happening) (from to : ℕ) (octets : List ℕ) → IsWorld plan relays links history →
     slice_get (octets_on links from to) (gone_from links from to) ≡ Some octets → IsOldest ((after (network_of plan) history).waiting from to) octets
 oldest_there plan relays links history from to octets is h =
     let w : World = after (network_of plan) history in
     oldest_by (w.waiting from to) octets (behind IsFit (w.arrived from to) (w.waiting from to) (is.fit from to)) (sym (front_is plan relays links history from to is) ∙ h)
 
+-- where it has none, no message waits on it
 pub oldest_not : (plan : plans.Network) (relays : List Relaying) (links : List Link) (history : List Happening) (from to : ℕ) → IsWorld plan relays links history →
     slice_get (octets_on links from to) (gone_from links from to) ≡ None → (after (network_of plan) history).waiting from to ≡ []
 oldest_not plan relays links history from to is h = nothing_by ((after (network_of plan) history).waiting from to) (sym (front_is plan relays links history from to is) ∙ h)
@@ -458,12 +462,14 @@ more_there plan relays links history from to message rest is h =
     longer [] m rest = omega arith
     longer (x ∷ ms) m rest = let e = longer ms m rest in omega (arith, e)
 
+-- where there is an oldest message, the list begins with it
 pub holds_message : (ms : List Message) (m : Message) → oldest_of ms ≡ Some m → (rest : List Message) × (ms ≡ m ∷ rest)
 holds_message [] m h = absurd (let z : None ≡ Some m = h in cc)
 holds_message (x ∷ rest) m h = let e : x ≡ m = cc in (rest, ap (λ (y : Message). y ∷ rest) e)
 
 -- ---- at the start
 
+-- relays without sections and no records of links are a world in which nothing has happened
 pub begins : (plan : plans.Network) (relays : List Relaying) (links : List Link) (history : List Happening) → IsPlan plan → relays ≡ map first_relay (range_with_len 0 (length plan.nodes)) → links ≡ [] → history ≡ [] → IsWorld plan relays links history
 begins plan relays links history is relays_are links_are history_is =
     subst (λ (rs : List Relaying). IsWorld plan rs links history) (sym relays_are)
@@ -487,17 +493,20 @@ begins plan relays links history is relays_are links_are history_is =
 
 -- ---- a link that has delivered one message more than before the relay sent its own
 
+-- where only the last of two steps has a link deliver, both together do
 pub gone_over : (from to : ℕ) (old mid new : ℕ → ℕ → ℕ) → ((a b : ℕ) → mid a b ≡ old a b) → ((a b : ℕ) → new a b ≡ with_at from to (mid from to + 1) mid a b) → (a b : ℕ) → new a b ≡ with_at from to (old from to + 1) old a b
 gone_over from to old mid new same more a b =
     more a b
     ∙ ap (λ (n : ℕ). cond ((a == from) && (b == to)) (n + 1) (mid a b)) (same from to)
     ∙ ap (λ (n : ℕ). cond ((a == from) && (b == to)) (old from to + 1) n) (same a b)
 
+-- a link to a relay that holds a message answers that it was handled
 pub handled_answer : (network : Network) (from to : ℕ) (waiting : List Message) (message : Message) (rest : List Message) → waiting ≡ message ∷ rest → is_node network to ≡ true → Handled ≡ delivery_of network to waiting
 handled_answer network from to waiting message rest queue inner = sym (ap (delivery_of network to) queue ∙ ap (λ (b : Bool). cond b Handled (Out message)) inner)
 
 -- ---- the tests of an offer
 
+-- an offer that fails one of the tests before the last one fails it, whatever the last one says
 pub early_stays : (network : Network) (w : World) (from to : ℕ) (message : Message) (f : OfferFault) (last : Bool) → early_fault network w from to message ≡ Some f →
     fault_by (is_node network from) (not (is_node network to)) (is_some (called_of message)) (uses_again network w from (name_of message)) last ≡ Some f
 early_stays network w from to message f last = go (is_node network from) (not (is_node network to)) (is_some (called_of message)) (uses_again network w from (name_of message)) last
@@ -509,6 +518,7 @@ early_stays network w from to message f last = go (is_node network from) (not (i
     go false false false true e h = h
     go false false false false e h = absurd (let z : None ≡ Some f = h in cc)
 
+-- an offer that passes all tests before the last one fails exactly where it fails that one
 pub then_last : (network : Network) (w : World) (from to : ℕ) (message : Message) (last : Bool) → early_fault network w from to message ≡ None →
     fault_by (is_node network from) (not (is_node network to)) (is_some (called_of message)) (uses_again network w from (name_of message)) last ≡ cond last (Some NotWritable) None
 then_last network w from to message last = go (is_node network from) (not (is_node network to)) (is_some (called_of message)) (uses_again network w from (name_of message)) last
@@ -524,7 +534,7 @@ octets_cases : (o : Option JoinFault) (octets : List ℕ) → ((o ≡ None) × (
 octets_cases None octets = inl (refl, refl)
 octets_cases (Some f) octets = inr (refl, refl)
 
--- one that passes them all
+-- one that passes all tests before the last one, and can be written, passes them all
 pub none_left : (network : Network) (w : World) (from to : ℕ) (message : Message) (octets : List ℕ) → early_fault network w from to message ≡ None → Sound message → octets_of message ≡ Some octets →
     (offer_fault network w from to message ≡ None) × (octets ≡ message_octets message)
 none_left network w from to message octets early sound written =
@@ -538,7 +548,7 @@ none_left network w from to message octets early sound written =
     (λ (not_it : (is_none (write_fault message) ≡ false) × (octets_of message ≡ None)). absurd (let e : None ≡ Some octets = sym not_it.1 ∙ written in cc))
     (octets_cases (write_fault message) (message_octets message))
 
--- one that can't be written
+-- one that passes all tests before the last one, and can't be written, fails the last one
 pub not_written : (network : Network) (w : World) (from to : ℕ) (message : Message) → early_fault network w from to message ≡ None → octets_of message ≡ None → offer_fault network w from to message ≡ Some NotWritable
 not_written network w from to message early none =
     ⊎_elim
@@ -547,6 +557,7 @@ not_written network w from to message early none =
     then_last network w from to message (not (is_writable message)) early ∙ ap (λ (b : Bool). cond (not (b && is_none (unread message))) (Some NotWritable) None) not_it.0)
     (octets_cases (write_fault message) (message_octets message))
 
+-- an offer that passes the tests before the last one is of a connection-oriented message
 pub connection_of : (network : Network) (w : World) (from to : ℕ) (message : Message) → early_fault network w from to message ≡ None → called_of message ≡ None
 connection_of network w from to message early =
     is_none_of (called_of message) (none_by (is_node network from) (not (is_node network to)) (is_some (called_of message)) (uses_again network w from (name_of message)) false early).2

@@ -1,8 +1,10 @@
+pub mod Values
 pub mod Stored
 pub mod Few
 pub mod Answered
 pub mod Nodes
 pub mod Happens
+pub mod Before
 pub mod Asked
 pub mod Readable
 pub mod Legs

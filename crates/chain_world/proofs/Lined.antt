@@ -44,6 +44,7 @@ none_in : (o : Option Message) → option_and_then (piece_for None) o ≡ None
 none_in None = refl
 none_in (Some m) = none_for m
 
+-- no message is a DT1 for a section that has no remote
 pub nothing_for : (octets : List (List ℕ)) → pieces_in None octets ≡ []
 nothing_for [] = refl
 nothing_for (b ∷ octets) = ap (λ (o : Option Piece). cons_option o (pieces_in None octets)) (none_in (if_read (reading b))) ∙ nothing_for octets
@@ -95,6 +96,7 @@ passed_is plan relays links history is l s stage =
     (of_found stage.found.0 ((after (network_of plan) history).moments (point_of plan s.node)).pairs l.pair (get_or relays s.node (first_relay 0)).passed
     (subst (λ (n : ℕ). find stage.found.0 ((after (network_of plan) history).moments n).pairs ≡ Some l.pair) stage.node_is stage.found.1) r.passed_is)
 
+-- the relay at a place of the plan has the sections of the coupling of its point
 pub sections_there : (plan : plans.Network) (relays : List Relaying) (links : List Link) (history : List Happening) → IsWorld plan relays links history → (place : ℕ) → place < length plan.nodes →
     sections_at relays place ≡ ((after (network_of plan) history).moments (point_of plan place)).sections
 sections_there plan relays links history is place lt =
@@ -115,9 +117,11 @@ last_is plan w l s (m ∷ ls) (t ∷ ss) is h = last_is plan w m t ls ss h.0 h.1
 last_is plan w l s [] (t ∷ ss) is h = absurd h
 last_is plan w l s (m ∷ ls) [] is h = absurd h
 
+-- a line of its six parts
 abbrev pub made_line : List ℕ → ℕ → List Piece → List Piece → List Piece → List Piece → Line
 made_line p e a b c d = record { path = p; end_point = e; forth_in = a; forth_out = b; back_in = c; back_out = d }
 
+-- lines with the same parts are the same
 pub same_line : (p q : List ℕ) (e f : ℕ) (a b c d a' b' c' d' : List Piece) → p ≡ q → e ≡ f → a ≡ a' → b ≡ b' → c ≡ c' → d ≡ d' → made_line p e a b c d ≡ made_line q f a' b' c' d'
 same_line p q e f a b c d a' b' c' d' h1 h2 h3 h4 h5 h6 =
     ap (λ (x : List ℕ). made_line x e a b c d) h1 ∙ ap (λ (x : ℕ). made_line q x a b c d) h2 ∙ ap (λ (x : List Piece). made_line q f x b c d) h3 ∙ ap (λ (x : List Piece). made_line q f a' x c d) h4
@@ -159,6 +163,7 @@ from_first plan relays links history is (Some l) (Some s) h =
 from_first plan relays links history is None (Some s) h = absurd h
 from_first plan relays links history is (Some l) None h = absurd h
 
+-- the line that relays find is the line of the definition
 pub line_is : (plan : plans.Network) (relays : List Relaying) (links : List Link) (history : List Happening) → IsWorld plan relays links history → (point reference : ℕ) →
     line_in plan relays links point reference ≡ line (network_of plan) (after (network_of plan) history) point reference
 line_is plan relays links history is point reference =
@@ -180,11 +185,13 @@ line_is plan relays links history is point reference =
 
 -- ---- by what was found on the way
 
+-- from a relay's point no line begins
 pub at_node : (plan : plans.Network) (relays : List Relaying) (links : List Link) (history : List Happening) → IsWorld plan relays links history → (point reference : ℕ) → is_node (network_of plan) point ≡ true →
     None ≡ line (network_of plan) (after (network_of plan) history) point reference
 at_node plan relays links history is point reference e =
     sym (ap (λ (b : Bool). cond b None (line_by plan relays links point (option_and_then (stages_from plan relays 15) (first_in 0 relays point reference)))) e) ∙ line_is plan relays links history is point reference
 
+-- the line over the pairs that were found, from the first one on, is the line of the definition
 pub found_path : (plan : plans.Network) (relays : List Relaying) (links : List Link) (history : List Happening) → IsWorld plan relays links history → (point reference : ℕ) (o : Option Stage) (x : Option (List Stage)) → is_node (network_of plan) point ≡ false →
     first_in 0 relays point reference ≡ o → option_and_then (stages_from plan relays 15) o ≡ x → line_by plan relays links point x ≡ line (network_of plan) (after (network_of plan) history) point reference
 found_path plan relays links history is point reference o x e f g =
@@ -207,6 +214,7 @@ one_within : (plan : plans.Network) (w : World) (o : Option Leg) (s : Stage) →
 one_within plan w None s h = absurd h
 one_within plan w (Some l) s h = h.within
 
+-- the first pair that is found is at a relay of the plan
 pub first_within : (plan : plans.Network) (relays : List Relaying) (links : List Link) (history : List Happening) → IsWorld plan relays links history → (point reference : ℕ) (s : Stage) → first_in 0 relays point reference ≡ Some s → s.node < length plan.nodes
 first_within plan relays links history is point reference s e =
     let w : World = after (network_of plan) history in
@@ -223,6 +231,7 @@ some_within : (plan : plans.Network) (w : World) (o : Option (List Leg)) (ss : L
 some_within plan w None ss h = absurd h
 some_within plan w (Some ls) ss h = all_within plan w ls ss h
 
+-- all pairs that are found from the first one on are at relays of the plan
 pub path_within : (plan : plans.Network) (relays : List Relaying) (links : List Link) (history : List Happening) → IsWorld plan relays links history → (point reference : ℕ) (s : Stage) (ss : List Stage) → first_in 0 relays point reference ≡ Some s →
     stages_from plan relays 15 s ≡ Some ss → All (λ (x : Stage). x.node < length plan.nodes) ss
 path_within plan relays links history is point reference s ss e f =
@@ -236,6 +245,7 @@ last_at : (s : Stage) (ss : List Stage) (d : Stage) → last_stage s ss ≡ get_
 last_at s [] d = refl
 last_at s (t ∷ ss) d = last_at t ss d
 
+-- the line over pairs is that of the first of them and the one at the last place
 pub along : (plan : plans.Network) (relays : List Relaying) (links : List Link) (point : ℕ) (path : List Stage) (first last : Stage) (n : ℕ) → n + 1 ≡ length path → first ≡ get_or path 0 first → last ≡ get_or path n last →
     Some (over plan relays links point path first last) ≡ line_by plan relays links point (Some path)
 along plan relays links point [] first last n e f g = absurd (omega (arith, e))
@@ -244,6 +254,7 @@ along plan relays links point (s ∷ ss) first last n e f g =
     ap (λ (x : Stage). Some (over plan relays links point (s ∷ ss) x last)) f
     ∙ ap (λ (x : Stage). Some (over plan relays links point (s ∷ ss) s x)) (g ∙ ap (λ (k : ℕ). get_or (s ∷ ss) k last) m ∙ sym (last_at s ss last))
 
+-- the points of the relays of pairs are those at the relays' places
 pub points_of : (plan : plans.Network) (ss : List Stage) → map (point_of plan) (map (λ (s : Stage). s.node) ss) ≡ map (λ (s : Stage). point_of plan s.node) ss
 points_of plan [] = refl
 points_of plan (s ∷ ss) = ap (λ (ns : List ℕ). point_of plan s.node ∷ ns) (points_of plan ss)

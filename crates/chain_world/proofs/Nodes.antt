@@ -56,6 +56,7 @@ with_node : (nodes : List Node) (i : ℕ) → i < length nodes → (P : Type 0) 
 with_node [] i lt P f = absurd (omega arith)
 with_node (n ∷ nodes) i lt P f = f n
 
+-- the point of the relay at a place of the plan
 pub point_by : (plan : Network) (i : ℕ) (d : Node) → i < length plan.nodes → point_of plan i ≡ (get_or plan.nodes i d).pc
 point_by plan i d lt = ap (λ o. option_map_or (λ (n : Node). n.pc) o 0) (slice_get-get_or plan.nodes i d lt)
 
@@ -63,6 +64,7 @@ within_by : (nodes : List Node) (pc i : ℕ) → position (has_point pc) nodes �
 within_by [] pc i h = absurd (cc)
 within_by (n ∷ nodes) pc i h = (position-Some (has_point pc) (n ∷ nodes) i n h).0
 
+-- a relay that is found under a point stands at a place of the plan, and has that point
 pub at_place : (plan : Network) (pc place : ℕ) → position (has_point pc) plan.nodes ≡ Some place → At plan pc place
 at_place plan pc place h =
     let lt = within_by plan.nodes pc place h in
@@ -72,9 +74,11 @@ at_place plan pc place h =
       found = place_is (has_point pc) plan.nodes place h;
     }
 
+-- a point under which a relay is found is a relay's
 pub node_there : (plan : Network) (pc place : ℕ) → position (has_point pc) plan.nodes ≡ Some place → is_node (network_of plan) pc ≡ true
 node_there plan pc place h = sym (node_by_place plan pc) ∙ ap is_some h
 
+-- a point under which none is found is an end's
 pub node_not_there : (plan : Network) (pc : ℕ) → position (has_point pc) plan.nodes ≡ None → is_node (network_of plan) pc ≡ false
 node_not_there plan pc h = sym (node_by_place plan pc) ∙ ap is_some h
 

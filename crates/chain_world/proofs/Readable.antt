@@ -90,6 +90,7 @@ not_writable m h e =
     (λ (some : (f : JoinFault) × (write_fault m ≡ Some f)). ap (λ (o : Option JoinFault). is_none o && is_none (chains.unread m)) some.1)
     (fault_cases (write_fault m))
 
+-- a message whose fields are such as reading gives them is read again as itself
 pub same_message : (m : Message) → IsMessage m → as_read m ≡ m
 same_message m h =
     ⊎_elim
@@ -97,6 +98,7 @@ same_message m h =
     (λ (some : (n : Message) × (read_again m ≡ Some n)). ap (λ (o : Option Message). unwrap_or o m) some.1 ∙ itself m some.0 h some.1)
     (read_cases (read_again m))
 
+-- its fault is the first test that it fails itself
 pub same_fault : (network : Network) (w : World) (from to : ℕ) (m : Message) → IsMessage m → fault_of network w from to m ≡ offer_fault network w from to m
 same_fault network w from to m h =
     ⊎_elim

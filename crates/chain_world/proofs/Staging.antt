@@ -12,6 +12,7 @@ use Rattle.sccp_couple.proofs.Lookups.{option_cases, own_at}
 use Rattle.couple_chain.specs.Line.{Leg, leg_with, leg_of, starts_at, leg_from, or_else, first_leg, next_leg, before, if_joined, legs_from}
 use Rattle.couple_chain.specs.Relays.{Relaying}
 use Rattle.couple_chain.specs.World.{Network, World, is_node}
+use Rattle.couple_chain.proofs.Lines.{none_from}
 use Rattle.chain_world.specs.declared.stage.Stage.{Stage}
 use Rattle.chain_world.specs.Kept.{network_of}
 use Rattle.chain_world.specs.Staged.{stage_with, stage_of, or_stage, first_in, sections_at, joined_to, next_in, is_open, stages_onward, stages_from}
@@ -32,7 +33,7 @@ pub record IsStage (plan : plans.Network) (w : World) (l : Leg) (s : Stage) : Ty
   pub pair_far : l.pair.far ≡ l.far.own
   pub found : (q : Pair → Bool) × (find q (w.moments l.node).pairs ≡ Some l.pair)
 
--- one is found where there is one
+-- a pair is found exactly where the definition has a leg, and it is that leg's
 abbrev pub Same : plans.Network → World → Option Leg → Option Stage → Type 0
 Same plan w None None = Unit {0}
 Same plan w (Some l) (Some s) = IsStage plan w l s
@@ -73,6 +74,7 @@ found_both plan w place within regular point remote o s t found other at =
       found = (starts_at m point remote, p.1);
     })
 
+-- at each relay a pair is found exactly where the definition has one, and it is that one
 pub stage_is_leg : (plan : plans.Network) (w : World) (place : ℕ) → place < length plan.nodes → IsRegular (w.moments (point_of plan place)) → (point remote : ℕ) →
     Same plan w (leg_from w point remote (point_of plan place)) (stage_of (w.moments (point_of plan place)).sections place point remote)
 stage_is_leg plan w place within regular point remote =
@@ -110,6 +112,7 @@ or_same plan w (Some l) p (Some s) y h k = h
 or_same plan w None p (Some s) y h k = absurd h
 or_same plan w (Some l) p None y h k = absurd h
 
+-- over all relays a first pair is found exactly where the definition has one, and it is that one
 pub first_same : (plan : plans.Network) (w : World) → ((n : ℕ) → IsRegular (w.moments n)) → (rs : List Relaying) (nodes : List Node) (k : ℕ) → length rs ≡ length nodes → k + length rs ≡ length plan.nodes →
     ((i : ℕ) (e : Node) → i < length nodes → point_of plan (k + i) ≡ (get_or nodes i e).pc) → ((i : ℕ) (d : Relaying) → i < length rs → (get_or rs i d).sections ≡ (w.moments (point_of plan (k + i))).sections) → (point remote : ℕ) →
     Same plan w (first_leg w point remote (map (λ (node : Node). node.pc) nodes)) (first_in k rs point remote)
@@ -134,12 +137,14 @@ first_same plan w regular (r ∷ rs) (n ∷ nodes) k same whole points sections 
 
 -- ---- those behind it
 
+-- the pairs that were found are those of the legs, one by one
 abbrev pub AllSame : plans.Network → World → List Leg → List Stage → Type 0
 AllSame plan w [] [] = Unit {0}
 AllSame plan w (l ∷ ls) (s ∷ ss) = IsStage plan w l s × AllSame plan w ls ss
 AllSame plan w [] (s ∷ ss) = ⊥
 AllSame plan w (l ∷ ls) [] = ⊥
 
+-- pairs were found exactly where the definition has legs, and they are those
 abbrev pub SameLists : plans.Network → World → Option (List Leg) → Option (List Stage) → Type 0
 SameLists plan w None None = Unit {0}
 SameLists plan w (Some ls) (Some ss) = AllSame plan w ls ss
@@ -166,10 +171,6 @@ open_is plan w l s is =
     ∙ ap (λ (x : Section). is_some x.remote && is_some l.far.remote) (sym is.near_is)
     ∙ ap (λ (x : Section). is_some s.near.remote && is_some x.remote) (sym is.far_is)
 
-none_from : (network : Network) (w : World) (most : ℕ) → legs_from network w most None ≡ None
-none_from network w zero = refl
-none_from network w (suc most) = refl
-
 onward_same : (plan : plans.Network) (w : World) (relays : List Relaying) (most : ℕ) (o : Option Leg) (x : Option Stage) →
     ((l : Leg) (s : Stage) → IsStage plan w l s → SameLists plan w (legs_from (network_of plan) w most (Some l)) (stages_from plan relays most s)) → Same plan w o x →
     SameLists plan w (legs_from (network_of plan) w most o) (option_and_then (λ next. stages_from plan relays most next) x)
@@ -178,6 +179,7 @@ onward_same plan w relays most (Some l) (Some s) h k = h l s k
 onward_same plan w relays most None (Some s) h k = absurd k
 onward_same plan w relays most (Some l) None h k = absurd k
 
+-- from a pair on, relays find the pairs that the definition has
 pub follow_same : (plan : plans.Network) (w : World) → ((n : ℕ) → IsRegular (w.moments n)) → (relays : List Relaying) → ((place : ℕ) → place < length plan.nodes → sections_at relays place ≡ (w.moments (point_of plan place)).sections) → (most : ℕ) (l : Leg) (s : Stage) → IsStage plan w l s →
     SameLists plan w (legs_from (network_of plan) w most (Some l)) (stages_from plan relays most s)
 follow_same plan w regular relays sections zero l s is = tt

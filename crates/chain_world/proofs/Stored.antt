@@ -7,7 +7,8 @@ use Rattle.std.proofs.lemmas.List.Quantifiers.{position-Some}
 use Rattle.chain_world.specs.declared.link.Link.{Link}
 use Rattle.chain_world.specs.Links.{is_link, of_link, with_at, octets_on, gone_from}
 
-same_way : (m n : ℕ) → (m == n) ≡ (n == m)
+-- a test whether two numbers are the same may be made either way round
+pub same_way : (m n : ℕ) → (m == n) ≡ (n == m)
 same_way m n = grind arith
 
 -- the link is that of two points where these are its points
@@ -30,6 +31,7 @@ at_points g from to a b e =
     let parts = and_parts (a == from) (b == to) e in
     ap (λ (n : ℕ). g n to) (sym (eqb-true a from parts.0)) ∙ ap (g a) (sym (eqb-true b to parts.1))
 
+-- a link that gets the value that it has leaves all as it is
 pub with_same : {A : Type 0} (g : ℕ → ℕ → A) (from to : ℕ) (x : A) → x ≡ g from to → (a b : ℕ) → with_at from to x g a b ≡ g a b
 with_same {A} g from to x e a b =
     elim ((a == from) && (b == to)) as (λ c. ((a == from) && (b == to)) ≡ c → cond c x (g a b) ≡ g a b) [
@@ -37,6 +39,7 @@ with_same {A} g from to x e a b =
       | false ↦ λ h. refl
     ] refl
 
+-- a link has the value that it got
 pub with_here : {A : Type 0} (g : ℕ → ℕ → A) (from to : ℕ) (x : A) → with_at from to x g from to ≡ x
 with_here g from to x = ap (λ (c : Bool). cond c x (g from to)) (and_from (from == from) (to == to) (eq-eqb from from refl) (eq-eqb to to refl))
 
@@ -55,6 +58,7 @@ set_at f none (y ∷ ys) (suc i) d l from to x lt here before it is a b =
       | false ↦ λ e. refl
     ] refl
 
+-- a record in the place of the one between two points gives this link its own value, and leaves the others theirs
 pub set_link : {A : Type 0} (f : Link → A) (none : A) (links : List Link) (i : ℕ) (l : Link) (from to : ℕ) (x : A) → position (is_link from to) links ≡ Some i → is_link from to l ≡ true → f l ≡ x →
     (a b : ℕ) → of_link f none (set links i l) a b ≡ with_at from to x (of_link f none links) a b
 set_link f none links i l from to x at it is a b =
@@ -108,6 +112,7 @@ none_found : {A : Type 0} (f : Link → A) (none : A) (links : List Link) (from 
 none_found f none [] from to h = refl
 none_found f none (x ∷ xs) from to h = ap (λ (c : Bool). cond c (f x) (of_link f none xs from to)) (h 0 x (omega arith)) ∙ none_found f none xs from to (λ k d j. h (suc k) d (omega arith))
 
+-- where there is no record of a link, the link has what one has that never held a message
 pub nothing_found : {A : Type 0} (f : Link → A) (none : A) (links : List Link) (from to : ℕ) → position (is_link from to) links ≡ None → of_link f none links from to ≡ none
 nothing_found f none links from to h = none_found f none links from to (none_is links from to h)
 
@@ -125,12 +130,14 @@ behind f none (y ∷ ys) l from to x before it is a b =
 its_points : (from to : ℕ) (l : Link) → l.from ≡ from → l.to ≡ to → is_link from to l ≡ true
 its_points from to l e f = and_from (l.from == from) (l.to == to) (eq-eqb l.from from e) (eq-eqb l.to to f)
 
+-- a record that is put behind the others, of a link that had none, has one message on it
 pub begun_octets : (links : List Link) (l : Link) (from to : ℕ) (message : List ℕ) → position (is_link from to) links ≡ None → l.from ≡ from → l.to ≡ to → l.octets.items ≡ message ∷ [] →
     (a b : ℕ) → octets_on (links ++ l ∷ []) a b ≡ with_at from to (octets_on links from to ++ message ∷ []) (octets_on links) a b
 begun_octets links l from to message none e f is =
     behind (λ (l : Link). l.octets.items) [] links l from to (octets_on links from to ++ message ∷ []) (none_is links from to none) (its_points from to l e f)
     (is ∙ ap (λ (m : List (List ℕ)). m ++ message ∷ []) (sym (nothing_found (λ (l : Link). l.octets.items) [] links from to none)))
 
+-- it has delivered nothing, as before
 pub begun_gone : (links : List Link) (l : Link) (from to : ℕ) → position (is_link from to) links ≡ None → l.from ≡ from → l.to ≡ to → l.gone ≡ 0 → (a b : ℕ) → gone_from (links ++ l ∷ []) a b ≡ gone_from links a b
 begun_gone links l from to none e f is a b =
     behind (λ (l : Link). l.gone) 0 links l from to 0 (none_is links from to none) (its_points from to l e f) is a b
@@ -142,6 +149,7 @@ pub unset : {A : Type 0} (f : Link → A) (none : A) (links : List Link) (i : �
 unset f none links i l from to at it is a b =
     set_link f none links i l from to (of_link f none links from to) at it is a b ∙ with_same (of_link f none links) from to (of_link f none links from to) refl a b
 
+-- a list with a last message isn't empty
 pub no_message : {A : Type 0} (ms : List A) (m : A) → [] ≡ ms ++ m ∷ [] → ⊥
 no_message [] m h = cc
 no_message (x ∷ xs) m h = cc

@@ -6,10 +6,12 @@ use Rattle.sccp_couple.specs.Ways.{way_of}
 use Rattle.couple_chain.specs.declared.happening.Happening.{Happening}
 use Rattle.couple_chain.specs.World.{Network, World, after}
 
+-- a running world: its plan, and all that has happened in it, oldest first
 pub record Kept : Type 0 where
   pub plan : plans.Network
   pub history : List Happening
 
+-- the same, made of the two
 abbrev pub kept : plans.Network → List Happening → Kept
 kept plan history = record { plan = plan; history = history }
 

@@ -20,28 +20,31 @@ if_read (Err fault) = None
 abbrev pub read_again : Message → Option Message
 read_again message = option_and_then (λ octets. if_read (reading octets)) (octets_of message)
 
+-- the message that an accepted offer puts on its link
 abbrev pub as_read : Message → Message
 as_read message = unwrap_or (read_again message) message
 
--- the first test that an offer fails
+-- The first test that an offer fails, by the message that was read again. Where there is none, the last test fails, if none before does.
 abbrev pub fault_of_read : Network → World → ℕ → ℕ → Message → Option Message → Option OfferFault
 fault_of_read network w from to message (Some read) = offer_fault network w from to read
 fault_of_read network w from to message None =
     fault_by (is_node network from) (not (is_node network to)) (is_some (called_of message)) (uses_again network w from (name_of message)) true
 
+-- why an offer of this message is refused, or nothing where it is accepted
 abbrev pub fault_of : Network → World → ℕ → ℕ → Message → Option OfferFault
 fault_of network w from to message = fault_of_read network w from to message (read_again message)
 
--- all tests but the last
+-- the first test that an offer fails, of all tests but the last, which is whether the message can be written
 abbrev pub early_fault : Network → World → ℕ → ℕ → Message → Option OfferFault
 early_fault network w from to message =
     fault_by (is_node network from) (not (is_node network to)) (is_some (called_of message)) (uses_again network w from (name_of message)) false
 
--- what an offer answers
+-- what an offer answers, by the test that it fails
 abbrev pub answer_by : Option OfferFault → Result (Unit {0}) OfferFault
 answer_by (Some fault) = Err fault
 answer_by None = Ok tt
 
+-- the fault is want of memory, which is no test
 abbrev pub is_memory : OfferFault → Bool
 is_memory faults.OutOfMemory = true
 is_memory faults.NotAnEnd = false
@@ -50,7 +53,7 @@ is_memory faults.Connectionless = false
 is_memory faults.UsedReference = false
 is_memory faults.NotWritable = false
 
--- an end's CR or CC with this source local reference
+-- the happening is an offer of this end, of a CR or CC with this source local reference
 abbrev pub offers_of : ℕ → ℕ → Happening → Bool
 offers_of from own (Offers point to message) = (point == from) && names own message
 offers_of from own (Delivers point to) = false

@@ -18,24 +18,25 @@ use Rattle.chain_world.specs.Kept.{network_of}
 use Rattle.chain_world.specs.Links.{octets_on, gone_from}
 use Rattle.chain_world.specs.Offering.{offers_of}
 
--- the oldest of the messages on a link
+-- the message that a link delivers next
 abbrev pub oldest_of : List Message → Option Message
 oldest_of [] = None
 oldest_of (message ∷ rest) = Some message
 
--- the link between the points of a link holds a message
+-- the link between the points of this record holds a message that it hasn't delivered
 abbrev pub holds_on : List Link → Link → Bool
 holds_on links l = is_some (slice_get (octets_on links l.from l.to) (gone_from links l.from l.to))
 
--- the first of two links, by their first point and then the second
+-- the link `from` to `to` comes before the link `a` to `b`, by its first point and then its second, or is the same
 abbrev pub is_before : ℕ → ℕ → ℕ → ℕ → Bool
 is_before from to a b = nat_lt from a || ((from == a) && nat_le to b)
 
+-- the best link so far, where there is one and it comes before the link `a` to `b`, and else that link
 abbrev pub lesser : Option (ℕ × ℕ) → ℕ → ℕ → ℕ × ℕ
 lesser None a b = (a, b)
 lesser (Some p) a b = if is_before p.0 p.1 a b then p else (a, b)
 
--- the least of a list of links that hold a message, and of the best one so far
+-- the link that comes first of the best one so far and of those in the list that hold a message
 abbrev pub best_of : List Link → Option (ℕ × ℕ) → List Link → Option (ℕ × ℕ)
 best_of links best [] = best
 best_of links best (l ∷ rest) = best_of links (if holds_on links l then Some (lesser best l.from l.to) else best) rest
@@ -44,13 +45,14 @@ best_of links best (l ∷ rest) = best_of links (if holds_on links l then Some (
 abbrev pub sections_of : Network → World → ℕ
 sections_of network w = sum (map (λ node. length (w.moments node).sections) network.nodes)
 
--- a relay is the one at this place of the plan, and has what its coupling is
+-- what a relay keeps is what the coupling of its point has; `node` is its place in the plan
 pub record IsRelay (node : ℕ) (m : Moment) (r : Relaying) : Type 0 where
   pub node_is : r.node ≡ node
   pub sections_are : r.sections ≡ m.sections
   pub passed_is : IsLogged m.pairs r.passed
   pub given_are : r.given ≡ given m
 
+-- what relays and links of a running world keep is, point by point, what the world of the definition has
 pub record Keeps (plan : plans.Network) (relays : List Relaying) (links : List Link) (history : List Happening) (w : World) : Type 0 where
   pub is_plan : IsPlan plan
   pub count : length relays ≡ length plan.nodes
@@ -63,5 +65,6 @@ pub record Keeps (plan : plans.Network) (relays : List Relaying) (links : List L
   -- the references that an end used are those of its offers
   pub used : (from own : ℕ) → is_node (network_of plan) from ≡ false → is_used (network_of plan) w from own ≡ list_any (offers_of from own) history
 
+-- they keep what the history leaves
 abbrev pub IsWorld : plans.Network → List Relaying → List Link → List Happening → Type 0
 IsWorld plan relays links history = Keeps plan relays links history (after (network_of plan) history)

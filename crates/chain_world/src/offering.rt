@@ -62,13 +62,13 @@ pub(crate) fn name_of(message: &Message) -> Option<Reference>
 }
 
 /// Whether a message is a CR or CC with this source local reference.
+#[tactic(auto, using(couple_chain::proofs::Worlds::named_by))]
 fn is_named(message: &Message, own: Reference) -> bool
     ensures { result ≡ names own message.now }
 {
-    match message {
-        Message::Cr { slr, .. } => *slr == own,
-        Message::Cc { slr, .. } => *slr == own,
-        _ => false,
+    match name_of(message) {
+        Some(slr) => slr == own,
+        None => false,
     }
 }
 

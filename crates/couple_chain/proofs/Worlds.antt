@@ -8,13 +8,13 @@ use Rattle.sccp_message.specs.declared.message.Message.{Message}
 use Rattle.sccp_message.specs.declared.message.Message.TheVariants as messages
 use Rattle.sccp_scrc.specs.Unitdata.{called_of}
 use Rattle.sccp_couple.specs.declared.section.Section.{Section}
-use Rattle.sccp_couple.specs.Sections.{section_at}
+use Rattle.sccp_couple.specs.Sections.{is_that, section_at}
 use Rattle.sccp_couple.specs.Events.{Event}
 use Rattle.sccp_couple.specs.Coupling.{coupled}
 use Rattle.sccp_couple.specs.Runs as coupling
 use Rattle.sccp_couple.specs.Runs.{Pair, Moment, made}
 use Rattle.sccp_couple.proofs.Ledger.{kept_after}
-use Rattle.sccp_couple.proofs.Fairness.{IsFair}
+use Rattle.sccp_couple.proofs.Fairness.{IsFair, that_is}
 use Rattle.couple_chain.specs.World.{Network, is_node, Happening, Offers, Delivers, World, start, put_on, messages_to, event_at, handled, left, delivered_of, delivered, names, requests, name_of, is_used, uses_again, OfferFault, fault_by, is_writable, offer_fault, put, offered_if, offered, happens, run, after}
 use Rattle.couple_chain.specs.Line.{given, times, IsFresh}
 use Rattle.couple_chain.proofs.Counts.{number, number-append, none_of}
@@ -225,15 +225,19 @@ accepted_parts network w from to message h =
     let parts = none_by (is_node network from) (not (is_node network to)) (is_some (called_of message)) (uses_again network w from (name_of message)) (not (is_writable message)) h in
     (parts.0, not-false (is_node network to) parts.1, parts.3)
 
+-- a message names a reference where that is the one that it has
+pub named_by : (own : ℕ) (message : Message) → names own message ≡ is_that (name_of message) own
+named_by own (messages.Cr slr class called params) = or_false (slr == own)
+  where
+    or_false : (b : Bool) → (b || false) ≡ b
+    or_false true = refl
+    or_false false = refl
+named_by own (messages.Cc dlr slr class params) = refl
+named_by own _ = refl
+
 -- what a message names
 pub name_is : (own : ℕ) (message : Message) → names own message ≡ true → name_of message ≡ Some own
-name_is own (messages.Cr slr class called params) h = ap (λ (n : ℕ). Some n) (eqb-true slr own (or_left (slr == own) h))
-  where
-    or_left : (b : Bool) → (b || false) ≡ true → b ≡ true
-    or_left true h = refl
-    or_left false h = h
-name_is own (messages.Cc dlr slr class params) h = ap (λ (n : ℕ). Some n) (eqb-true slr own h)
-name_is own _ h = absurd (cc)
+name_is own message h = that_is (name_of message) own (sym (named_by own message) ∙ h)
 
 pub none_number : (p : Message → Bool) (xs : List Message) → list_any p xs ≡ false → number p xs ≡ 0
 none_number p [] h = refl

@@ -1,4 +1,4 @@
-use Rattle.std.proofs.Common.{◌≡◌, ◌<◌, ℕ, List, Option, Some, None, Result, Ok, Err, IfOk, IfSome, All, false, length, refl, ap, sym, subst, ◌∙◌}
+use Rattle.std.proofs.Common.{◌≡◌, ◌<◌, ℕ, List, Option, Some, None, IfOk, IfSome, All, false, length, refl, ap, sym, subst, ◌∙◌}
 use Rattle.std.specs.Prelude.{option_map}
 use Rattle.plan_model.specs.Network as plans
 use Rattle.couple_chain.specs.Line as lines
@@ -13,11 +13,8 @@ use Rattle.chain_world.specs.declared.stage.Stage.{Stage}
 use Rattle.chain_world.specs.Kept.{Kept, network_of, world_of}
 use Rattle.chain_world.specs.Staged.{told_line, first_in, stages_from, line_by}
 use Rattle.chain_world.proofs.Lined.{found_path, first_within, path_within}
+use Rattle.chain_world.proofs.Values.{ok_then}
 use Rattle.chain_world.proofs.world.World.line.Goals as goal
-
-ok_then : {A E : Type 0} {P Q : A → Type 0} (r : Result A E) → ((x : A) → P x → Q x) → IfOk r P → IfOk r Q
-ok_then (Ok x) f p = f x p
-ok_then (Err e) f p = p
 
 if_told : (plan : plans.Network) (P : lines.Line → Type 0) (o : Option lines.Line) (l : Option Line) → ((x : lines.Line) → o ≡ Some x → P x) → option_map (told_line plan) l ≡ o → IfSome l (λ x. P (told_line plan x))
 if_told plan P o None f e = tt

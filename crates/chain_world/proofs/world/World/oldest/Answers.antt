@@ -1,4 +1,4 @@
-use Rattle.std.proofs.Common.{◌≡◌, ◌∙◌, ap, sym, subst, Option, Result, Ok, Err, IfOk, IfSome, List, ℕ, slice_get}
+use Rattle.std.proofs.Common.{◌≡◌, ◌∙◌, ap, sym, subst, Option, IfSome, List, ℕ, slice_get}
 use Rattle.sccp_message.specs.declared.message.Message.{Message}
 use Rattle.sccp_message.specs.Reading.{reading}
 use Rattle.sccp_couple.specs.Sending.{HasShortParts}
@@ -9,11 +9,8 @@ use Rattle.chain_world.specs.Links.{octets_on, gone_from}
 use Rattle.chain_world.specs.Offering.{if_read}
 use Rattle.chain_world.specs.Running.{oldest_of}
 use Rattle.chain_world.proofs.Happens.{IsOldest, oldest_there}
+use Rattle.chain_world.proofs.Values.{ok_then}
 use Rattle.chain_world.proofs.world.World.oldest.Goals as goal
-
-ok_then : {A E : Type 0} {P Q : A → Type 0} (r : Result A E) → ((x : A) → P x → Q x) → IfOk r P → IfOk r Q
-ok_then (Ok x) f p = f x p
-ok_then (Err e) f p = p
 
 there : (c : goal.After-read) → IsOldest ((world_of c.args.self.now).waiting c.args.from c.args.to) c.as_slice-in-Some.result.now
 there c =
