@@ -1,5 +1,5 @@
 -- The messages of a batch that several workers routed, or one.
-use Rattle.std.proofs.Common.{◌≡◌, ◌≢◌, ◌<◌, ◌≤◌, ◌+◌, ◌-◌, ◌%◌, ℕ, zero, suc, List, [], ◌∷◌, ◌++◌, length, map, drop, Option, Some, None, Result, Ok, Err, refl, sym, ◌∙◌, ap, subst, arith, inl, inr, length-append, append_assoc, append-nil, get_or}
+use Rattle.std.proofs.Common.{◌≡◌, ◌≢◌, ◌<◌, ◌≤◌, ◌+◌, ◌%◌, ℕ, zero, suc, List, [], ◌∷◌, ◌++◌, length, map, drop, Option, Some, None, Result, Ok, Err, refl, sym, ◌∙◌, ap, subst, arith, inl, inr, length-append, append_assoc, append-nil, get_or}
 use Rattle.std.proofs.lemmas.List.{length-map, map-append}
 use Rattle.std.proofs.lemmas.List.Elements.{All-nil, All-cons, All-append, All-head, All-tail, All-from_get_or, All-get_or}
 use Rattle.std.proofs.lemmas.Option.{slice_get_within, slice_get_read}
@@ -15,7 +15,8 @@ use Rattle.relay_net.specs.declared.job.Job.{Job}
 use Rattle.relay_net.specs.declared.served.Served.{Served}
 use Rattle.sccp_base.specs.declared.mark.Mark.{Mark}
 use Rattle.live_plan.specs.Batches.{AreServed}
-use Rattle.live_plan.specs.Plans.{HasPlan, HaveNodes}
+use Rattle.live_plan.specs.Plans.{HaveNodes}
+use Rattle.live_plan.proofs.Passed.{has_within}
 use Rattle.sccp_tool.specs.Numbers.{AreNumbers, NeverFall}
 use Rattle.sccp_tool.specs.Replay.{Standing, Settled, prints, routes, accepted, accepted_before, batch_of, plan_at}
 use Rattle.sccp_tool.specs.Replayers.{AreRouted, ComesToNode, IsRouted, RoutesBatch, RoutesLine, job_of, jobs_from, number_in, numbers_of, settled_in}
@@ -154,10 +155,6 @@ never_fall count served rising i j lt within same =
     let b = number_read served j within in
     subst (λ n. n ≤ slice_index (map number_in served) j) (sym a.2) (subst (λ n. a.0.number ≤ n) (sym b.2) (rising i j a.0 b.0 (omega (arith, lt)) same a.1 b.1))
 
--- a plan's number is no more than the length of its list
-has_few : (plans : List Verified) (n : ℕ) (a : Verified) → HasPlan plans n a → n ≤ length plans
-has_few plans n a has = omega (arith, has.0, slice_get_within plans (n - 1) a has.1)
-
 some_at : {X : Type 0} (xs : List X) (k : ℕ) → k < length xs → (x : X) × (slice_get xs k ≡ Some x)
 some_at [] k lt = absurd (omega (arith, lt))
 some_at (x ∷ xs) zero lt = (x, refl)
@@ -189,7 +186,7 @@ module _ (r : Routing) (states : List State) (settled : List code.Settled.Settle
   one_number k s answer =
       let job = some_at (jobs_from 0 (map settled_in settled)) k (omega (arith, slice_get_within served k s answer, h.long)) in
       let given = h.each k job.0 s job.1 answer in
-      let few = has_few (plans ++ coming) s.number given.0.plan given.0.has in (
+      let few = has_within (plans ++ coming) s.number given.0.plan given.0.has in (
         omega (arith, given.1, ap length begins, length-map r.later plan_in),
         omega (arith, few, ap length all_plans, length-append r.later coming, length-append (map plan_in r.later) (map plan_in coming), length-map r.later plan_in, length-map coming plan_in),
       )

@@ -1,24 +1,28 @@
 -- What a later plan gives, whatever the replay goes on with.
-use Rattle.std.proofs.Common.{◌≡◌, ℕ, ◌+◌, List, [], ◌∷◌, ◌++◌, true, false, cond, Option, Result, Ok, Err, sym, subst}
+use Rattle.std.proofs.Common.{◌≡◌, ℕ, ◌+◌, List, [], ◌∷◌, ◌++◌, true, false, cond, Result, Ok, Err, sym, subst}
 use Rattle.plan_check.specs.Verified.{Verified}
 use Rattle.plan_model.specs.Network.{Network}
 use Rattle.plan_model.specs.SameNodes.{same_nodes}
 use Rattle.plan_model.specs.declared.plan_fault.PlanFault.{PlanFault}
 use Rattle.plan_verify.specs.declared.verdict.Verdict.TheVariants.{Accepted, Refused, TooWide}
 use Rattle.plan_verify.specs.declared.witness.Witness.{Witness}
-use Rattle.relay_net.specs.Batches.{Incoming, Due}
+use Rattle.relay_net.specs.Batches.{Incoming}
 use Rattle.sccp_report.specs.Events.{event_text}
-use Rattle.sccp_report.specs.Roles.{Role, routed, later, aside, alone, role_of}
+use Rattle.sccp_report.specs.Roles.{Role, routed, later, aside, incoming, role_of}
 use Rattle.sccp_report.specs.Verdicts.{verdict_text}
 use Rattle.trace_text.specs.declared.line.Numbered.{Numbered}
 use Rattle.sccp_tool.specs.Ending.{Works}
+use Rattle.sccp_tool.specs.Gathering.{joining_role}
 use Rattle.sccp_tool.specs.LaterPlans.{accepted_plan_line, refused_plan_head, bad_plan_line, other_nodes_line}
 use Rattle.plan_text.specs.PlanText.{plan_of}
 use Rattle.sccp_tool.specs.Limit.{within_limit}
 use Rattle.sccp_tool.specs.Moment.{Moment}
 use Rattle.sccp_tool.specs.Replayers.{settled_in}
 use Rattle.sccp_tool.specs.Replaying.{EndsAs}
+use Rattle.sccp_tool.specs.declared.joined.Joining.{Joining}
+use Rattle.sccp_tool.specs.declared.joined.Joining.TheVariants.{Routed, Later, Aside}
 use Rattle.sccp_tool.specs.declared.settled as code
+use Rattle.sccp_tool.specs.declared.settled.Settled.TheVariants.{Routes}
 use Rattle.sccp_tool.specs.Replay.{Standing, Settled, prints, routes, accepted, judged_later, later_work, settle_line}
 use Rattle.sccp_tool.specs.Settling.{JudgesLine, GivesPlanLine, GivesPlanFile, GivesLine}
 use Rattle.sccp_tool.specs.Work.{Work, judge, IsJudged}
@@ -86,22 +90,18 @@ routed_line at line x before m is = λ next result after h. subst (λ n. Works (
 pub aside_line : (at : Standing) (line : Numbered) (s : Settled) (m : Moment) → s ≡ prints (event_text at.first line []) → RoleGives at line aside at s m m
 aside_line at line s m told = λ next result after h. subst (λ t. Works (next at t) result m after) told h
 
-pub alone_line : (at : Standing) (line : Numbered) (d : Option Due) (s : Settled) (m : Moment) → s ≡ prints (event_text at.first line []) → RoleGives at line (alone d) at s m m
-alone_line at line d s m told = λ next result after h. subst (λ t. Works (next at t) result m after) told h
+-- ---- as the code knows it
 
--- ---- at any moment
+pub routed_gives : (at : Standing) (line : Numbered) (joining : Joining) (entry origin : ℕ) (octets : List ℕ) (before : ℕ) (m : Moment) → joining ≡ Routed entry origin octets → joining_role joining ≡ role_of at.first line.line
+    → before ≡ accepted at → GivesLine at line (Ok (Routes line.number entry origin octets before)) at m m
+routed_gives at line joining entry origin octets before m kind e is next =
+    let x : Incoming = incoming entry origin octets in
+    by_role at line (routed x) at (routes line.number x before) m m (subst (λ j. joining_role j ≡ role_of at.first line.line) kind e) (routed_line at line x before m is) next
 
-pub looks_routed : (at : Standing) (line : Numbered) (x : Incoming) (before : ℕ) → routed x ≡ role_of at.first line.line → before ≡ accepted at
-    → (next : Standing → Settled → Work) (now : Moment) → EndsAs (settle_line at line (role_of at.first line.line) next) (next at (routes line.number x before)) now now
-looks_routed at line x before e is next now = by_role at line (routed x) at (routes line.number x before) now now e (routed_line at line x before now is) next
-
-pub looks_aside : (at : Standing) (line : Numbered) (s : Settled) → aside ≡ role_of at.first line.line → s ≡ prints (event_text at.first line [])
-    → (next : Standing → Settled → Work) (now : Moment) → EndsAs (settle_line at line (role_of at.first line.line) next) (next at s) now now
-looks_aside at line s e told next now = by_role at line aside at s now now e (aside_line at line s now told) next
-
-pub looks_alone : (at : Standing) (line : Numbered) (d : Option Due) (s : Settled) → alone d ≡ role_of at.first line.line → s ≡ prints (event_text at.first line [])
-    → (next : Standing → Settled → Work) (now : Moment) → EndsAs (settle_line at line (role_of at.first line.line) next) (next at s) now now
-looks_alone at line d s e told next now = by_role at line (alone d) at s now now e (alone_line at line d s now told) next
+pub aside_gives : (at : Standing) (line : Numbered) (joining : Joining) (s : code.Settled.Settled) (m : Moment) → joining ≡ Aside → joining_role joining ≡ role_of at.first line.line
+    → settled_in s ≡ prints (event_text at.first line []) → GivesLine at line (Ok s) at m m
+aside_gives at line joining s m kind e told next =
+    by_role at line aside at (settled_in s) m m (subst (λ j. joining_role j ≡ role_of at.first line.line) kind e) (aside_line at line (settled_in s) m told) next
 
 pub named_line : (at : Standing) (line : Numbered) (name : List ℕ) (at' : Standing) (s : Settled) (first now : Moment) → later name ≡ role_of at.first line.line
     → ((next : Standing → Settled → Work) → EndsAs (within_limit name (λ octets. later_work at line.number name (plan_of octets) next)) (next at' s) first now)
@@ -113,8 +113,12 @@ pub named_stops : (at : Standing) (line : Numbered) (name : List ℕ) (stop : St
     → (next : Standing → Settled → Work) → Works (settle_line at line (role_of at.first line.line) next) (Err stop) first now
 named_stops at line name stop first now e stops next = subst (λ r. Works (settle_line at line r next) (Err stop) first now) e (stops next)
 
--- the line of a later plan gives what its file does
-pub named_gives : (at : Standing) (line : Numbered) (name : List ℕ) (r : Result code.Settled.Settled Stop) (at' : Standing) (first now : Moment) → later name ≡ role_of at.first line.line
+file_gives : (at : Standing) (line : Numbered) (name : List ℕ) (r : Result code.Settled.Settled Stop) (at' : Standing) (first now : Moment) → later name ≡ role_of at.first line.line
     → GivesPlanFile at line.number name r at' first now → GivesLine at line r at' first now
-named_gives at line name (Ok s) at' first now e gives = named_line at line name at' (settled_in s) first now e gives
-named_gives at line name (Err stop) at' first now e gives = named_stops at line name stop first now e gives
+file_gives at line name (Ok s) at' first now e gives = named_line at line name at' (settled_in s) first now e gives
+file_gives at line name (Err stop) at' first now e gives = named_stops at line name stop first now e gives
+
+-- the line of a later plan gives what its file does
+pub named_gives : (at : Standing) (line : Numbered) (joining : Joining) (name : List ℕ) (r : Result code.Settled.Settled Stop) (at' : Standing) (first now : Moment) → joining ≡ Later name → joining_role joining ≡ role_of at.first line.line
+    → GivesPlanFile at line.number name r at' first now → GivesLine at line r at' first now
+named_gives at line joining name r at' first now kind e gives = file_gives at line name r at' first now (subst (λ j. joining_role j ≡ role_of at.first line.line) kind e) gives

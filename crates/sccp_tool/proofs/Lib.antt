@@ -6,6 +6,7 @@ mod ConnectLemmas
 mod CrewSteps
 mod CutsLemmas
 mod Finishing
+mod Gathering
 mod ImportLemmas
 mod LaterSteps
 mod LimitLemmas

@@ -1,22 +1,27 @@
 -- The lines of a trace, one after the other, whatever comes behind them.
 use Rattle.std.proofs.Common.{◌≡◌, ℕ, ◌+◌, List, [], ◌∷◌, ◌++◌, length, true, false, cond, Option, Some, None, Result, Ok, Err, refl, sym, ◌∙◌, ap, subst, append-nil, arith}
 use Rattle.std.specs.Prelude.{OnOk, IfOk}
+use Rattle.std.proofs.lemmas.List.{map-append}
 use Rattle.std.specs.Io.KnownBytes.{append_known, IsAtEnd}
 use Rattle.relay_net.specs.Batches.{Due}
 use Rattle.sccp_report.specs.Events.{event_text}
-use Rattle.sccp_report.specs.Roles.{Role, routed, later, aside, alone, role_of}
+use Rattle.sccp_report.specs.Roles.{alone, role_of}
 use Rattle.trace_text.specs.Told.{ahead, only}
 use Rattle.trace_text.specs.Told as reading
 use Rattle.trace_text.specs.declared.fed.Fed.{Fed}
 use Rattle.trace_text.specs.declared.line.Numbered.{Numbered}
 use Rattle.trace_text.specs.declared.line_fault.LineFault.{LineFault}
 use Rattle.sccp_tool.specs.Ending.{IsCut, Works}
+use Rattle.sccp_tool.specs.Gathering.{joining_role, line_in, lines_in}
 use Rattle.sccp_tool.specs.Moment.{Moment}
 use Rattle.sccp_tool.specs.Replay.{Standing, is_full, done_alone, alone_work, batch_work, batch_printed, gathered, line_work, lines_work, closing_of}
 use Rattle.sccp_tool.specs.Replaying.{EndsAs, BatchGives, BatchStops, MayCome, rest_work, work_behind, GoesOn}
-use Rattle.sccp_tool.specs.Settling.{JoinsBatch, WritesBatch, Gathers, StandsAlone, TakesLine, TakesLines}
+use Rattle.sccp_tool.specs.Settling.{WritesBatch, Gathers, StandsAlone, TakesLine, TakesLines}
 use Rattle.sccp_tool.specs.Work.{Work, print, read_on, answered}
 use Rattle.sccp_tool.specs.Writing.{Writes}
+use Rattle.sccp_tool.specs.declared.joined.Joined.{Joined}
+use Rattle.sccp_tool.specs.declared.joined.Joining.{Joining}
+use Rattle.sccp_tool.specs.declared.joined.Joining.TheVariants.{Routed, Later, Aside}
 use Rattle.sccp_tool.specs.declared.status.Status.{Status}
 use Rattle.sccp_tool.specs.declared.stop.Stop.{Stop}
 use Rattle.sccp_tool.specs.declared.stop.Stop.TheVariants.{Memory}
@@ -86,43 +91,48 @@ alone_written at mid_at at' batch line d text whole (Err stop) first mid now giv
 
 -- ---- a line joins the batch that has begun
 
-pub gathers_full : (at at' : Standing) (batch whole batch' : List Numbered) (line : Numbered) (r : Result (Unit {0}) Stop) (first now : Moment) → whole ≡ batch ++ line ∷ [] → true ≡ is_full whole
-    → WritesBatch at whole r at' first now → OnOk r (batch' ≡ []) → Gathers at batch line r at' batch' first now
-gathers_full at at' batch whole batch' line (Ok done) first now is full writes none = λ next result after h.
-    let given : Works (batch_printed at whole (λ a. next a [])) result first after = writes (λ a. next a []) result after (subst (λ b. Works (next at' b) result now after) none h) in
-    subst (λ b. Works (gathered at b next) result first after) is
-    (subst (λ v. Works (cond v (batch_printed at whole (λ a. next a [])) (next at whole)) result first after) full given)
-gathers_full at at' batch whole batch' line (Err stop) first now is full writes none = λ next.
-    subst (λ b. Works (gathered at b next) (Err stop) first now) is
-    (subst (λ v. Works (cond v (batch_printed at whole (λ a. next a [])) (next at whole)) (Err stop) first now) full (writes (λ a. next a [])))
+one_more : (batch whole : List Joined) (one : Joined) → whole ≡ batch ++ one ∷ [] → lines_in whole ≡ lines_in batch ++ one.line ∷ []
+one_more batch whole one is = ap lines_in is ∙ map-append line_in batch (one ∷ [])
 
-pub gathers_more : (at : Standing) (batch whole : List Numbered) (line : Numbered) (m : Moment) → whole ≡ batch ++ line ∷ [] → false ≡ is_full whole → Gathers {T = Unit {0}} at batch line (Ok tt) at whole m m
-gathers_more at batch whole line m is few = λ next result after h.
-    subst (λ b. Works (gathered at b next) result m after) is
-    (subst (λ v. Works (cond v (batch_printed at whole (λ a. next a [])) (next at whole)) result m after) few h)
+pub gathers_full : (at at' : Standing) (batch whole batch' : List Joined) (one : Joined) (r : Result (Unit {0}) Stop) (first now : Moment) → whole ≡ batch ++ one ∷ [] → true ≡ is_full (lines_in whole)
+    → WritesBatch at (lines_in whole) r at' first now → OnOk r (batch' ≡ []) → Gathers at (lines_in batch) one.line r at' (lines_in batch') first now
+gathers_full at at' batch whole batch' one (Ok done) first now is full writes none = λ next result after h.
+    let given : Works (batch_printed at (lines_in whole) (λ a. next a [])) result first after = writes (λ a. next a []) result after (subst (λ b. Works (next at' (lines_in b)) result now after) none h) in
+    subst (λ b. Works (gathered at b next) result first after) (one_more batch whole one is)
+    (subst (λ v. Works (cond v (batch_printed at (lines_in whole) (λ a. next a [])) (next at (lines_in whole))) result first after) full given)
+gathers_full at at' batch whole batch' one (Err stop) first now is full writes none = λ next.
+    subst (λ b. Works (gathered at b next) (Err stop) first now) (one_more batch whole one is)
+    (subst (λ v. Works (cond v (batch_printed at (lines_in whole) (λ a. next a [])) (next at (lines_in whole))) (Err stop) first now) full (writes (λ a. next a [])))
+
+pub gathers_more : (at : Standing) (batch whole : List Joined) (one : Joined) (m : Moment) → whole ≡ batch ++ one ∷ [] → false ≡ is_full (lines_in whole)
+    → Gathers {T = Unit {0}} at (lines_in batch) one.line (Ok tt) at (lines_in whole) m m
+gathers_more at batch whole one m is few = λ next result after h.
+    subst (λ b. Works (gathered at b next) result m after) (one_more batch whole one is)
+    (subst (λ v. Works (cond v (batch_printed at (lines_in whole) (λ a. next a [])) (next at (lines_in whole))) result m after) few h)
 
 -- ---- one line
 
-joins : (at : Standing) (batch : List Numbered) (line : Numbered) (r : Role) (next : Standing → List Numbered → Work) → JoinsBatch r → gathered at (batch ++ line ∷ []) next ≡ line_work at batch line r next
-joins at batch line (routed x) next h = refl
-joins at batch line (later name) next h = refl
-joins at batch line aside next h = refl
-joins at batch line (alone d) next h = absurd h
+joins : (at : Standing) (batch : List Numbered) (line : Numbered) (joining : Joining) (next : Standing → List Numbered → Work) → gathered at (batch ++ line ∷ []) next ≡ line_work at batch line (joining_role joining) next
+joins at batch line (Routed entry origin octets) next = refl
+joins at batch line (Later name) next = refl
+joins at batch line Aside next = refl
 
-pub takes_gathered : (at at' : Standing) (batch batch' : List Numbered) (line : Numbered) (r : Result (Unit {0}) Stop) (first now : Moment) → JoinsBatch (role_of at.first line.line)
+pub takes_gathered : (at at' : Standing) (batch batch' : List Numbered) (line : Numbered) (joining : Joining) (r : Result (Unit {0}) Stop) (first now : Moment) → joining_role joining ≡ role_of at.first line.line
     → Gathers at batch line r at' batch' first now → TakesLine at batch line r at' batch' first now
-takes_gathered at at' batch batch' line (Ok done) first now kind gathers = λ next result after h.
-    subst (λ w. Works w result first after) (joins at batch line (role_of at.first line.line) next kind) (gathers next result after h)
-takes_gathered at at' batch batch' line (Err stop) first now kind gathers = λ next.
-    subst (λ w. Works w (Err stop) first now) (joins at batch line (role_of at.first line.line) next kind) (gathers next)
-
-pub takes_alone : (at at' : Standing) (batch batch' : List Numbered) (line : Numbered) (d : Option Due) (r : Result (Unit {0}) Stop) (first now : Moment) → alone d ≡ role_of at.first line.line
-    → StandsAlone at batch line d r at' first now → OnOk r (batch' ≡ []) → TakesLine at batch line r at' batch' first now
-takes_alone at at' batch batch' line d (Ok done) first now e stands none = λ next result after h.
+takes_gathered at at' batch batch' line joining (Ok done) first now e gathers = λ next result after h.
     subst (λ k. Works (line_work at batch line k next) result first after) e
-    (stands (λ a. next a []) result after (subst (λ b. Works (next at' b) result now after) none h))
+    (subst (λ w. Works w result first after) (joins at batch line joining next) (gathers next result after h))
+takes_gathered at at' batch batch' line joining (Err stop) first now e gathers = λ next.
+    subst (λ k. Works (line_work at batch line k next) (Err stop) first now) e
+    (subst (λ w. Works w (Err stop) first now) (joins at batch line joining next) (gathers next))
+
+pub takes_alone : (at at' : Standing) (batch batch' : List Joined) (line : Numbered) (d : Option Due) (r : Result (Unit {0}) Stop) (first now : Moment) → alone d ≡ role_of at.first line.line
+    → StandsAlone at (lines_in batch) line d r at' first now → OnOk r (batch' ≡ []) → TakesLine at (lines_in batch) line r at' (lines_in batch') first now
+takes_alone at at' batch batch' line d (Ok done) first now e stands none = λ next result after h.
+    subst (λ k. Works (line_work at (lines_in batch) line k next) result first after) e
+    (stands (λ a. next a []) result after (subst (λ b. Works (next at' (lines_in b)) result now after) none h))
 takes_alone at at' batch batch' line d (Err stop) first now e stands none = λ next.
-    subst (λ k. Works (line_work at batch line k next) (Err stop) first now) e (stands (λ a. next a []))
+    subst (λ k. Works (line_work at (lines_in batch) line k next) (Err stop) first now) e (stands (λ a. next a []))
 
 -- ---- more lines
 

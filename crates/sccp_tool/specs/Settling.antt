@@ -5,19 +5,18 @@ use Rattle.plan_model.specs.Network.{Network}
 use Rattle.plan_model.specs.declared.plan_fault.PlanFault.{PlanFault}
 use Rattle.plan_text.specs.PlanText.{plan_of}
 use Rattle.relay_net.specs.Batches.{Due}
-use Rattle.sccp_report.specs.Roles.{Role, alone, later, role_of, as_due, StandsIn}
+use Rattle.sccp_report.specs.Roles.{alone, role_of, as_due, StandsIn}
 use Rattle.trace_text.specs.declared.line.Numbered.{Numbered}
 use Rattle.sccp_tool.specs.Ending.{Works}
+use Rattle.sccp_tool.specs.Gathering.{joining_role}
 use Rattle.sccp_tool.specs.Limit.{within_limit}
 use Rattle.sccp_tool.specs.Moment.{Moment}
 use Rattle.sccp_tool.specs.Replay.{Standing, Settled, judged_later, later_work, settle_line, batch_work, batch_printed, gathered, alone_work, line_work, lines_work}
-use Rattle.sccp_tool.specs.Replayers.{ComesToNode, settled_in}
+use Rattle.sccp_tool.specs.Replayers.{settled_in}
 use Rattle.sccp_tool.specs.Replaying.{EndsAs, SettlesTo, BatchGives, BatchStops}
 use Rattle.sccp_tool.specs.Work.{Work, judge, read_on}
 use Rattle.sccp_tool.specs.declared.taking as taking
 use Rattle.sccp_tool.specs.declared.taking.Place.TheVariants as placed
-use Rattle.sccp_tool.specs.declared.settle as look
-use Rattle.sccp_tool.specs.declared.settle.Looked.TheVariants as looked
 use Rattle.sccp_tool.specs.declared.settled as code
 use Rattle.sccp_tool.specs.declared.status.Status.{Status}
 use Rattle.sccp_tool.specs.declared.stop.Stop.{Stop}
@@ -39,15 +38,6 @@ GivesPlanFile at line name (Err stop) at' first now = (next : Standing → Settl
 abbrev pub GivesLine : Standing → Numbered → Result code.Settled.Settled Stop → Standing → Moment → Moment → Type 0
 GivesLine at line (Ok s) at' first now = (next : Standing → Settled → Work) → EndsAs (settle_line at line (role_of at.first line.line) next) (next at' (settled_in s)) first now
 GivesLine at line (Err stop) at' first now = (next : Standing → Settled → Work) → Works (settle_line at line (role_of at.first line.line) next) (Err stop) first now
-
--- what a line is to a batch
-abbrev pub LooksAt : Standing → Numbered → look.Looked.Looked → Type 0
-LooksAt at line (looked.Settled s) = (next : Standing → Settled → Work) (now : Moment) → EndsAs (settle_line at line (role_of at.first line.line) next) (next at (settled_in s)) now now
-LooksAt at line (looked.Later name) = later name ≡ role_of at.first line.line
-
-abbrev pub LooksInto : Network → look.Looked.Looked → Type 0
-LooksInto plan (looked.Settled s) = ComesToNode plan s
-LooksInto plan (looked.Later name) = Unit {0}
 
 -- all lines of a batch are
 abbrev pub GivesSettled : Standing → List Numbered → Result (List code.Settled.Settled) Stop → Standing → Moment → Moment → Type 0
@@ -75,12 +65,8 @@ StandsAlone at batch line d (Ok done) at' first now = (next : Standing → Work)
 StandsAlone at batch line d (Err stop) at' first now = (next : Standing → Work) → Works (read_on (batch_work at batch (alone_work line d next))) (Err stop) first now
 
 -- what a line of a trace is to the batch before it
-abbrev pub JoinsBatch : Role → Type 0
-JoinsBatch (alone d) = ⊥
-JoinsBatch r = Unit {0}
-
 abbrev pub IsPlaced : Network → Numbered → taking.Place.Place → Type 0
-IsPlaced plan line placed.Joins = JoinsBatch (role_of plan line.line)
+IsPlaced plan line (placed.Joins joining) = (joining_role joining ≡ role_of plan line.line) × StandsIn plan (joining_role joining)
 IsPlaced plan line (placed.Alone due) = (alone (option_map as_due due) ≡ role_of plan line.line) × StandsIn plan (alone (option_map as_due due))
 
 -- one more line of a trace

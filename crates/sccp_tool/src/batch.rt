@@ -1,8 +1,10 @@
 //! A batch of lines.
-ghost use Rattle.std.specs.Prelude.{◌≡◌, OnOk};
+ghost use Rattle.std.specs.Prelude.{◌≡◌, All, OnOk};
+ghost use Rattle.sccp_tool.specs.Gathering.{IsJoined, lines_in};
 ghost use Rattle.sccp_tool.specs.Moment.{moment};
 ghost use Rattle.sccp_tool.specs.Settling.{GivesBatch};
 
+use crate::joined::Joined;
 use crate::replayer::Replayer;
 use crate::settle::settle;
 use crate::stop::Stop;
@@ -14,7 +16,6 @@ use sccp_report::Text;
 use std::alloc::Global;
 use std::sync::Wait;
 use std::thread::Threads;
-use trace_text::Numbered;
 
 /// The text of a batch. Its plan lines are settled first; then its messages are routed, each under a number that its worker may
 /// take and the markings that stood before the batch, and what the ends leave to be done is done in the order of the lines.
@@ -24,11 +25,12 @@ pub fn batch_text<R: Threads + Wait + Sync, G: Gate + Sync, F: Files, K: Sink>(
     gate: &G,
     alloc: Global,
     at: &mut Replayer,
-    lines: &[Numbered],
+    joined: List<Joined>,
     files: &mut F,
     out: &mut K,
 ) -> Result<Text, Stop>
-    ensures gives { GivesBatch at.old lines.now result at.new
+    requires { All (IsJoined at.old.first) joined }
+    ensures gives { GivesBatch at.old (lines_in joined) result at.new
         (moment F.contents F.sound F.faults K.taken K.faults files.old out.old)
         (moment F.contents F.sound F.faults K.taken K.faults files.new out.new) }
     ensures first { OnOk result (at.new.first ≡ at.old.first) }
@@ -37,7 +39,7 @@ pub fn batch_text<R: Threads + Wait + Sync, G: Gate + Sync, F: Files, K: Sink>(
     // It ensures that the plans are sound.
     let _first = at.first();
     let mut coming = List::new(alloc);
-    let settled = settle(alloc, at, &mut coming, lines, files, out)?;
+    let settled = settle(alloc, at, &mut coming, joined, files, out)?;
     let settled = settled.as_slice();
     let served = at.route(rt, gate, settled, coming)?;
     let text = tell(alloc, at, settled, served.as_slice())?;

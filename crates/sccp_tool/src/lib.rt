@@ -19,6 +19,7 @@ mod crew;
 mod cuts;
 mod gathered;
 mod import;
+mod joined;
 mod later_lines;
 mod limit;
 mod line_fault;

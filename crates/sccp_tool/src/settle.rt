@@ -5,14 +5,17 @@ ghost use Rattle.plan_model.specs.SameNodes.{SameNodes};
 ghost use Rattle.plan_text.specs.PlanText.{plan_of as read_plan};
 ghost use Rattle.plan_verify.specs.Lawful.{IsLawful, plan_of};
 ghost use Rattle.sccp_report.specs.Events.{event_text};
+ghost use Rattle.sccp_report.specs.Roles.{StandsIn, role_of};
 ghost use Rattle.sccp_report.specs.Verdicts.{verdict_text};
+ghost use Rattle.sccp_tool.specs.Gathering.{IsJoined, joining_role, lines_in};
 ghost use Rattle.sccp_tool.specs.LaterPlans.{accepted_plan_line, refused_plan_head};
 ghost use Rattle.sccp_tool.specs.Moment.{moment};
 ghost use Rattle.sccp_tool.specs.Replay.{accepted, prints};
 ghost use Rattle.sccp_tool.specs.Replayers.{ComesToNode, settled_in};
 ghost use Rattle.sccp_tool.specs.Routings.{ArePlans, ahead};
-ghost use Rattle.sccp_tool.specs.Settling.{JudgesLine, GivesPlanLine, GivesPlanFile, GivesLine, GivesSettled, LooksAt, LooksInto};
+ghost use Rattle.sccp_tool.specs.Settling.{JudgesLine, GivesPlanLine, GivesPlanFile, GivesLine, GivesSettled};
 
+use crate::joined::{Joined, Joining};
 use crate::later_lines::{accepted_plan_line, bad_plan_line, other_nodes_line, refused_plan_text};
 use crate::limit::within_limit;
 use crate::opened::Opened;
@@ -22,9 +25,9 @@ use crate::stop::Stop;
 use plan_check::Accepted;
 use plan_model::{Plan, have_same_nodes};
 use plan_verify::{Verdict, verify};
-use sccp_base::{List, Octets, OutOfMemory};
+use sccp_base::{List, OutOfMemory};
 use sccp_io::{Files, Sink};
-use sccp_report::{Due, Role, Text, put_event, role_of};
+use sccp_report::{Text, put_event};
 use std::alloc::Global;
 use trace_text::Numbered;
 
@@ -150,50 +153,6 @@ fn settle_aside(alloc: Global, at: &Replayer, line: &Numbered) -> Result<Settled
     Ok(Settled::Prints(text.into_octets()))
 }
 
-/// A line of a batch, as far as it is settled without another file.
-#[derive(Debug, Drop)]
-enum Looked {
-    Settled(Settled),
-    /// A later plan, in the file of this name.
-    Later(Octets),
-}
-
-// Nothing is done while a batch is settled.
-fn let_go(_due: Option<Due>) {}
-
-/// What a line is to the batch.
-#[tactic(auto, using(crate::proofs::LaterSteps::looks_routed, crate::proofs::LaterSteps::looks_aside, crate::proofs::LaterSteps::looks_alone))]
-fn look(
-    alloc: Global,
-    at: &Replayer,
-    coming: &List<Accepted>,
-    line: &Numbered,
-) -> Result<Looked, OutOfMemory>
-    requires { ArePlans at.now.first (ahead at.now coming.now).later }
-    ensures gives { IfOk result (LooksAt (ahead at.now coming.now) line.now) }
-    ensures fits { IfOk result (LooksInto at.now.first) }
-{
-    match role_of(alloc, at.first(), &line.line)? {
-        Role::Routed {
-            entry,
-            origin,
-            octets,
-        } => Ok(Looked::Settled(Settled::Routes {
-            line: line.number,
-            entry,
-            origin,
-            octets,
-            before: at.accepted(coming),
-        })),
-        Role::Later(name) => Ok(Looked::Later(name)),
-        Role::Aside => Ok(Looked::Settled(settle_aside(alloc, at, line)?)),
-        Role::Alone(due) => {
-            let_go(due);
-            Ok(Looked::Settled(settle_aside(alloc, at, line)?))
-        }
-    }
-}
-
 /// A plan line whose file has this name. A file name of a trace has visible octets of ASCII alone.
 #[tactic(auto, using(crate::proofs::TakeSteps::works_memory))]
 fn settle_named<F: Files, K: Sink>(
@@ -220,29 +179,43 @@ fn settle_named<F: Files, K: Sink>(
 }
 
 /// What a line of a batch is settled to.
-#[tactic(auto, using(crate::proofs::LaterSteps::named_gives, crate::proofs::TakeSteps::works_memory))]
+#[tactic(auto, using(crate::proofs::LaterSteps::routed_gives, crate::proofs::LaterSteps::named_gives, crate::proofs::LaterSteps::aside_gives, crate::proofs::TakeSteps::works_memory))]
 fn settle_line<F: Files, K: Sink>(
     alloc: Global,
     at: &Replayer,
     coming: &mut List<Accepted>,
-    line: &Numbered,
+    one: Joined,
     files: &mut F,
     out: &mut K,
 ) -> Result<Settled, Stop>
     requires plans { ArePlans at.now.first (ahead at.now coming.old).later }
+    requires role { joining_role one.joining ≡ role_of at.now.first one.line.line }
+    requires stands { StandsIn at.now.first (joining_role one.joining) }
     ensures plans { OnOk result (ArePlans at.now.first (ahead at.now coming.new).later) }
-    ensures gives { GivesLine (ahead at.now coming.old) line.now result (ahead at.now coming.new)
+    ensures gives { GivesLine (ahead at.now coming.old) one.line result (ahead at.now coming.new)
         (moment F.contents F.sound F.faults K.taken K.faults files.old out.old)
         (moment F.contents F.sound F.faults K.taken K.faults files.new out.new) }
     ensures fits { IfOk result (ComesToNode at.now.first) }
     ensures left { F.left files.new ≡ F.left files.old }
 {
-    match look(alloc, at, coming, line)? {
-        Looked::Settled(settled) => Ok(settled),
-        Looked::Later(name) => {
+    let Joined { line, joining } = one;
+    match joining {
+        Joining::Routed {
+            entry,
+            origin,
+            octets,
+        } => Ok(Settled::Routes {
+            line: line.number,
+            entry,
+            origin,
+            octets,
+            before: at.accepted(coming),
+        }),
+        Joining::Later(name) => {
             let name = name.as_slice();
             settle_named(alloc, at, coming, line.number, name, files, out)
         }
+        Joining::Aside => Ok(settle_aside(alloc, at, &line)?),
     }
 }
 
@@ -251,21 +224,22 @@ pub fn settle<F: Files, K: Sink>(
     alloc: Global,
     at: &Replayer,
     coming: &mut List<Accepted>,
-    lines: &[Numbered],
+    joined: List<Joined>,
     files: &mut F,
     out: &mut K,
 ) -> Result<List<Settled>, Stop>
     requires plans { ArePlans at.now.first (ahead at.now coming.old).later }
+    requires joined { All (IsJoined at.now.first) joined }
     ensures plans { OnOk result (ArePlans at.now.first (ahead at.now coming.new).later) }
-    ensures gives { GivesSettled (ahead at.now coming.old) lines.now result (ahead at.now coming.new)
+    ensures gives { GivesSettled (ahead at.now coming.old) (lines_in joined) result (ahead at.now coming.new)
         (moment F.contents F.sound F.faults K.taken K.faults files.old out.old)
         (moment F.contents F.sound F.faults K.taken K.faults files.new out.new) }
     ensures fits { IfOk result (λ settled. All (ComesToNode at.now.first) settled) }
     ensures left { F.left files.new ≡ F.left files.old }
 {
     let mut settled = List::new(alloc);
-    for line in lines {
-        settled.push(settle_line(alloc, at, coming, line, files, out)?)?;
+    for one in joined.into_vec() {
+        settled.push(settle_line(alloc, at, coming, one, files, out)?)?;
     }
     Ok(settled)
 }

@@ -1,13 +1,14 @@
 //! One line of a trace after the other.
-ghost use Rattle.std.specs.Prelude.{◌≡◌, [], false, IfOk, OnOk};
+ghost use Rattle.std.specs.Prelude.{◌≡◌, [], All, IfOk, OnOk};
 ghost use Rattle.std.specs.Option.{option_map};
-ghost use Rattle.sccp_report.specs.Roles.{StandsIn, alone, as_due};
+ghost use Rattle.sccp_report.specs.Roles.{StandsIn, alone, as_due, role_of};
+ghost use Rattle.sccp_tool.specs.Gathering.{IsBegun, IsJoined, joining_role, lines_in};
 ghost use Rattle.sccp_tool.specs.Moment.{moment};
-ghost use Rattle.sccp_tool.specs.Replay.{is_full};
 ghost use Rattle.sccp_tool.specs.Settling.{TakesLine, TakesLines, WritesBatch, Gathers, StandsAlone, IsPlaced};
 
 use crate::batch::batch_text;
 use crate::gathered::Gathered;
+use crate::joined::{Joined, Joining};
 use crate::replayer::Replayer;
 use crate::stop::Stop;
 use crate::writing::put_all;
@@ -31,37 +32,39 @@ fn write_full<R: Threads + Wait + Sync, G: Gate + Sync, F: Files, K: Sink>(
     files: &mut F,
     out: &mut K,
 ) -> Result<(), Stop>
-    ensures gives { WritesBatch at.old batch.old result at.new
+    requires { All (IsJoined at.old.first) batch.old }
+    ensures gives { WritesBatch at.old (lines_in batch.old) result at.new
         (moment F.contents F.sound F.faults K.taken K.faults files.old out.old)
         (moment F.contents F.sound F.faults K.taken K.faults files.new out.new) }
     ensures none { OnOk result (batch.new ≡ []) }
     ensures left { F.left files.new ≡ F.left files.old }
 {
-    let text = batch_text(rt, gate, alloc, at, batch.lines(), files, out)?;
-    *batch = Gathered::new(alloc);
+    let text = batch_text(rt, gate, alloc, at, batch.take(alloc), files, out)?;
     put_all(out, text.into_octets().as_slice())
 }
 
 /// A line joins the batch that has begun, which is done where it is full.
-#[tactic(auto, using(crate::proofs::TakeSteps::gathers_full, crate::proofs::TakeSteps::gathers_more, crate::proofs::TakeSteps::works_memory))]
+#[tactic(auto, using(crate::proofs::TakeSteps::gathers_full, crate::proofs::TakeSteps::gathers_more, crate::proofs::TakeSteps::works_memory, crate::proofs::Gathering::more_joined, crate::proofs::Gathering::more_begun, crate::proofs::Gathering::none_begun))]
 fn gather<R: Threads + Wait + Sync, G: Gate + Sync, F: Files, K: Sink>(
     rt: &R,
     gate: &G,
     alloc: Global,
     at: &mut Replayer,
     batch: &mut Gathered,
-    line: Numbered,
+    one: Joined,
     files: &mut F,
     out: &mut K,
 ) -> Result<(), Stop>
-    requires { is_full batch.old ≡ false }
-    ensures gives { Gathers at.old batch.old line result at.new batch.new
+    requires begun { IsBegun at.old.first batch.old }
+    requires role { joining_role one.joining ≡ role_of at.old.first one.line.line }
+    requires stands { StandsIn at.old.first (joining_role one.joining) }
+    ensures gives { Gathers at.old (lines_in batch.old) one.line result at.new (lines_in batch.new)
         (moment F.contents F.sound F.faults K.taken K.faults files.old out.old)
         (moment F.contents F.sound F.faults K.taken K.faults files.new out.new) }
-    ensures few { OnOk result (is_full batch.new ≡ false) }
+    ensures begun { OnOk result (IsBegun at.new.first batch.new) }
     ensures left { F.left files.new ≡ F.left files.old }
 {
-    batch.push(line)?;
+    batch.push(one)?;
     if batch.is_full() {
         write_full(rt, gate, alloc, at, batch, files, out)
     } else {
@@ -82,42 +85,51 @@ fn stand_alone<R: Threads + Wait + Sync, G: Gate + Sync, F: Files, K: Sink>(
     files: &mut F,
     out: &mut K,
 ) -> Result<(), Stop>
-    requires { StandsIn at.old.first (alone (option_map as_due due)) }
-    ensures gives { StandsAlone at.old batch.old line.now (option_map as_due due) result at.new
+    requires joined { All (IsJoined at.old.first) batch.old }
+    requires stands { StandsIn at.old.first (alone (option_map as_due due)) }
+    ensures gives { StandsAlone at.old (lines_in batch.old) line.now (option_map as_due due) result at.new
         (moment F.contents F.sound F.faults K.taken K.faults files.old out.old)
         (moment F.contents F.sound F.faults K.taken K.faults files.new out.new) }
     ensures none { OnOk result (batch.new ≡ []) }
     ensures left { F.left files.new ≡ F.left files.old }
 {
-    let mut text = batch_text(rt, gate, alloc, at, batch.lines(), files, out)?;
-    *batch = Gathered::new(alloc);
+    let mut text = batch_text(rt, gate, alloc, at, batch.take(alloc), files, out)?;
     let outcomes = at.apply_alone(due)?;
     put_event(alloc, &mut text, at.first(), line, &outcomes)?;
     put_all(out, text.into_octets().as_slice())
 }
 
 /// What a line of a trace is to the batch before it.
-#[derive(Debug, Drop)]
+#[derive(Drop)]
 enum Place {
-    Joins,
+    /// It joins it, as this.
+    Joins(Joining),
     /// It stands alone behind it, and this happens then.
     Alone(Option<Due>),
 }
 
-/// Whether a line joins the batch before it.
+/// Whether a line joins the batch before it, and what it is there.
 fn place_of(alloc: Global, at: &Replayer, line: &Numbered) -> Result<Place, OutOfMemory>
     ensures placed { IfOk result (IsPlaced at.now.first line.now) }
 {
     match role_of(alloc, at.first(), &line.line)? {
         Role::Alone(due) => Ok(Place::Alone(due)),
-        Role::Routed { .. } => Ok(Place::Joins),
-        Role::Later(_) => Ok(Place::Joins),
-        Role::Aside => Ok(Place::Joins),
+        Role::Routed {
+            entry,
+            origin,
+            octets,
+        } => Ok(Place::Joins(Joining::Routed {
+            entry,
+            origin,
+            octets,
+        })),
+        Role::Later(name) => Ok(Place::Joins(Joining::Later(name))),
+        Role::Aside => Ok(Place::Joins(Joining::Aside)),
     }
 }
 
 /// One more line of a trace.
-#[tactic(auto, using(crate::proofs::TakeSteps::takes_gathered, crate::proofs::TakeSteps::takes_alone, crate::proofs::TakeSteps::works_memory))]
+#[tactic(auto, using(crate::proofs::TakeSteps::takes_gathered, crate::proofs::TakeSteps::takes_alone, crate::proofs::TakeSteps::works_memory, crate::proofs::Gathering::none_begun))]
 fn take_line<R: Threads + Wait + Sync, G: Gate + Sync, F: Files, K: Sink>(
     rt: &R,
     gate: &G,
@@ -128,16 +140,19 @@ fn take_line<R: Threads + Wait + Sync, G: Gate + Sync, F: Files, K: Sink>(
     files: &mut F,
     out: &mut K,
 ) -> Result<(), Stop>
-    requires { is_full batch.old ≡ false }
-    ensures takes { TakesLine at.old batch.old line result at.new batch.new
+    requires { IsBegun at.old.first batch.old }
+    ensures takes { TakesLine at.old (lines_in batch.old) line result at.new (lines_in batch.new)
         (moment F.contents F.sound F.faults K.taken K.faults files.old out.old)
         (moment F.contents F.sound F.faults K.taken K.faults files.new out.new) }
-    ensures few { OnOk result (is_full batch.new ≡ false) }
+    ensures begun { OnOk result (IsBegun at.new.first batch.new) }
     ensures left { F.left files.new ≡ F.left files.old }
 {
     match place_of(alloc, at, &line)? {
         Place::Alone(due) => stand_alone(rt, gate, alloc, at, batch, &line, due, files, out),
-        Place::Joins => gather(rt, gate, alloc, at, batch, line, files, out),
+        Place::Joins(joining) => {
+            let one = Joined { line, joining };
+            gather(rt, gate, alloc, at, batch, one, files, out)
+        }
     }
 }
 
@@ -152,11 +167,11 @@ pub fn take_lines<R: Threads + Wait + Sync, G: Gate + Sync, F: Files, K: Sink>(
     files: &mut F,
     out: &mut K,
 ) -> Result<(), Stop>
-    requires { is_full batch.old ≡ false }
-    ensures takes { TakesLines at.old batch.old lines result at.new batch.new
+    requires { IsBegun at.old.first batch.old }
+    ensures takes { TakesLines at.old (lines_in batch.old) lines result at.new (lines_in batch.new)
         (moment F.contents F.sound F.faults K.taken K.faults files.old out.old)
         (moment F.contents F.sound F.faults K.taken K.faults files.new out.new) }
-    ensures few { OnOk result (is_full batch.new ≡ false) }
+    ensures begun { OnOk result (IsBegun at.new.first batch.new) }
     ensures left { F.left files.new ≡ F.left files.old }
 {
     for line in lines.into_vec() {

@@ -1,8 +1,9 @@
 //! A trace that is read and replayed in pieces.
-ghost use Rattle.std.specs.Prelude.{◌≡◌, ◌+◌, ◌++◌, [], length, false, IfOk, OnOk};
+ghost use Rattle.std.specs.Prelude.{◌≡◌, ◌+◌, ◌++◌, [], All, length, IfOk, OnOk};
 ghost use Rattle.sccp_tool.specs.Ending.{Works};
+ghost use Rattle.sccp_tool.specs.Gathering.{IsBegun, IsJoined, lines_in};
 ghost use Rattle.sccp_tool.specs.Moment.{moment};
-ghost use Rattle.sccp_tool.specs.Replay.{closing_of, end_line, is_full, lines_work, trace_work};
+ghost use Rattle.sccp_tool.specs.Replay.{closing_of, end_line, lines_work, trace_work};
 ghost use Rattle.sccp_tool.specs.Replaying.{rest_work};
 ghost use Rattle.sccp_tool.specs.Settling.{TakesLines};
 ghost use Rattle.sccp_tool.specs.Trace.{trace_of};
@@ -69,17 +70,18 @@ fn write_last<R: Threads + Wait + Sync, G: Gate + Sync, F: Files, K: Sink>(
     gate: &G,
     alloc: Global,
     at: &mut Replayer,
-    batch: &Gathered,
+    batch: &mut Gathered,
     count: usize,
     fault: Option<LineFault>,
     files: &mut F,
     out: &mut K,
 ) -> Result<Status, Stop>
-    ensures { Works (lines_work (closing_of count fault) at.old batch.now []) result
+    requires { All (IsJoined at.old.first) batch.old }
+    ensures { Works (lines_work (closing_of count fault) at.old (lines_in batch.old) []) result
         (moment F.contents F.sound F.faults K.taken K.faults files.old out.old)
         (moment F.contents F.sound F.faults K.taken K.faults files.new out.new) }
 {
-    let mut text = batch_text(rt, gate, alloc, at, batch.lines(), files, out)?;
+    let mut text = batch_text(rt, gate, alloc, at, batch.take(alloc), files, out)?;
     let status = put_closing(alloc, &mut text, count, fault)?;
     print_last(out, text.into_octets().as_slice(), status)
 }
@@ -96,12 +98,12 @@ fn take_told<R: Threads + Wait + Sync, G: Gate + Sync, F: Files, K: Sink>(
     files: &mut F,
     out: &mut K,
 ) -> Result<usize, Stop>
-    requires { is_full batch.old ≡ false }
-    ensures takes { TakesLines at.old batch.old lines result at.new batch.new
+    requires { IsBegun at.old.first batch.old }
+    ensures takes { TakesLines at.old (lines_in batch.old) lines result at.new (lines_in batch.new)
         (moment F.contents F.sound F.faults K.taken K.faults files.old out.old)
         (moment F.contents F.sound F.faults K.taken K.faults files.new out.new) }
     ensures count { IfOk result (λ n. n ≡ count + length lines) }
-    ensures few { OnOk result (is_full batch.new ≡ false) }
+    ensures begun { OnOk result (IsBegun at.new.first batch.new) }
     ensures left { F.left files.new ≡ F.left files.old }
 {
     let Some(more) = count.checked_add(lines.as_slice().len()) else {
@@ -124,8 +126,8 @@ fn take_end<R: Threads + Wait + Sync, G: Gate + Sync, F: Files, K: Sink>(
     files: &mut F,
     out: &mut K,
 ) -> Result<Status, Stop>
-    requires { is_full batch.old ≡ false }
-    ensures { Works (rest_work count at.old batch.old [] reader.old []) result
+    requires { IsBegun at.old.first batch.old }
+    ensures { Works (rest_work count at.old (lines_in batch.old) [] reader.old []) result
         (moment F.contents F.sound F.faults K.taken K.faults files.old out.old)
         (moment F.contents F.sound F.faults K.taken K.faults files.new out.new) }
 {
@@ -178,7 +180,9 @@ pub fn replay_trace<R: Threads + Wait + Sync, G: Gate + Sync, F: Files, K: Sink>
             rt, gate, alloc, at, &mut batch, count, fed.lines, files, out,
         )?;
         if fed.fault.is_some() {
-            return write_last(rt, gate, alloc, at, &batch, count, fed.fault, files, out);
+            return write_last(
+                rt, gate, alloc, at, &mut batch, count, fed.fault, files, out,
+            );
         }
     }
     Err(Stop::Memory)

@@ -1,5 +1,6 @@
 use Rattle.std.proofs.Common.{◌≡◌, ℕ, List, [], ◌∙◌, Err, map, ap, subst}
 use Rattle.std.proofs.lemmas.Result.{err_from_is_err_and}
+use Rattle.sccp_tool.specs.Gathering.{lines_in}
 use Rattle.sccp_tool.specs.Moment.{Moment, moment}
 use Rattle.sccp_tool.specs.Numbers.{AreNumbers}
 use Rattle.sccp_tool.specs.Replay.{Standing, Settled, batch_of, told_at}
@@ -15,7 +16,7 @@ returns-in_err-settled-clause-gives g c =
     let p = err_from_is_err_and c.from_residual.result c.from_residual.ensures.1 in
     let b : Moment = moment g.F.Files.contents g.F.Files.sound g.F.Files.faults g.K.Sink.taken g.K.Sink.faults c.args.files.now c.args.out.now in
     let m : Moment = moment g.F.Files.contents g.F.Files.sound g.F.Files.faults g.K.Sink.taken g.K.Sink.faults c.settle.new.files c.settle.new.out in
-    rw (p.1, p.2) (subst (λ (a : Standing). BatchStops a c.args.lines.now (Err c.in_err-settled.field-0.0) b m) (ap (ahead c.args.at.now) c.new-coming.ensures ∙ none_ahead c.args.at.now) c.in_err-settled.ensures.gives)
+    rw (p.1, p.2) (subst (λ (a : Standing). BatchStops a (lines_in c.args.joined) (Err c.in_err-settled.field-0.0) b m) (ap (ahead c.args.at.now) c.new-coming.ensures ∙ none_ahead c.args.at.now) c.in_err-settled.ensures.gives)
 
 pub returns-in_err-served-clause-gives : goal.returns-in_err-served-clause-gives
 returns-in_err-served-clause-gives g c =
@@ -24,8 +25,8 @@ returns-in_err-served-clause-gives g c =
     let m : Moment = moment g.F.Files.contents g.F.Files.sound g.F.Files.faults g.K.Sink.taken g.K.Sink.faults c.settle.new.files c.settle.new.out in
     let at : Standing = ahead c.args.at.now c.settle.new.coming in
     let ss : List Settled = map settled_in c.in_ok-settled.settled in
-    rw (p.1, p.2) (settled_memory c.args.at.now c.args.lines.now at ss [] b m
-    (subst (λ (a : Standing). SettlesTo a c.args.lines.now at ss [] b m) (ap (ahead c.args.at.now) c.new-coming.ensures ∙ none_ahead c.args.at.now) c.in_ok-settled.ensures.gives))
+    rw (p.1, p.2) (settled_memory c.args.at.now (lines_in c.args.joined) at ss [] b m
+    (subst (λ (a : Standing). SettlesTo a (lines_in c.args.joined) at ss [] b m) (ap (ahead c.args.at.now) c.new-coming.ensures ∙ none_ahead c.args.at.now) c.in_ok-settled.ensures.gives))
 
 pub returns-in_err-text-clause-gives : goal.returns-in_err-text-clause-gives
 returns-in_err-text-clause-gives g c =
@@ -34,8 +35,8 @@ returns-in_err-text-clause-gives g c =
     let m : Moment = moment g.F.Files.contents g.F.Files.sound g.F.Files.faults g.K.Sink.taken g.K.Sink.faults c.settle.new.files c.settle.new.out in
     let at : Standing = ahead c.args.at.now c.settle.new.coming in
     let ss : List Settled = map settled_in c.in_ok-settled.settled in
-    rw (p.1, p.2) (settled_memory c.args.at.now c.args.lines.now at ss [] b m
-    (subst (λ (a : Standing). SettlesTo a c.args.lines.now at ss [] b m) (ap (ahead c.args.at.now) c.new-coming.ensures ∙ none_ahead c.args.at.now) c.in_ok-settled.ensures.gives))
+    rw (p.1, p.2) (settled_memory c.args.at.now (lines_in c.args.joined) at ss [] b m
+    (subst (λ (a : Standing). SettlesTo a (lines_in c.args.joined) at ss [] b m) (ap (ahead c.args.at.now) c.new-coming.ensures ∙ none_ahead c.args.at.now) c.in_ok-settled.ensures.gives))
 
 pub returns-clause-gives : goal.returns-clause-gives
 returns-clause-gives g c =
@@ -48,8 +49,8 @@ returns-clause-gives g c =
     let text : List ℕ = c.in_ok-text.text in
     let ns : List ℕ = map number_in c.in_ok-served.served in
     let e = c.in_ok-text.ensures in
-    batch_told now at c.tell.new.at c.args.lines.now c.in_ok-settled.settled ns text b m
-    (subst (λ (a : Standing). SettlesTo a c.args.lines.now at ss [] b m) (ap (ahead now) c.new-coming.ensures ∙ none_ahead now) c.in_ok-settled.ensures.gives)
+    batch_told now at c.tell.new.at (lines_in c.args.joined) c.in_ok-settled.settled ns text b m
+    (subst (λ (a : Standing). SettlesTo a (lines_in c.args.joined) at ss [] b m) (ap (ahead now) c.new-coming.ensures ∙ none_ahead now) c.in_ok-settled.ensures.gives)
     (subst (λ xs. AreNumbers (batch_of now at (map settled_in xs)) ns) c.as_slice-settled.ensures c.in_ok-served.ensures.served.numbers)
     (subst (λ a. text ≡ (told_at a ss ns).text) c.in_ok-served.ensures.at
     (subst (λ vs. text ≡ (told_at mid ss (map number_in vs)).text) c.as_slice.ensures

@@ -1,5 +1,6 @@
-use Rattle.std.proofs.Common.{◌≡◌, drop, map}
+use Rattle.std.proofs.Common.{◌≡◌, drop, length, map}
 use Rattle.std.specs.List.{All}
+use Rattle.sccp_tool.specs.Gathering.{lines_in}
 use Rattle.sccp_tool.specs.Moment.{moment}
 use Rattle.sccp_tool.specs.Replayers.{ComesToNode, settled_in}
 use Rattle.sccp_tool.specs.Replaying.{SettlesTo}
@@ -7,9 +8,9 @@ use Rattle.sccp_tool.specs.Routings.{ArePlans, ahead}
 use Rattle.sccp_tool.proofs.settle.settle.Given as goal
 
 -- the lines so far are settled, and these are left
-abbrev pub invariant-loop-line : goal.invariant-loop-line
-invariant-loop-line g l = record {
-  settles : SettlesTo (ahead l.fn.at l.fn.coming) l.fn.lines (ahead l.fn.at l.coming) (map settled_in l.settled) (drop l.line-index l.lines)
+abbrev pub invariant-loop-one : goal.invariant-loop-one
+invariant-loop-one g l = record {
+  settles : SettlesTo (ahead l.fn.at l.fn.coming) (lines_in l.fn.joined) (ahead l.fn.at l.coming) (map settled_in l.settled) (lines_in (drop (length l.yielded) l.fn.joined))
       (moment g.F.Files.contents g.F.Files.sound g.F.Files.faults g.K.Sink.taken g.K.Sink.faults l.fn.files l.fn.out)
       (moment g.F.Files.contents g.F.Files.sound g.F.Files.faults g.K.Sink.taken g.K.Sink.faults l.files l.out);
   plans : ArePlans l.fn.at.first (ahead l.fn.at l.coming).later;

@@ -3,6 +3,7 @@ use Rattle.std.proofs.lemmas.Iterator.Adapters.{YieldsList-from_vec}
 use Rattle.std.proofs.lemmas.Iterator.Consumers.{YieldsList-turn}
 use Rattle.std.proofs.lemmas.Result.{err_from_is_err_and}
 use Rattle.trace_text.specs.declared.line.Numbered.{Numbered}
+use Rattle.sccp_tool.specs.Gathering.{lines_in}
 use Rattle.sccp_tool.specs.Moment.{Moment, moment}
 use Rattle.sccp_tool.proofs.BatchSteps.{dropped}
 use Rattle.sccp_tool.proofs.TakeSteps.{LinesLeft, line_taken, line_stopped}
@@ -18,8 +19,8 @@ returns-in_err-take_line-clause-takes g c =
     let m : Moment = moment g.F.Files.contents g.F.Files.sound g.F.Files.faults g.K.Sink.taken g.K.Sink.faults c.loop-line.files c.loop-line.out in
     let a : Moment = moment g.F.Files.contents g.F.Files.sound g.F.Files.faults g.K.Sink.taken g.K.Sink.faults c.take_line.new.files c.take_line.new.out in
     let left : List Numbered = drop (length c.loop-line.yielded + 1) c.args.lines in
-    rw (p.1, p.2) (line_stopped c.args.at.now c.loop-line.at c.take_line.new.at c.args.batch.now c.loop-line.batch c.take_line.new.batch c.args.lines left c.in-Some.line c.in_err-take_line.field-0.0 b m a
-    (subst (λ l. LinesLeft c.args.at.now c.args.batch.now c.args.lines c.loop-line.at c.loop-line.batch l b m) (dropped c.args.lines (length c.loop-line.yielded) c.in-Some.line t.0 t.1) c.loop-line.invariant.lines)
+    rw (p.1, p.2) (line_stopped c.args.at.now c.loop-line.at c.take_line.new.at (lines_in c.args.batch.now) (lines_in c.loop-line.batch) (lines_in c.take_line.new.batch) c.args.lines left c.in-Some.line c.in_err-take_line.field-0.0 b m a
+    (subst (λ l. LinesLeft c.args.at.now (lines_in c.args.batch.now) c.args.lines c.loop-line.at (lines_in c.loop-line.batch) l b m) (dropped c.args.lines (length c.loop-line.yielded) c.in-Some.line t.0 t.1) c.loop-line.invariant.lines)
     c.in_err-take_line.ensures.takes)
 
 pub loop-line-preserved : goal.loop-line-preserved
@@ -33,9 +34,9 @@ loop-line-preserved g c =
     let left : List Numbered = drop (length c.loop-line.yielded + 1) c.args.lines in
     let more : length (c.loop-line.yielded ++ c.in-Some.line ∷ []) ≡ length c.loop-line.yielded + 1 = length-append c.loop-line.yielded (c.in-Some.line ∷ []) in
     record {
-      lines = rw more (line_taken c.args.at.now c.loop-line.at c.take_line.new.at c.args.batch.now c.loop-line.batch c.take_line.new.batch c.args.lines left c.in-Some.line b m a
-          (subst (λ l. LinesLeft c.args.at.now c.args.batch.now c.args.lines c.loop-line.at c.loop-line.batch l b m) (dropped c.args.lines (length c.loop-line.yielded) c.in-Some.line t.0 t.1) c.loop-line.invariant.lines)
+      lines = rw more (line_taken c.args.at.now c.loop-line.at c.take_line.new.at (lines_in c.args.batch.now) (lines_in c.loop-line.batch) (lines_in c.take_line.new.batch) c.args.lines left c.in-Some.line b m a
+          (subst (λ l. LinesLeft c.args.at.now (lines_in c.args.batch.now) c.args.lines c.loop-line.at (lines_in c.loop-line.batch) l b m) (dropped c.args.lines (length c.loop-line.yielded) c.in-Some.line t.0 t.1) c.loop-line.invariant.lines)
           c.in_ok-take_line.ensures.takes);
-      few = c.in_ok-take_line.ensures.few;
+      begun = c.in_ok-take_line.ensures.begun;
       left = c.in_ok-take_line.ensures.left ∙ c.loop-line.invariant.left;
     }

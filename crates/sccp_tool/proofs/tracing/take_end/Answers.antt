@@ -1,4 +1,5 @@
 use Rattle.std.proofs.lemmas.Result.{err_from_is_err_and}
+use Rattle.sccp_tool.specs.Gathering.{lines_in}
 use Rattle.sccp_tool.specs.Moment.{Moment, moment}
 use Rattle.sccp_tool.proofs.TakeSteps.{last_stopped}
 use Rattle.sccp_tool.proofs.tracing.take_end.Goals as goal
@@ -8,5 +9,5 @@ returns-in_err-count g c =
     let p = err_from_is_err_and c.from_residual-in_err-count.result c.from_residual-in_err-count.ensures.1 in
     let b : Moment = moment g.F.Files.contents g.F.Files.sound g.F.Files.faults g.K.Sink.taken g.K.Sink.faults c.args.files.now c.args.out.now in
     let m : Moment = moment g.F.Files.contents g.F.Files.sound g.F.Files.faults g.K.Sink.taken g.K.Sink.faults c.take_told.new.files c.take_told.new.out in
-    rw (p.1, p.2) (last_stopped c.args.count c.args.at.now c.take_told.new.at c.args.batch.now c.take_told.new.batch c.args.reader.now c.in_ok-fed.fed c.in_err-count.field-0.0 b m
+    rw (p.1, p.2) (last_stopped c.args.count c.args.at.now c.take_told.new.at (lines_in c.args.batch.now) (lines_in c.take_told.new.batch) c.args.reader.now c.in_ok-fed.fed c.in_err-count.field-0.0 b m
     c.in_ok-fed.ensures.exact c.in_err-count.ensures.takes)
