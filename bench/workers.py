@@ -3,7 +3,8 @@
 
 The plan has six relays, each with 101 rows; a message for 491710000012 goes over all of them. One trace has batches of 1,024
 messages; in the other each message is a batch of its own, with a fence behind it, where workers can gain nothing. The replays
-with their numbers of workers are made in turn, and the least time of each is told, less that of an empty trace.
+with their numbers of workers are made in turn, and of each the least time and the one in the middle are told, less that of an
+empty trace. On a shared host one run takes up to twice as long as the next, so the times in the middle are compared.
 
 Reading, settling and printing are one thread's work. Which share of one worker's time is serving, the journeys of the
 messages, is reckoned by the instructions that callgrind counts below them; what is left is taken from the time of each number
@@ -13,11 +14,12 @@ What a machine gives to several threads isn't told by the number of its processo
 measured how much more is done in a time by two and by four replays with one worker, at once.
 
 Run it from anywhere: bench/workers.py [PROGRAM]. It builds nothing: run ./sccp once before. On a machine that has other work
-threads wait for each other: `chrt -f 10 bench/workers.py` as root puts that work aside for about a minute.
+threads wait for each other: `chrt -f 10 bench/workers.py` as root puts that work aside for some two minutes.
 """
 import os
 import re
 import shutil
+import statistics
 import subprocess
 import sys
 import tempfile
@@ -28,7 +30,7 @@ PROGRAM = os.path.abspath(sys.argv[1]) if len(sys.argv) > 1 else os.path.join(TO
 RELAYS = 6
 MESSAGE = "msg n0 1-0-1 0980030E120B1206001204947101000021044301080802AABB"
 WORKERS = (1, 2, 4, 16)
-TURNS = 7
+TURNS = 15
 SERVING = "relay_net::travelling::journey*"
 COUNTED = 6_000
 
@@ -89,24 +91,23 @@ def main():
             with open(os.path.join(folder, name), "w") as made:
                 made.write(text)
         empty = min(replay(folder, "empty", 1)[0] for _ in range(TURNS))
-        least = {}
+        times = {}
         texts = {trace: set() for trace in traces}
         for _ in range(TURNS):
             for trace in traces:
                 for workers in WORKERS:
                     seconds, text = replay(folder, trace, workers)
-                    seconds -= empty
-                    least[trace, workers] = min(seconds, least.get((trace, workers), seconds))
+                    times.setdefault((trace, workers), []).append(seconds - empty)
                     texts[trace].add(text)
         for trace in traces:
             if len(texts[trace]) != 1:
                 sys.exit(f"{trace}: the texts differ")
         share = serving(folder)
         for trace in traces:
-            one = least[trace, 1]
+            one = statistics.median(times[trace, 1])
             for workers in WORKERS:
-                some = least[trace, workers]
-                line = f"{trace}, {workers} workers: {some:.3f} s, {one / some:.2f} times as fast as one"
+                some = statistics.median(times[trace, workers])
+                line = f"{trace}, {workers} workers: least {min(times[trace, workers]):.3f} s, middle {some:.3f} s, {one / some:.2f} times as fast as one"
                 if trace == "batches" and share:
                     rest = (1 - share) * one
                     line += f"; serving {some - rest:.3f} s, {share * one / (some - rest):.2f} times as fast"
@@ -114,8 +115,8 @@ def main():
         if share:
             print(f"serving is {share:.0%} of one worker's instructions")
         for count in (2, 4):
-            at_once = min(together(folder, count) for _ in range(TURNS))
-            alone = min(together(folder, 1) for _ in range(TURNS))
+            at_once = statistics.median(together(folder, count) for _ in range(TURNS))
+            alone = statistics.median(together(folder, 1) for _ in range(TURNS))
             print(f"{count} replays at once do {count * alone / at_once:.2f} times as much as one")
 
 
