@@ -111,10 +111,11 @@ line_of w point (Some (first ∷ rest)) = Some (line_from w point (first ∷ res
 abbrev pub line : Network → World → ℕ → ℕ → Option Line
 line network w point reference = line_of w point (legs network w point reference)
 
--- the own references that a relay gave, as often as it gave them
+-- the own references of the two sections of a pair
 abbrev pub both_of : Pair → List ℕ
 both_of pair = pair.near ∷ pair.far ∷ []
 
+-- the own references that a relay gave, as often as it gave them
 abbrev pub given : Moment → List ℕ
 given m = flat_map both_of m.pairs
 

@@ -112,6 +112,7 @@ impl NodeState {
         }
     }
 
+    // A connection message that is delivered here goes to the exchange of coupled connections, which may answer it.
     fn couple(
         &mut self,
         alloc: Global,
@@ -133,6 +134,7 @@ impl NodeState {
         Ok(as_outcomes(room, sent))
     }
 
+    // A connectionless message that is delivered here: a segment is put with those of its message, anything else is left to its user.
     fn deliver(&mut self, alloc: Global, message: Message) -> Result<List<Outcome>, OutOfMemory>
         requires { Sound message }
         ensures state { OnOk result (self.new ≡ (after_delivered self.old (arrival_of message)).state) }

@@ -42,6 +42,7 @@ mod verdict;
 pub use change::change_text;
 pub use cuts::cuts_text;
 pub use event::{event_text, put_event};
+pub use fields::put_cause;
 pub use hop::hops_text;
 pub use laws::{text_tells_point_code, text_tells_route};
 pub use plan_fault::plan_fault_text;

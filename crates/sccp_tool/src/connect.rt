@@ -1,11 +1,8 @@
 //! The command that makes one connection over the relays of a plan (Q.714 section 3).
 ghost use Rattle.std.specs.Prelude.{◌≡◌, ◌<◌, ◌++◌, IfOk, OnOk, codes, length};
 ghost use Rattle.std.specs.List.{flat_map};
-ghost use Rattle.std.specs.Option.{option_copied};
 ghost use Rattle.plan_model.specs.Network.{IsPlan};
 ghost use Rattle.plan_verify.specs.Lawful.{IsLawful, plan_of};
-ghost use Rattle.sccp_message.specs.declared.cause.CauseTable.TheVariants.{Refusal};
-ghost use Rattle.sccp_report.specs.Fields.{after_blank, cause_line};
 ghost use Rattle.sccp_tool.specs.Commands.{texts};
 ghost use Rattle.sccp_tool.specs.Connect.{call_of, call_text, calling_of, connect_of, connect_text, connect_words, connect_work, connected, is_unsaid, names_text, next_name, octets_line, opened_line, outcome_text, sections_line, ssn_in, through_lines};
 ghost use Rattle.sccp_tool.specs.Ending.{Works};
@@ -28,8 +25,8 @@ use plan_model::Plan;
 use plan_verify::Verdict;
 use sccp_base::{Name, Octets, OutOfMemory, PointCode};
 use sccp_io::{Files, Sink};
-use sccp_message::{CauseTable, cause_text};
-use sccp_report::Text;
+use sccp_message::CauseTable;
+use sccp_report::{Text, put_cause};
 use std::alloc::Global;
 use trace_text::{is_file_name, octets_of};
 
@@ -247,34 +244,11 @@ fn put_outcome(text: &mut Text, outcome: &Outcome) -> Result<(), OutOfMemory>
     match outcome {
         Outcome::Unsettled => text.put(b"unsettled\n"),
         Outcome::Unanswered => text.put(b"unanswered\n"),
-        Outcome::Refused(cause) => put_refused(text, *cause),
+        Outcome::Refused(cause) => put_cause(text, b"refused ", CauseTable::Refusal, *cause),
         Outcome::Opened(names, far, through) => {
             put_opened(text, names.as_slice(), *far)?;
             put_through(text, through)
         }
-    }
-}
-
-/// Appends the line of a refused connection: the cause, and its text where it has one.
-#[tactic(auto, unfolding(sccp_report::specs::Fields::cause_line))]
-fn put_refused(text: &mut Text, cause: u8) -> Result<(), OutOfMemory>
-    ensures { OnOk result (text.new ≡ text.old ++ cause_line (codes "refused ") Refusal cause) }
-{
-    text.put_numbered(b"refused ", u32::from(cause))?;
-    put_after_blank(text, cause_text(CauseTable::Refusal, cause))?;
-    text.put(b"\n")
-}
-
-/// Appends a text behind a blank, or nothing.
-fn put_after_blank(text: &mut Text, words: Option<&str>) -> Result<(), OutOfMemory>
-    ensures { OnOk result (text.new ≡ text.old ++ after_blank (option_copied words.entry)) }
-{
-    match words {
-        Some(words) => {
-            text.put(b" ")?;
-            text.put(words.as_bytes())
-        }
-        None => Ok(()),
     }
 }
 
