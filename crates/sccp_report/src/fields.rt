@@ -99,7 +99,12 @@ fn put_after_blank(text: &mut Text, words: Option<&str>) -> Result<(), OutOfMemo
 
 /// A cause behind its name, and its text where its table has one, as a line.
 #[tactic(auto, unfolding(crate::specs::Fields::cause_line))]
-pub fn put_cause(text: &mut Text, name: &[u8], table: CauseTable, cause: u8) -> Result<(), OutOfMemory>
+pub fn put_cause(
+    text: &mut Text,
+    name: &[u8],
+    table: CauseTable,
+    cause: u8,
+) -> Result<(), OutOfMemory>
     ensures { OnOk result (text.new ≡ text.old ++ cause_line name.now table cause) }
 {
     text.put_numbered(name, u32::from(cause))?;
