@@ -10,6 +10,10 @@ Reading, settling and printing are one thread's work. Which share of one worker'
 messages, is reckoned by the instructions that callgrind counts below them; what is left is taken from the time of each number
 of workers, so that all that several workers cost counts as serving. Without valgrind the whole command alone is told.
 
+The same is told in instructions, which don't hang on the host: how many of them serving takes the caller's thread, which makes
+the others, serves its shares and collects all answers, and how many it takes all threads. What a thread waits for, a processor
+or memory that another one wrote, isn't in that count.
+
 What a machine gives to several threads isn't told by the number of its processors, of which two may be one core: so it is
 measured how much more is done in a time by two and by four replays with one worker, at once.
 
@@ -75,12 +79,32 @@ def instructions(folder, trace, flags=()):
 
 
 def serving(folder):
-    """Which share of the instructions that a trace takes is serving, or none."""
+    """How many instructions a trace takes, and how many of them are serving, or none."""
     if not shutil.which("valgrind"):
         return None
     below = instructions(folder, "counted", [f"--toggle-collect={SERVING}"])
     all_of_it = instructions(folder, "counted") - instructions(folder, "empty")
-    return below / all_of_it if below and all_of_it > below else None
+    return (all_of_it, below) if below and all_of_it > below else None
+
+
+def by_thread(folder, workers):
+    """How many instructions each thread takes, all its batches together: the caller's first."""
+    counts = os.path.join(folder, f"counts{workers}")
+    flags = ["--separate-threads=yes", f"--callgrind-out-file={counts}"]
+    words = ["valgrind", "--tool=callgrind", *flags, PROGRAM, "replay", "plan", "counted", str(workers)]
+    subprocess.run(words, cwd=folder, capture_output=True)
+    texts = [open(os.path.join(folder, name)).read() for name in sorted(os.listdir(folder)) if name.startswith(f"counts{workers}-")]
+    return [int(re.search(r"^totals: (\d+)", text, re.M).group(1)) for text in texts]
+
+
+def counted(folder, below):
+    """Serving by each number of workers, in instructions of the caller's thread and of all threads."""
+    alone = by_thread(folder, 1)[0] - below
+    for workers in WORKERS[1:]:
+        caller, *others = by_thread(folder, workers)
+        mine = caller - alone
+        print(f"batches, {workers} workers, in instructions: serving takes one worker {below / mine:.2f} times as many as the "
+              f"caller's thread, and all threads {(mine + sum(others)) / below:.2f} times as many as one worker")
 
 
 def main():
@@ -102,7 +126,8 @@ def main():
         for trace in traces:
             if len(texts[trace]) != 1:
                 sys.exit(f"{trace}: the texts differ")
-        share = serving(folder)
+        known = serving(folder)
+        share = known and known[1] / known[0]
         for trace in traces:
             one = statistics.median(times[trace, 1])
             for workers in WORKERS:
@@ -114,6 +139,7 @@ def main():
                 print(line)
         if share:
             print(f"serving is {share:.0%} of one worker's instructions")
+            counted(folder, known[1])
         for count in (2, 4):
             at_once = statistics.median(together(folder, count) for _ in range(TURNS))
             alone = statistics.median(together(folder, 1) for _ in range(TURNS))
