@@ -93,12 +93,16 @@ def by_thread(folder, workers):
     flags = ["--separate-threads=yes", f"--callgrind-out-file={counts}"]
     words = ["valgrind", "--tool=callgrind", *flags, PROGRAM, "replay", "plan", "counted", str(workers)]
     subprocess.run(words, cwd=folder, capture_output=True)
-    texts = [open(os.path.join(folder, name)).read() for name in sorted(os.listdir(folder)) if name.startswith(f"counts{workers}-")]
-    return [int(re.search(r"^totals: (\d+)", text, re.M).group(1)) for text in texts]
+    found = []
+    for name in sorted(os.listdir(folder)):
+        if name.startswith(f"counts{workers}-"):
+            with open(os.path.join(folder, name)) as written:
+                found.append(int(re.search(r"^totals: (\d+)", written.read(), re.M).group(1)))
+    return found
 
 
-def counted(folder, below):
-    """Serving by each number of workers, in instructions of the caller's thread and of all threads."""
+def tell_instructions(folder, below):
+    """Tells serving by each number of workers in instructions, of the caller's thread and of all threads."""
     alone = by_thread(folder, 1)[0] - below
     for workers in WORKERS[1:]:
         caller, *others = by_thread(folder, workers)
@@ -126,8 +130,8 @@ def main():
         for trace in traces:
             if len(texts[trace]) != 1:
                 sys.exit(f"{trace}: the texts differ")
-        known = serving(folder)
-        share = known and known[1] / known[0]
+        counts = serving(folder)
+        share = counts and counts[1] / counts[0]
         for trace in traces:
             one = statistics.median(times[trace, 1])
             for workers in WORKERS:
@@ -139,7 +143,7 @@ def main():
                 print(line)
         if share:
             print(f"serving is {share:.0%} of one worker's instructions")
-            counted(folder, known[1])
+            tell_instructions(folder, counts[1])
         for count in (2, 4):
             at_once = statistics.median(together(folder, count) for _ in range(TURNS))
             alone = statistics.median(together(folder, 1) for _ in range(TURNS))
