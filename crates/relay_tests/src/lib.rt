@@ -1,7 +1,6 @@
-//! Tests of what relays do under given marks and events that no trace brings about alone: steps, routes and journeys under
-//! marks, the management of one node, and the connection sections of one node.
+//! Tests of how many connection sections a relay has after each message, which no command tells.
 //!
-//! What a command shows is a case of the program `worked_cases`. Plans are given as texts, messages as octets.
+//! What a command shows is a case of the program `worked_cases`. The plan is given as a text, messages as octets.
 #![tactic(auto)]
 
 #[cfg(test)]

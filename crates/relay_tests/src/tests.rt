@@ -1,6 +1,2 @@
-//! What relays do under given marks and events.
+//! What a relay couples.
 mod couplings;
-mod journeys;
-mod management;
-mod plans;
-mod routes;

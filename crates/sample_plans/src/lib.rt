@@ -82,62 +82,6 @@ most = 12
 allowed = ["2-0-1/6"]
 "#;
 
-/// A relay that sends titles of 49 to three places, and those of subsystem 8 to a fourth.
-pub const THREE_TARGETS: &str = r#"version = 2
-[[node]]
-name = "a"
-point = "1-0-2"
-[[node.row]]
-selector = "4:0:1:4"
-prefix = "49"
-targets = [
-    { final = "2-0-1", ssn = 6 },
-    { final = "2-0-2", ssn = 6 },
-    { final = "2-0-3", ssn = 6 },
-]
-[[node.row]]
-selector = "4:0:1:4"
-prefix = "49"
-ssn = 8
-targets = [{ final = "2-0-4" }]
-[[cover]]
-node = "a"
-selector = "4:0:1:4"
-ssn = 6
-prefix = "49"
-least = 12
-most = 12
-allowed = ["2-0-1/6", "2-0-2/6", "2-0-3/6"]
-"#;
-
-/// A relay that sends titles of 49 to eight places.
-pub const EIGHT_TARGETS: &str = r#"version = 2
-[[node]]
-name = "a"
-point = "1-0-2"
-[[node.row]]
-selector = "4:0:1:4"
-prefix = "49"
-targets = [
-    { final = "2-0-1", ssn = 6 },
-    { final = "2-0-2", ssn = 6 },
-    { final = "2-0-3", ssn = 6 },
-    { final = "2-0-4", ssn = 6 },
-    { final = "2-0-5", ssn = 6 },
-    { final = "2-0-6", ssn = 6 },
-    { final = "2-0-7", ssn = 6 },
-    { final = "2-1-0", ssn = 6 },
-]
-[[cover]]
-node = "a"
-selector = "4:0:1:4"
-ssn = 6
-prefix = "49"
-least = 12
-most = 12
-allowed = []
-"#;
-
 /// Two relays, of which the first puts a 0 in place of 49 and changes the nature of address to 3.
 pub const ROAMING: &str = r#"version = 1
 [[node]]
@@ -204,50 +148,4 @@ prefix = "1"
 least = 1
 most = 9
 allowed = []
-"#;
-
-/// A relay that sends titles of any digits to 2-0-1.
-pub const ANY_DIGITS: &str = r#"version = 1
-[[node]]
-name = "a"
-point = "1-0-2"
-subsystems = [8]
-[[node.row]]
-selector = "4:0:1:4"
-prefix = ""
-first = { final = "2-0-1", ssn = 6 }
-[[cover]]
-node = "a"
-selector = "4:0:1:4"
-ssn = 6
-prefix = ""
-least = 1
-most = 15
-allowed = ["2-0-1/6", "2-0-2/6"]
-"#;
-
-/// Two relays, of which the first puts fifteen zeros before the digits.
-pub const FIFTEEN_ZEROS: &str = r#"version = 1
-[[node]]
-name = "a"
-point = "1-0-2"
-[[node.row]]
-selector = "4:0:1:4"
-prefix = "49"
-first = { relay = "b", put = "000000000000000" }
-[[node]]
-name = "b"
-point = "1-0-3"
-[[node.row]]
-selector = "4:0:1:4"
-prefix = ""
-first = { final = "2-0-1", ssn = 6 }
-[[cover]]
-node = "a"
-selector = "4:0:1:4"
-ssn = 6
-prefix = "49"
-least = 12
-most = 12
-allowed = ["2-0-1/6"]
 "#;

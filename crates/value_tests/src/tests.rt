@@ -3,5 +3,6 @@ mod checks;
 mod lookups;
 mod messages;
 mod segments;
+mod titles;
 mod traces;
 mod values;

@@ -1,7 +1,6 @@
 //! Coupled connections at 1-0-2, the first relay of a plan.
 ghost use Rattle.sccp_message.specs.Reads.{Reads};
 
-use super::routes::marking;
 use plan_model::Plan;
 use plan_text::read;
 use sccp_base::{List, Marking, OutOfMemory, PointCode};
@@ -11,25 +10,12 @@ use sccp_message::{Message, decode};
 use std::alloc::Global;
 use std::test::Fail;
 
-/// A relay with a row for each way of a request.
+/// A relay that sends requests for titles of 49 to 2-0-1.
 const COUPLING: &str = r#"version = 2
 [[node]]
 name = "a"
 point = "1-0-2"
-subsystems = [6, 8]
-row = [
-    { selector = "4:0:1:4", prefix = "49", targets = [{ final = "2-0-1", ssn = 6 }] },
-    { selector = "4:0:1:4", prefix = "50", targets = [{ final = "1-0-2", ssn = 8 }] },
-    { selector = "4:0:1:4", prefix = "51", targets = [{ final = "1-0-2", ssn = 9 }] },
-    { selector = "4:0:1:4", prefix = "52", targets = [{ relay = "b", put = "000000000000000" }] },
-    { selector = "4:0:1:4", prefix = "53", targets = [{ relay = "b", strip = 2, put = "0", selector = "4:0:1:3" }] },
-    { selector = "4:0:1:4", prefix = "54", targets = [{ final = "2-0-2", ssn = 6 }] },
-    { selector = "4:0:1:4", prefix = "55", targets = [{ final = "2-0-3", ssn = 6 }] },
-    { selector = "4:0:1:4", prefix = "56", targets = [{ final = "2-0-4", ssn = 6 }] },
-]
-[[node]]
-name = "b"
-point = "1-0-3"
+row = [{ selector = "4:0:1:4", prefix = "49", targets = [{ final = "2-0-1", ssn = 6 }] }]
 [[cover]]
 node = "a"
 selector = "4:0:1:4"
@@ -46,8 +32,6 @@ type Line = (&'static str, &'static str, &'static str, usize);
 fn point_name(point: PointCode) -> &'static str {
     match point.value() {
         2049 => "1-0-1",
-        2051 => "1-0-3",
-        2052 => "1-0-4",
         4097 => "2-0-1",
         _ => "another point",
     }
@@ -147,10 +131,10 @@ fn first_wrong(
     Ok(None)
 }
 
-/// The same from no sections on, where the relay holds these marks.
-fn wrong_line(alloc: Global, held: &str, lines: &[Line]) -> Result<Option<usize>, Fail> {
+/// The same from no sections on.
+fn wrong_line(alloc: Global, lines: &[Line]) -> Result<Option<usize>, Fail> {
     let plan = read(alloc, COUPLING.as_bytes())?;
-    let marking = marking(alloc, held)?;
+    let marking = Marking::new(alloc);
     let mut exchange = Exchange::new(alloc, 0);
     first_wrong(alloc, &plan, &marking, &mut exchange, lines)
 }
@@ -180,294 +164,7 @@ fn a_connection_is_made_used_and_released(rt: HostRuntime) -> Result<(), Fail> {
         ("2-0-1", "020900003300000200", "2-0-1 0F33000000", 1),
         ("2-0-1", "05020000220000", "", 0),
     ];
-    assert_eq!(rt; wrong_line(rt.alloc(), "", &lines)?, None);
-    Ok(())
-}
-
-/// A request goes to a destination or to another relay, with the first hop counter one less, where 15 is the most; one that
-/// came before isn't answered.
-#[test]
-fn requests_go_on(rt: HostRuntime) -> Result<(), Fail> {
-    let lines: [Line; 5] = [
-        (
-            "1-0-1",
-            "0111000002020D0B12060012049471010000210F02AABB11010F12010500",
-            "2-0-1 0102000002020D0B52060012049471010000210F02AABB11010E12010500",
-            2,
-        ),
-        (
-            "1-0-1",
-            "0111000002020D0B12060012049471010000210F02AABB11010F12010500",
-            "",
-            2,
-        ),
-        (
-            "1-0-4",
-            "0111000082020C0A1000120494710100002111018011010700",
-            "2-0-1 0104000082020D0B520600120494710100002111010E11010700",
-            4,
-        ),
-        (
-            "1-0-1",
-            "011200000202000D93070809001204947101000021",
-            "2-0-1 010600000202000BD206001204947101000021",
-            6,
-        ),
-        (
-            "1-0-1",
-            "01130000020209071206001104350111010200",
-            "1-0-3 010800000202080612060012031011010100",
-            8,
-        ),
-    ];
-    assert_eq!(rt; wrong_line(rt.alloc(), "", &lines)?, None);
-    Ok(())
-}
-
-#[test]
-fn confirmations_go_on(rt: HostRuntime) -> Result<(), Fail> {
-    let lines: [Line; 8] = [
-        (
-            "1-0-1",
-            "011100000202000B1206001204947101000021",
-            "2-0-1 010200000202000B5206001204947101000021",
-            2,
-        ),
-        ("2-0-1", "020100002200000200", "2-0-1 0F22000000", 2),
-        ("1-0-1", "020200002200000200", "1-0-1 0F22000000", 2),
-        ("1-0-1", "020100001200000200", "1-0-1 0F12000001", 2),
-        ("1-0-1", "020100001100000200", "", 2),
-        (
-            "2-0-1",
-            "0202000022000012010F02AABB12010500",
-            "1-0-1 0211000001000012010F02AABB12010500",
-            2,
-        ),
-        ("2-0-1", "020200002200000200", "", 2),
-        ("2-0-1", "020200002300000200", "2-0-1 0F23000001", 2),
-    ];
-    assert_eq!(rt; wrong_line(rt.alloc(), "", &lines)?, None);
-    Ok(())
-}
-
-#[test]
-fn refusals_go_on(rt: HostRuntime) -> Result<(), Fail> {
-    let lines: [Line; 7] = [
-        (
-            "1-0-1",
-            "011100000202000B1206001204947101000021",
-            "2-0-1 010200000202000B5206001204947101000021",
-            2,
-        ),
-        ("2-0-1", "030300000400", "", 2),
-        ("1-0-1", "030100000400", "", 2),
-        (
-            "2-0-1",
-            "0302000004010F02AABB12010500",
-            "1-0-1 0311000004010F02AABB12010500",
-            0,
-        ),
-        (
-            "1-0-1",
-            "011100000202000B1206001204947101000021",
-            "2-0-1 010200000202000B5206001204947101000021",
-            2,
-        ),
-        ("2-0-1", "020200002200000200", "1-0-1 021100000100000200", 2),
-        ("2-0-1", "030200000400", "", 2),
-    ];
-    assert_eq!(rt; wrong_line(rt.alloc(), "", &lines)?, None);
-    Ok(())
-}
-
-#[test]
-fn data_go_on_where_both_sides_have_a_remote(rt: HostRuntime) -> Result<(), Fail> {
-    let lines: [Line; 8] = [
-        (
-            "1-0-1",
-            "011100000202000B1206001204947101000021",
-            "2-0-1 010200000202000B5206001204947101000021",
-            2,
-        ),
-        ("1-0-1", "0601000000010101", "", 2),
-        ("2-0-1", "020200002200000200", "1-0-1 021100000100000200", 2),
-        ("1-0-1", "06010000010100", "2-0-1 06220000010100", 2),
-        ("2-0-1", "060200000101024142", "1-0-1 061100000101024142", 2),
-        ("2-0-1", "0601000000010101", "", 2),
-        ("1-0-1", "0602000000010101", "", 2),
-        ("1-0-1", "0603000000010101", "", 2),
-    ];
-    assert_eq!(rt; wrong_line(rt.alloc(), "", &lines)?, None);
-    Ok(())
-}
-
-#[test]
-fn releases_are_completed_and_go_on(rt: HostRuntime) -> Result<(), Fail> {
-    let lines: [Line; 12] = [
-        ("1-0-1", "040100001100000000", "1-0-1 05110000010000", 0),
-        (
-            "1-0-1",
-            "011100000202000B1206001204947101000021",
-            "2-0-1 010200000202000B5206001204947101000021",
-            2,
-        ),
-        ("2-0-1", "040200002200000000", "2-0-1 0F22000001", 2),
-        ("1-0-1", "040100001200000000", "1-0-1 0F12000001", 2),
-        ("1-0-1", "040100001100000000", "1-0-1 05110000010000", 0),
-        (
-            "1-0-1",
-            "011100000202000B1206001204947101000021",
-            "2-0-1 010200000202000B5206001204947101000021",
-            2,
-        ),
-        ("2-0-1", "020200002200000200", "1-0-1 021100000100000200", 2),
-        (
-            "2-0-1",
-            "040200002200000F010F02AABB12010500",
-            "2-0-1 05220000020000 1-0-1 041100000100000F010F02AABB12010500",
-            1,
-        ),
-        ("1-0-1", "0601000000010101", "", 1),
-        ("1-0-1", "05010000120000", "", 1),
-        ("2-0-1", "05010000110000", "", 1),
-        ("1-0-1", "05010000110000", "", 0),
-    ];
-    assert_eq!(rt; wrong_line(rt.alloc(), "", &lines)?, None);
-    Ok(())
-}
-
-#[test]
-fn a_released_section_waits_for_its_end(rt: HostRuntime) -> Result<(), Fail> {
-    let lines: [Line; 7] = [
-        (
-            "1-0-1",
-            "011100000202000B1206001204947101000021",
-            "2-0-1 010200000202000B5206001204947101000021",
-            2,
-        ),
-        ("2-0-1", "020200002200000200", "1-0-1 021100000100000200", 2),
-        ("2-0-1", "05020000220000", "", 2),
-        (
-            "1-0-1",
-            "040100001100000000",
-            "1-0-1 05110000010000 2-0-1 042200000200000000",
-            1,
-        ),
-        ("2-0-1", "040200002300000000", "2-0-1 0F23000001", 1),
-        ("2-0-1", "020200002200000200", "", 1),
-        ("2-0-1", "040200002200000000", "2-0-1 05220000020000", 0),
-    ];
-    assert_eq!(rt; wrong_line(rt.alloc(), "", &lines)?, None);
-    Ok(())
-}
-
-#[test]
-fn other_types_change_nothing(rt: HostRuntime) -> Result<(), Fail> {
-    let lines: [Line; 10] = [
-        (
-            "1-0-1",
-            "011100000202000B1206001204947101000021",
-            "2-0-1 010200000202000B5206001204947101000021",
-            2,
-        ),
-        ("2-0-1", "020200002200000200", "1-0-1 021100000100000200", 2),
-        ("1-0-1", "070100000204010141", "", 2),
-        ("1-0-1", "080100000403", "", 2),
-        ("1-0-1", "0B010000010141", "", 2),
-        ("1-0-1", "0C010000", "", 2),
-        ("1-0-1", "0D01000011000000", "", 2),
-        ("1-0-1", "0E010000110000", "", 2),
-        ("1-0-1", "0F01000000", "", 2),
-        ("1-0-1", "1001000011000002020403", "", 2),
-    ];
-    assert_eq!(rt; wrong_line(rt.alloc(), "", &lines)?, None);
-    Ok(())
-}
-
-/// Each refusal cause by its first test that fails: the class, the subsystem number, the hop counter, the title.
-#[test]
-fn requests_are_refused(rt: HostRuntime) -> Result<(), Fail> {
-    let lines: [Line; 17] = [
-        (
-            "1-0-1",
-            "011100000302000B1206001204947101000021",
-            "1-0-1 031100000600",
-            0,
-        ),
-        (
-            "1-0-1",
-            "011100000102000B1206001204947101000021",
-            "1-0-1 031100000600",
-            0,
-        ),
-        ("1-0-1", "01110000020200024209", "1-0-1 031100001300", 0),
-        ("1-0-1", "011100000202000140", "1-0-1 031100001300", 0),
-        ("1-0-1", "01110000020200024208", "1-0-1 031100000600", 0),
-        ("1-0-1", "01110000020200024206", "1-0-1 031100000A00", 0),
-        (
-            "1-0-1",
-            "0111000002020D0B120600120494710100002111010100",
-            "1-0-1 031100001000",
-            0,
-        ),
-        (
-            "1-0-1",
-            "0111000002020D0B120600120494710100002111010000",
-            "1-0-1 031100001000",
-            0,
-        ),
-        ("1-0-1", "01110000020200020206", "1-0-1 031100001200", 0),
-        (
-            "1-0-1",
-            "011100000202000B1206001203947101000021",
-            "1-0-1 031100001200",
-            0,
-        ),
-        (
-            "1-0-1",
-            "011100000202000712060011048401",
-            "1-0-1 031100000400",
-            0,
-        ),
-        (
-            "1-0-1",
-            "011100000202000712060011041501",
-            "1-0-1 031100001300",
-            0,
-        ),
-        (
-            "1-0-1",
-            "011100000202000F120600120425436587092143658709",
-            "1-0-1 031100001100",
-            0,
-        ),
-        (
-            "1-0-1",
-            "011100000202000712060011040501",
-            "1-0-1 031100000600",
-            0,
-        ),
-        (
-            "1-0-1",
-            "011100000202000712060011044501",
-            "1-0-1 031100000500",
-            0,
-        ),
-        (
-            "1-0-1",
-            "011100000202000712060011045501",
-            "1-0-1 031100000500",
-            0,
-        ),
-        (
-            "1-0-1",
-            "011100000202000712060011046501",
-            "1-0-1 031100000A00",
-            0,
-        ),
-    ];
-    let held = "point:2-0-2,sccp:2-0-3,subsystem:1-0-2/6,subsystem:2-0-4/6";
-    assert_eq!(rt; wrong_line(rt.alloc(), held, &lines)?, None);
+    assert_eq!(rt; wrong_line(rt.alloc(), &lines)?, None);
     Ok(())
 }
 
@@ -493,7 +190,7 @@ fn request_all(
 /// The first wrong line after 2,047 requests.
 fn wrong_line_then(alloc: Global, lines: &[Line]) -> Result<Option<usize>, Fail> {
     let plan = read(alloc, COUPLING.as_bytes())?;
-    let marking = marking(alloc, "")?;
+    let marking = Marking::new(alloc);
     let mut exchange = Exchange::new(alloc, 0);
     request_all(alloc, &plan, &marking, &mut exchange, 2047)?;
     first_wrong(alloc, &plan, &marking, &mut exchange, lines)
