@@ -1,14 +1,14 @@
 use sccp_base::{List, Octets, PointCode};
 
 /// What a DT1 carries: the M bit and the data.
-#[derive(Debug, Drop)]
+#[derive(Drop)]
 pub struct Piece {
     pub more: bool,
     pub payload: Octets,
 }
 
 /// A connection over several relays, from an end's point and the reference that it gave.
-#[derive(Debug, Drop)]
+#[derive(Drop)]
 pub struct Line {
     /// The places of the relays in the plan, in order.
     pub path: List<u8>,

@@ -8,7 +8,7 @@ use std::alloc::Global;
 
 /// The way from one point to another: all messages that were put on it, as octets, oldest first, and how many of them it has
 /// delivered.
-#[derive(Debug, Drop)]
+#[derive(Drop)]
 pub(crate) struct Link {
     pub(crate) from: PointCode,
     pub(crate) to: PointCode,

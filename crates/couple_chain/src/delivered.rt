@@ -1,7 +1,7 @@
 use sccp_message::Message;
 
 /// What a link's delivery comes to.
-#[derive(Debug, Drop)]
+#[derive(Drop)]
 pub enum Delivered {
     /// The link holds no message.
     Nothing,

@@ -2,7 +2,7 @@ use sccp_base::PointCode;
 use sccp_message::Message;
 
 /// What happens in a world: an end puts a message on its link to a relay, or a link delivers its oldest message.
-#[derive(Debug, Drop)]
+#[derive(Drop)]
 pub enum Happening {
     Offers {
         from: PointCode,

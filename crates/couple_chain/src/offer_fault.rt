@@ -5,7 +5,7 @@ use sccp_base::OutOfMemory;
 use thiserror::Error;
 
 /// Why an offer is refused, in the order of testing.
-#[derive(Clone, Copy, Debug, PartialEq, Eq, Error)]
+#[derive(Clone, Copy, Debug, Error)]
 pub enum OfferFault {
     /// The point that the message comes from is a relay's.
     #[error("the message comes from a relay")]

@@ -1,7 +1,7 @@
 use sccp_base::{Octets, Reference};
 
 /// Data (DT1) that were known to a section while it was established: the section's own reference, the M bit and the data.
-#[derive(Debug, Drop)]
+#[derive(Drop)]
 pub struct Passed {
     pub own: Reference,
     pub more: bool,

@@ -6,7 +6,7 @@ use sccp_message::EncodeFault;
 use std::alloc::{AllocError, AllocFailed};
 
 /// Why a message isn't sent on in segments: the first of these that holds.
-#[derive(Clone, Copy, Debug, PartialEq, Eq)]
+#[derive(Clone, Copy, Debug)]
 pub enum LongFault {
     /// The octets don't read as an LUDT.
     NotLong,

@@ -10,7 +10,7 @@ use std::marker::Model;
 pub const MOST_PARAMETERS: u16 = 1024;
 
 /// A DATA message: its parameters in their order, at most 1,024, which contracts see as that list.
-#[derive(Debug, Drop)]
+#[derive(Drop)]
 pub struct Data {
     params: List<Tagged>,
 }

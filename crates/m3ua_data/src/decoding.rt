@@ -16,7 +16,7 @@ use sccp_base::{List as Params, Octets};
 use std::alloc::Global;
 
 /// A parameter as it stands in a message.
-#[derive(Clone, Copy, Debug)]
+#[derive(Clone, Copy)]
 pub struct Standing<'a> {
     pub tag: u16,
     pub octets: &'a [u8],

@@ -7,7 +7,7 @@ use std::alloc::AllocError;
 use thiserror::Error;
 
 /// Why octets are no DATA message: the first test that fails, in this order. Parameters are counted from 0.
-#[derive(Clone, Copy, Debug, PartialEq, Eq, Error)]
+#[derive(Clone, Copy, Debug, Error)]
 pub enum DataFault {
     /// There are fewer than 8 octets.
     #[error("short")]

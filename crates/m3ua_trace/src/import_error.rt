@@ -7,7 +7,7 @@ use std::alloc::AllocError;
 use trace_text::LineFault;
 
 /// Why a file doesn't become a trace.
-#[derive(Clone, Copy, Debug, PartialEq, Eq)]
+#[derive(Clone, Copy, Debug)]
 pub enum ImportError {
     Memory,
     /// The first line that is no word of hexadecimal digits or breaks a limit of lines.

@@ -4,7 +4,7 @@ use crate::fate::Fate;
 
 /// How many messages were sent, how many of them ended at a destination and how many came back, and how many translations
 /// were made on their ways. The ways of service messages don't count.
-#[derive(Debug, Drop)]
+#[derive(Drop)]
 pub struct Counts {
     pub messages: usize,
     pub ended: usize,

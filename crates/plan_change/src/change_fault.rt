@@ -1,7 +1,7 @@
 use sccp_base::OutOfMemory;
 
 /// Why two plans weren't compared.
-#[derive(Clone, Copy, Debug, PartialEq, Eq)]
+#[derive(Clone, Copy, Debug)]
 pub enum ChangeFault {
     /// Names, point codes, subsystems or concerned points, in order, aren't the same.
     OtherNodes,

@@ -2,7 +2,7 @@ use crate::class::Class;
 use sccp_base::PointCode;
 
 /// Where a target leads the titles of a class (Q.714 section 2).
-#[derive(Clone, Copy, Debug, PartialEq, Eq)]
+#[derive(Clone, Copy)]
 pub enum Image {
     /// They go on to another relay, as exactly these titles.
     Next(Class),

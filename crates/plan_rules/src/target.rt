@@ -3,7 +3,7 @@ ghost use Rattle.std.specs.Prelude.{◌≡◌, IsTrue, ◌↔◌, ◌≤◌, len
 use sccp_base::{Digits, PointCode, Selector};
 
 /// Where a translation leads (Q.714 section 2).
-#[derive(Clone, Copy, Debug, PartialEq, Eq)]
+#[derive(Clone, Copy)]
 pub enum Target {
     /// To another relay, with the first `strip` digits taken off and `put` in front of the rest. An absent selector or
     /// subsystem number keeps the message's.

@@ -4,7 +4,7 @@ use sccp_scrc::Way;
 
 /// A service message on its way back. One that goes by title has a journey of its own, which begins at the node that returns
 /// the message; another one has an empty path and no end.
-#[derive(Debug, Drop)]
+#[derive(Drop)]
 pub struct Back {
     pub octets: Octets,
     pub way: Way,

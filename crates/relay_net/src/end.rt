@@ -2,7 +2,7 @@ use sccp_base::{List, Mark, Octets, PointCode};
 use sccp_message::{DecodeFault, Message};
 
 /// How a journey ends, at the last node of its path.
-#[derive(Debug, Drop)]
+#[derive(Drop)]
 pub enum End {
     /// The message goes to its destination, at another point.
     Ended {

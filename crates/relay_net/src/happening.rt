@@ -3,7 +3,7 @@ use sccp_manage::Event;
 use sccp_message::Message;
 
 /// What happens at a node.
-#[derive(Debug, Drop)]
+#[derive(Drop)]
 pub enum Happening {
     /// Its management is told something (Q.714 section 5).
     Managed(Event),

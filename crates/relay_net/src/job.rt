@@ -2,7 +2,7 @@ use sccp_base::{Octets, PointCode};
 
 /// A message that is to be routed, with its place among those of its batch: the node that it comes to, the point that it
 /// comes from, and its octets.
-#[derive(Debug, Drop)]
+#[derive(Drop)]
 pub struct Job {
     pub index: u32,
     pub entry: u8,

@@ -2,7 +2,7 @@ use sccp_manage::Sent;
 use sccp_segment::Taken;
 
 /// What comes of what happens at a node.
-#[derive(Debug, Drop)]
+#[derive(Drop)]
 pub enum Outcome {
     /// A message is to be sent.
     Sent(Sent),

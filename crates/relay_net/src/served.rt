@@ -1,7 +1,7 @@
 use crate::travelled::Journey;
 
 /// A message that was routed, with the number of the plan under which it was.
-#[derive(Debug, Drop)]
+#[derive(Drop)]
 pub struct Served {
     pub number: u32,
     pub journey: Journey,

@@ -4,7 +4,7 @@ use sccp_base::List;
 
 /// The nodes that a message comes to, in order, with its end at the last of them and, where it is returned, the service
 /// message.
-#[derive(Debug, Drop)]
+#[derive(Drop)]
 pub struct Journey {
     pub path: List<u8>,
     pub end: End,

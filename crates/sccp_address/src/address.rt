@@ -5,7 +5,7 @@ ghost use Rattle.sccp_address.specs.Addresses.{selector_in, digits_in};
 use sccp_base::{Digits, Octets, PointCode, Selector};
 
 /// A called or calling address (Q.713 sections 3.4 and 3.5).
-#[derive(Debug, Drop)]
+#[derive(Drop)]
 pub struct Address {
     /// Bit 8 of the indicator, which is reserved for national use.
     pub national: bool,
@@ -19,7 +19,7 @@ pub struct Address {
 }
 
 /// A global title (Q.713 section 3.4.2.3).
-#[derive(Debug, Drop)]
+#[derive(Drop)]
 pub enum Title {
     Absent,
     /// A title whose digits are binary coded decimal; of kind 2 their number is even.

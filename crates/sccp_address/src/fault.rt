@@ -6,7 +6,7 @@ use std::alloc::AllocError;
 use thiserror::Error;
 
 /// Why octets aren't an address: the first fault from left to right.
-#[derive(Clone, Copy, Debug, PartialEq, Eq, Error)]
+#[derive(Clone, Copy, Debug, Error)]
 pub enum AddressFault {
     /// There is no octet, so no indicator (Q.713 section 3.4.1).
     #[error("empty")]

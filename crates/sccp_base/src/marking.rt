@@ -9,7 +9,7 @@ use std::alloc::Global;
 use std::marker::Model;
 
 /// The set of prohibited marks, which contracts see as their ascending list (Q.714 section 5).
-#[derive(Debug, Drop)]
+#[derive(Drop)]
 pub struct Marking {
     marks: Vec<Mark>,
 }

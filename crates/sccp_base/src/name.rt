@@ -6,7 +6,7 @@ use std::marker::Model;
 
 /// The name of a node: 1 to 16 octets, each an ASCII letter, a digit, `_` or `-`. Contracts see it as the list of its
 /// octets. It stands in a fixed array, so it is copied without memory.
-#[derive(Clone, Copy, Debug, PartialEq, Eq)]
+#[derive(Clone, Copy)]
 pub struct Name {
     octets: [u8; 16],
     len: u8,

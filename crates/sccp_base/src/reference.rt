@@ -4,7 +4,7 @@ ghost use Rattle.std.specs.Option.{SomeIff};
 use std::marker::Model;
 
 /// The 24 bits of a local reference.
-#[derive(Clone, Copy, Debug, PartialEq, Eq, PartialOrd, Ord)]
+#[derive(Clone, Copy, PartialEq, Eq)]
 pub struct Reference {
     value: u32,
 }

@@ -4,7 +4,7 @@ ghost use Rattle.std.specs.Option.{SomeIff};
 use std::marker::Model;
 
 /// Seven bits, as a sequence number has.
-#[derive(Clone, Copy, Debug, PartialEq, Eq, PartialOrd, Ord)]
+#[derive(Clone, Copy)]
 pub struct Seven {
     value: u8,
 }

@@ -1,7 +1,7 @@
 use sccp_base::{PointCode, Reference};
 
 /// A connection section: one end of a connection that the relay couples (Q.714 section 3).
-#[derive(Clone, Copy, Debug)]
+#[derive(Clone, Copy)]
 pub struct Section {
     /// The local reference that the relay gave it.
     pub own: Reference,

@@ -22,7 +22,7 @@ use sccp_scrc::{onward_address, spot};
 use std::alloc::Global;
 
 /// What a relay makes of a connection request, whatever sections there are (Q.714 sections 2 and 3).
-#[derive(Debug, Drop)]
+#[derive(Drop)]
 pub enum Way {
     /// It is refused, with this refusal cause (Q.713 section 3.15).
     Refused(u8),

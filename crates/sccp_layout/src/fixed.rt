@@ -1,7 +1,7 @@
 ghost use Rattle.std.specs.Prelude.{◌≡◌, ◌≤◌, ◌+◌, ◌↔◌, length, slice_range, IsSome, IfSome};
 
 /// So many octets, as a field of the fixed part has (Q.713 section 1).
-#[derive(Clone, Copy, Debug)]
+#[derive(Clone, Copy)]
 pub struct Fixed<const N: usize> {
     pub octets: [u8; N],
 }

@@ -6,7 +6,7 @@ use sccp_base::Octets;
 use std::marker::Model;
 
 /// An optional parameter: its name, which isn't 0, and its contents (Q.713 section 3).
-#[derive(Debug, Drop)]
+#[derive(Drop)]
 pub struct Param {
     name: u8,
     octets: Octets,

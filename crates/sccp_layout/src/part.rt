@@ -1,7 +1,7 @@
 use std::marker::Model;
 
 /// Octets of a message where they stand: its fixed part, or the contents of a variable one (Q.713 section 1).
-#[derive(Debug, Drop)]
+#[derive(Drop)]
 pub struct Part<'a> {
     octets: &'a [u8],
 }

@@ -10,7 +10,7 @@ use thiserror::Error;
 
 /// The parts of a message (Q.713 section 1). The fixed part and the variable ones are lent where they stand, the optional
 /// parameters are copies.
-#[derive(Debug, Drop)]
+#[derive(Drop)]
 pub struct Parts<'a> {
     /// The type of the message.
     pub code: u8,
@@ -23,7 +23,7 @@ pub struct Parts<'a> {
 }
 
 /// Why a message isn't taken apart: the first test that fails, in this order. Parts and pointers are counted from 0.
-#[derive(Clone, Copy, Debug, PartialEq, Eq, Error)]
+#[derive(Clone, Copy, Debug, Error)]
 pub enum SplitFault {
     /// No type of message has the first octet as its code.
     #[error("unknown type")]
@@ -70,7 +70,7 @@ impl<T: Drop> From<AllocFailed<T>> for SplitFault {
 }
 
 /// Why parts can't be written as a message: the first of these. Parts and pointers are counted from 0.
-#[derive(Clone, Copy, Debug, PartialEq, Eq, Error)]
+#[derive(Clone, Copy, Debug, Error)]
 pub enum JoinFault {
     /// A part is longer than its length field can say; the optional parameters count as the part behind the variable ones.
     #[error("too long {0}")]

@@ -2,7 +2,7 @@ use sccp_base::{Octets, PointCode};
 
 /// What SCCP management at a node is told (Q.714 section 5): by other nodes, by the MTP, by the node's own subsystems, and
 /// by its clock.
-#[derive(Debug, Drop)]
+#[derive(Drop)]
 pub enum Event {
     /// The data of a connectionless message for SCCP management, and the point that it came from.
     Status { from: PointCode, payload: Octets },

@@ -9,7 +9,7 @@ use sccp_base::{List, Mark, Marking, Octets, OutOfMemory, PointCode};
 use std::alloc::Global;
 
 /// A message that is to be sent, and the point that it goes to.
-#[derive(Debug, Drop)]
+#[derive(Drop)]
 pub struct Sent {
     pub to: PointCode,
     pub octets: Octets,

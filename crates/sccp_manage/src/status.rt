@@ -8,7 +8,7 @@ use sccp_message::{EncodeFault, Message, encode};
 use std::alloc::Global;
 
 /// The kinds of status message (Q.713 section 5), in the order of their numbers, which go from 1 to 6.
-#[derive(Clone, Copy, Debug, PartialEq, Eq)]
+#[derive(Clone, Copy)]
 pub enum StatusKind {
     /// Subsystem allowed, SSA.
     Allowed,
@@ -25,7 +25,7 @@ pub enum StatusKind {
 }
 
 /// What a message of SCCP management says of a subsystem at a point (Q.713 section 5).
-#[derive(Clone, Copy, Debug)]
+#[derive(Clone, Copy)]
 pub struct StatusMessage {
     pub kind: StatusKind,
     /// The affected subsystem number; 1 is management itself and stands for the SCCP there.

@@ -3,7 +3,7 @@ ghost use Rattle.std.specs.Option.{option_copied};
 ghost use Rattle.sccp_message.specs.Causes.{text_of};
 
 /// Which causes a number names: return causes, refusal causes or error causes (Q.713 sections 3.12, 3.15 and 3.14).
-#[derive(Clone, Copy, Debug, PartialEq, Eq)]
+#[derive(Clone, Copy)]
 pub enum CauseTable {
     Return,
     Refusal,

@@ -8,7 +8,7 @@ use std::alloc::AllocError;
 use thiserror::Error;
 
 /// Why octets are no message: the first test that fails, in this order. A fault that is carried is never want of memory.
-#[derive(Clone, Copy, Debug, PartialEq, Eq, Error)]
+#[derive(Clone, Copy, Debug, Error)]
 pub enum DecodeFault {
     /// The type, the length, a pointer, a variable part or the optional part.
     #[error("{0}")]

@@ -1,7 +1,6 @@
 use sccp_address::Address;
 use sccp_base::{List, Octets, Reference, Seven};
 use sccp_layout::Param;
-use std::fmt;
 
 /// A message of SCCP, one variant for each type (Q.713 section 4).
 ///
@@ -148,11 +147,4 @@ pub enum Message {
         payload: Octets,
         params: List<Param>,
     },
-}
-
-// The name alone: what a message says is printed by its own text, and a derived impl is dear to prove.
-impl fmt::Debug for Message {
-    fn fmt<W: fmt::Write>(&self, f: &mut fmt::Formatter<W>) -> fmt::Result {
-        f.write_str("Message")
-    }
 }

@@ -17,14 +17,14 @@ use std::alloc::Global;
 use trace_text::Line;
 
 /// What is to happen at the node at a place of the plan.
-#[derive(Debug, Drop)]
+#[derive(Drop)]
 pub struct Due {
     pub node: u8,
     pub what: Happening,
 }
 
 /// What a line of a trace is to a replay.
-#[derive(Debug, Drop)]
+#[derive(Drop)]
 pub enum Role {
     /// A connectionless message that is to be routed: the node that it comes to, the point that it comes from, its octets.
     Routed {

@@ -3,7 +3,7 @@ use sccp_base::{List, Mark, Octets, PointCode};
 use sccp_message::{DecodeFault, Message};
 
 /// What becomes of a message at a relay (Q.714 section 2).
-#[derive(Debug, Drop)]
+#[derive(Drop)]
 pub enum Arrival {
     /// It goes on to the relay with this point code.
     Relayed {

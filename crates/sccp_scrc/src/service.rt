@@ -2,7 +2,7 @@ use crate::way::Way;
 use sccp_base::Octets;
 
 /// A service message: the message that comes back, with the return cause in place of the protocol class (Q.714 section 4.2).
-#[derive(Debug, Drop)]
+#[derive(Drop)]
 pub struct Service {
     pub octets: Octets,
     pub way: Way,

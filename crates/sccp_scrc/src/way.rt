@@ -1,7 +1,7 @@
 use sccp_base::{Mark, PointCode};
 
 /// How a service message goes back (Q.714 section 4.2).
-#[derive(Clone, Copy, Debug, PartialEq, Eq)]
+#[derive(Clone, Copy)]
 pub enum Way {
     /// To this point: that of the calling address, or the one that the message came from.
     Direct(PointCode),

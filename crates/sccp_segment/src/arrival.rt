@@ -16,7 +16,7 @@ use std::alloc::Global;
 const SEGMENTATION: u8 = 0x10;
 
 /// A segment, and the key of its message.
-#[derive(Debug, Drop)]
+#[derive(Drop)]
 pub struct Arrival {
     pub key: Key,
     pub segment: Segment,

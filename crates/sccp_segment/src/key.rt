@@ -6,7 +6,7 @@ use sccp_base::{PointCode, Reference};
 
 /// What the segments of one message have in common, and no others that are under way (Q.714 section 4.1): the calling
 /// address, compared as a value, and the segmentation local reference.
-#[derive(Debug, Drop)]
+#[derive(Drop)]
 pub struct Key {
     pub calling: Address,
     pub reference: Reference,

@@ -5,7 +5,7 @@ use sccp_base::OutOfMemory;
 use std::alloc::{AllocError, AllocFailed};
 
 /// Why a pool refuses a segment. It is then as it was.
-#[derive(Clone, Copy, Debug, PartialEq, Eq)]
+#[derive(Clone, Copy, Debug)]
 pub enum PoolFault {
     /// The segment would start a message while 64 others are under way.
     Full,

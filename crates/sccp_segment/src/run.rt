@@ -2,7 +2,7 @@ use crate::key::Key;
 use sccp_base::Octets;
 
 // What has come of one message that is under way.
-#[derive(Debug, Drop)]
+#[derive(Drop)]
 pub struct Run {
     pub key: Key,
     // The number of segments behind the last one that came.

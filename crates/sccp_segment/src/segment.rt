@@ -1,7 +1,7 @@
 use sccp_base::{Octets, Reference};
 
 /// A segment of the data of a connectionless message (Q.713 section 3.17, Q.714 section 4.1).
-#[derive(Debug, Drop)]
+#[derive(Drop)]
 pub struct Segment {
     /// Whether it is the first one of its message.
     pub first: bool,

@@ -5,7 +5,7 @@ use sccp_base::OutOfMemory;
 use std::alloc::{AllocError, AllocFailed};
 
 /// Why data isn't cut into segments: the first of these that holds.
-#[derive(Clone, Copy, Debug, PartialEq, Eq)]
+#[derive(Clone, Copy, Debug)]
 pub enum SplitDataFault {
     /// Segments of 0 octets.
     ZeroSize,

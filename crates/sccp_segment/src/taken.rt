@@ -1,7 +1,7 @@
 use sccp_base::Octets;
 
 /// What a pool answers to a segment that it takes (Q.714 section 4.1).
-#[derive(Debug, Drop)]
+#[derive(Drop)]
 pub enum Taken {
     /// More segments are to come.
     More,
@@ -12,7 +12,7 @@ pub enum Taken {
 }
 
 /// Why a segment, or what had come of a message, was given up.
-#[derive(Clone, Copy, Debug, PartialEq, Eq)]
+#[derive(Clone, Copy)]
 pub enum Why {
     /// The segment isn't a first one, and no message of its key is under way: the segment was.
     NotFirst,

@@ -6,7 +6,7 @@ ghost use Rattle.sccp_tool.specs.Opened.{this, other};
 use sccp_io::{Files, IoFault};
 
 /// Which of the two files that may be open.
-#[derive(Clone, Copy, Debug, PartialEq, Eq)]
+#[derive(Clone, Copy)]
 pub enum Opened {
     /// The one that a command reads first of all.
     First,

@@ -1,7 +1,7 @@
 use sccp_base::{Octets, PointCode};
 
 /// A line of a batch that is settled.
-#[derive(Debug, Drop)]
+#[derive(Drop)]
 pub enum Settled {
     /// This is printed of it.
     Prints(Octets),

@@ -22,7 +22,7 @@ use std::alloc::{AllocError, Global};
 use trace_text::{LineFault, LineKind, content, first_line, is_file_name, octets_of};
 
 /// Why a line isn't shown.
-#[derive(Clone, Copy, Debug, PartialEq, Eq)]
+#[derive(Clone, Copy)]
 enum ShowError {
     Memory,
     Line(LineFault),

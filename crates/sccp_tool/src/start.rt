@@ -5,7 +5,7 @@ ghost use Rattle.sccp_tool.specs.Starts.{ssn_of, digits_word, title_digits, star
 use sccp_base::{Digits, Name, Selector, decimal};
 
 /// A title, and the name of the node where it is.
-#[derive(Clone, Copy, Debug)]
+#[derive(Clone, Copy)]
 pub struct Start {
     pub node: Name,
     pub selector: Selector,

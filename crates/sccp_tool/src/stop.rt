@@ -8,7 +8,7 @@ use sccp_base::OutOfMemory;
 use std::alloc::AllocError;
 
 /// What ends the work of a command before its end.
-#[derive(Clone, Copy, Debug, PartialEq, Eq)]
+#[derive(Clone, Copy)]
 pub enum Stop {
     /// The command has its answer already, and its text is written.
     Answered(Status),

@@ -1,7 +1,7 @@
 use sccp_base::{Name, Octets, PointCode};
 
 /// A line of a trace.
-#[derive(Debug, Drop)]
+#[derive(Drop)]
 pub enum Line {
     /// `msg NODE POINT HEX`: octets that come to the node from that point, where they are to be a message of SCCP.
     Msg {
@@ -30,7 +30,7 @@ pub enum Line {
 }
 
 /// A line and its number, from 1.
-#[derive(Debug, Drop)]
+#[derive(Drop)]
 pub struct Numbered {
     pub number: u32,
     pub line: Line,

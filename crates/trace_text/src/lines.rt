@@ -12,7 +12,7 @@ pub const MOST_LINES: u32 = 1_000_000;
 pub const LONGEST_LINE: usize = 8192;
 
 /// The first line of a text, without its line feed, whether a line feed ends it, and what follows.
-#[derive(Clone, Copy, Debug)]
+#[derive(Clone, Copy)]
 pub struct FirstLine<'a> {
     pub octets: &'a [u8],
     pub ended: bool,
