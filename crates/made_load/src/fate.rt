@@ -2,6 +2,7 @@ ghost use Rattle.std.specs.Prelude.{◌≡◌, length};
 ghost use Rattle.made_load.specs.Fates.{fate_of};
 
 use relay_net::{Back, End, Journey};
+use sccp_base::Boxed;
 use sccp_message::Message;
 
 /// How a journey ends, as far as it is counted.
@@ -16,7 +17,7 @@ pub(crate) enum Fate {
 }
 
 // What isn't counted goes out of scope in functions of their own: the drop of a message is spelled out type by type.
-fn uncounted(_message: Message) -> Fate
+fn uncounted(_message: Boxed<Message>) -> Fate
     ensures { result ≡ Fate.Other }
 {
     Fate::Other
@@ -43,14 +44,14 @@ fn forget_end(end: Option<End>) {
 }
 
 /// The way of a service message doesn't count.
-fn forget(back: Option<Back>) {
+fn forget(back: Option<Boxed<Back>>) {
     if let Some(back) = back {
         let Back {
             octets: _octets,
             way: _way,
             path: _path,
             end,
-        } = back;
+        } = back.into_inner();
         forget_end(end);
     }
 }

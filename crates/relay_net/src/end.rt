@@ -1,4 +1,4 @@
-use sccp_base::{List, Mark, Octets, PointCode};
+use sccp_base::{Boxed, List, Mark, Octets, PointCode};
 use sccp_message::{DecodeFault, Message};
 
 /// How a journey ends, at the last node of its path.
@@ -13,7 +13,7 @@ pub enum End {
     /// It is for a subsystem of the node.
     Local {
         ssn: u8,
-        message: Message,
+        message: Boxed<Message>,
     },
     /// It can't be delivered, for this return cause, with one mark for each closed target.
     Returned {
@@ -21,9 +21,9 @@ pub enum End {
         marks: List<Mark>,
     },
     /// It is of a connection-oriented type.
-    Connection(Message),
+    Connection(Boxed<Message>),
     /// It is for SCCP management.
-    Management(Message),
+    Management(Boxed<Message>),
     /// The octets are no message.
     Undecodable(DecodeFault),
     /// Without a hop counter it would need a fifteenth translation.

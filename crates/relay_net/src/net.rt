@@ -102,7 +102,7 @@ impl Net {
         match &journey.end {
             End::Local { message, .. } => {
                 let node = last_node(entry, journey.path.as_slice());
-                self.deliver(node, message)
+                self.deliver(node, message.get())
             }
             End::Returned { cause, .. } if *cause == 3 => self.knock(plan, entry, origin, octets),
             _ => Ok(List::new(self.alloc)),

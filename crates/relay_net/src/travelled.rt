@@ -1,6 +1,6 @@
 use crate::back::Back;
 use crate::end::End;
-use sccp_base::List;
+use sccp_base::{Boxed, List};
 
 /// The nodes that a message comes to, in order, with its end at the last of them and, where it is returned, the service
 /// message.
@@ -8,5 +8,5 @@ use sccp_base::List;
 pub struct Journey {
     pub path: List<u8>,
     pub end: End,
-    pub back: Option<Back>,
+    pub back: Option<Boxed<Back>>,
 }

@@ -14,7 +14,7 @@ use crate::riding::travel_unwritten;
 use crate::travelled::Journey;
 use plan_check::Accepted;
 use plan_model::Plan;
-use sccp_base::{List, Octets, OutOfMemory, PointCode};
+use sccp_base::{Boxed, List, Octets, OutOfMemory, PointCode};
 use sccp_message::{DecodeFault, Message, decode};
 use sccp_scrc::{Arrival, Service, Way, arrive};
 use std::alloc::Global;
@@ -150,33 +150,36 @@ fn trip<S: HoldsMarking>(
 }
 
 /// How a trip ends, and the service message.
-fn ended(last: Option<Arrival>) -> (End, Option<Service>)
-    ensures end { result.0 ≡ end_of last }
-    ensures service { result.1 ≡ service_in last }
+fn ended(alloc: Global, last: Option<Arrival>) -> Result<(End, Option<Service>), OutOfMemory>
+    ensures end { IfOk result (λ t. t.0 ≡ end_of last) }
+    ensures service { IfOk result (λ t. t.1 ≡ service_in last) }
 {
     match last {
-        Some(arrival) => at_end(arrival),
-        None => (End::Cut, None),
+        Some(arrival) => at_end(alloc, arrival),
+        None => Ok((End::Cut, None)),
     }
 }
 
-fn at_end(arrival: Arrival) -> (End, Option<Service>)
-    ensures end { result.0 ≡ end_at arrival }
-    ensures service { result.1 ≡ service_in (Some arrival) }
+fn at_end(alloc: Global, arrival: Arrival) -> Result<(End, Option<Service>), OutOfMemory>
+    ensures end { IfOk result (λ t. t.0 ≡ end_at arrival) }
+    ensures service { IfOk result (λ t. t.1 ≡ service_in (Some arrival)) }
 {
-    match arrival {
+    Ok(match arrival {
         Arrival::Relayed { .. } => (End::Cut, None),
         Arrival::Ended { pc, ssn, octets } => (End::Ended { pc, ssn, octets }, None),
-        Arrival::Local { ssn, message } => (End::Local { ssn, message }, None),
+        Arrival::Local { ssn, message } => {
+            let message = Boxed::new(alloc, message)?;
+            (End::Local { ssn, message }, None)
+        }
         Arrival::Returned {
             cause,
             marks,
             service,
         } => (End::Returned { cause, marks }, service),
-        Arrival::Connection(message) => (End::Connection(message), None),
-        Arrival::Management(message) => (End::Management(message), None),
+        Arrival::Connection(message) => (End::Connection(Boxed::new(alloc, message)?), None),
+        Arrival::Management(message) => (End::Management(Boxed::new(alloc, message)?), None),
         Arrival::Undecodable(fault) => (End::Undecodable(fault), None),
-    }
+    })
 }
 
 /// The service message on its way: one that goes by title arrives at the node that returns it, with that node as origin.
@@ -201,7 +204,7 @@ fn back_by<S: HoldsMarking>(
             point_of(plan, node),
             octets.as_slice(),
         )?;
-        let (end, _) = ended(last);
+        let (end, _) = ended(alloc, last)?;
         return Ok(Back {
             octets,
             way,
@@ -223,13 +226,16 @@ fn back<S: HoldsMarking>(
     states: &[S],
     node: u8,
     service: Option<Service>,
-) -> Result<Option<Back>, OutOfMemory>
+) -> Result<Option<Boxed<Back>>, OutOfMemory>
     requires node { node < length plan.now.nodes }
     requires states { length states.now ≡ length plan.now.nodes }
     ensures { IfOk result (λ b. b ≡ back_of plan.now (map S.held states.now) node service) }
 {
     match service {
-        Some(service) => Ok(Some(back_by(alloc, plan, states, node, service.octets, service.way)?)),
+        Some(service) => {
+            let back = back_by(alloc, plan, states, node, service.octets, service.way)?;
+            Ok(Some(Boxed::new(alloc, back)?))
+        }
         None => Ok(None),
     }
 }
@@ -260,7 +266,7 @@ fn whole<S: HoldsMarking>(
 {
     let (path, last) = trip(alloc, plan, states, entry, origin, octets)?;
     let node = last_node(path.as_slice());
-    let (end, service) = ended(last);
+    let (end, service) = ended(alloc, last)?;
     let back = back(alloc, plan, states, node, service)?;
     Ok(Journey { path, end, back })
 }

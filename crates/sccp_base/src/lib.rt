@@ -7,6 +7,7 @@
 //! readers of text accepting exactly their forms.
 #![tactic(auto)]
 
+mod boxed;
 mod digits;
 mod digits_fault;
 mod list;
@@ -21,6 +22,7 @@ mod selector;
 mod seven;
 mod text;
 
+pub use boxed::Boxed;
 pub use digits::Digits;
 pub use digits_fault::DigitsFault;
 pub use list::List;

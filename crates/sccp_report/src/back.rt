@@ -9,7 +9,7 @@ use crate::text::Text;
 use crate::values::put_point_code;
 use plan_model::Plan;
 use relay_net::{Back, End};
-use sccp_base::{OutOfMemory, PointCode};
+use sccp_base::{Boxed, OutOfMemory, PointCode};
 use sccp_scrc::Way;
 
 /// Appends that octets go to a subsystem at a point.
@@ -72,11 +72,12 @@ fn put_way(text: &mut Text, plan: &Plan, back: &Back) -> Result<(), OutOfMemory>
 
 /// Appends the service message (Q.714 section 4.2) and its way, or that there is none.
 #[tactic(auto, unfolding(crate::specs::Served::back_words))]
-pub fn put_back(text: &mut Text, plan: &Plan, back: &Option<Back>) -> Result<(), OutOfMemory>
+pub fn put_back(text: &mut Text, plan: &Plan, back: &Option<Boxed<Back>>) -> Result<(), OutOfMemory>
     ensures { OnOk result (text.new ≡ text.old ++ back_words plan.now back.now) }
 {
     match back {
         Some(back) => {
+            let back = back.get();
             text.put(b" service ")?;
             text.put_octets(back.octets.as_slice())?;
             put_way(text, plan, back)

@@ -11,7 +11,7 @@ use crate::sent::put_sent_lines;
 use crate::text::Text;
 use plan_model::Plan;
 use relay_net::{Back, End, Journey, Outcome, Served};
-use sccp_base::{List, Mark, Octets, OutOfMemory};
+use sccp_base::{Boxed, List, Mark, Octets, OutOfMemory};
 use sccp_message::Message;
 use std::alloc::Global;
 
@@ -48,7 +48,7 @@ fn put_returned(
     plan: &Plan,
     cause: u8,
     marks: &[Mark],
-    back: &Option<Back>,
+    back: &Option<Boxed<Back>>,
 ) -> Result<(), OutOfMemory>
     ensures { OnOk result (text.new ≡ text.old ++ returned_words plan.now cause marks.now back.now) }
 {
@@ -70,7 +70,7 @@ fn put_end(
 {
     match &journey.end {
         End::Ended { pc, ssn, octets } => put_ended(text, *pc, *ssn, octets.as_slice()),
-        End::Local { ssn, message } => put_local(text, *ssn, message, outcomes),
+        End::Local { ssn, message } => put_local(text, *ssn, message.get(), outcomes),
         End::Returned { cause, marks } => {
             put_returned(text, plan, *cause, marks.as_slice(), &journey.back)
         }
