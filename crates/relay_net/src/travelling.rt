@@ -160,26 +160,54 @@ fn ended(alloc: Global, last: Option<Arrival>) -> Result<(End, Option<Service>),
     }
 }
 
+// A message at an end, in memory of its own.
+fn boxed(alloc: Global, message: Message) -> Result<Boxed<Message>, OutOfMemory>
+    ensures { IfOk result (λ m. m ≡ message) }
+{
+    Boxed::new(alloc, message)
+}
+
+fn local(alloc: Global, ssn: u8, message: Message) -> Result<(End, Option<Service>), OutOfMemory>
+    ensures end { IfOk result (λ t. t.0 ≡ end_at (Arrival.Local ssn message)) }
+    ensures service { IfOk result (λ t. t.1 ≡ service_in (Some (Arrival.Local ssn message))) }
+{
+    let message = boxed(alloc, message)?;
+    Ok((End::Local { ssn, message }, None))
+}
+
+fn connection(alloc: Global, message: Message) -> Result<(End, Option<Service>), OutOfMemory>
+    ensures end { IfOk result (λ t. t.0 ≡ end_at (Arrival.Connection message)) }
+    ensures service { IfOk result (λ t. t.1 ≡ service_in (Some (Arrival.Connection message))) }
+{
+    let message = boxed(alloc, message)?;
+    Ok((End::Connection(message), None))
+}
+
+fn management(alloc: Global, message: Message) -> Result<(End, Option<Service>), OutOfMemory>
+    ensures end { IfOk result (λ t. t.0 ≡ end_at (Arrival.Management message)) }
+    ensures service { IfOk result (λ t. t.1 ≡ service_in (Some (Arrival.Management message))) }
+{
+    let message = boxed(alloc, message)?;
+    Ok((End::Management(message), None))
+}
+
 fn at_end(alloc: Global, arrival: Arrival) -> Result<(End, Option<Service>), OutOfMemory>
     ensures end { IfOk result (λ t. t.0 ≡ end_at arrival) }
     ensures service { IfOk result (λ t. t.1 ≡ service_in (Some arrival)) }
 {
-    Ok(match arrival {
-        Arrival::Relayed { .. } => (End::Cut, None),
-        Arrival::Ended { pc, ssn, octets } => (End::Ended { pc, ssn, octets }, None),
-        Arrival::Local { ssn, message } => {
-            let message = Boxed::new(alloc, message)?;
-            (End::Local { ssn, message }, None)
-        }
+    match arrival {
+        Arrival::Relayed { .. } => Ok((End::Cut, None)),
+        Arrival::Ended { pc, ssn, octets } => Ok((End::Ended { pc, ssn, octets }, None)),
+        Arrival::Local { ssn, message } => local(alloc, ssn, message),
         Arrival::Returned {
             cause,
             marks,
             service,
-        } => (End::Returned { cause, marks }, service),
-        Arrival::Connection(message) => (End::Connection(Boxed::new(alloc, message)?), None),
-        Arrival::Management(message) => (End::Management(Boxed::new(alloc, message)?), None),
-        Arrival::Undecodable(fault) => (End::Undecodable(fault), None),
-    })
+        } => Ok((End::Returned { cause, marks }, service)),
+        Arrival::Connection(message) => connection(alloc, message),
+        Arrival::Management(message) => management(alloc, message),
+        Arrival::Undecodable(fault) => Ok((End::Undecodable(fault), None)),
+    }
 }
 
 /// The service message on its way: one that goes by title arrives at the node that returns it, with that node as origin.
