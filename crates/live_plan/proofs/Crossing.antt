@@ -42,7 +42,7 @@ reader_send : IsSend (Reader.the_row Published Known ByBatch Global the_rule the
 reader_send = ReaderSent.the_send Published Known ByBatch Global the_rule the_global heap_send published_sync heap_sync (search (sendable, crosses))
 
 place_send : IsSend LivePlace
-place_send = let r = reader_send in search sendable depth 10
+place_send = let r = reader_send in search (accepted_send, accepted_sync, sendable, crosses) depth 20
 
 pub worker_send : IsSend (Worker.the_row LivePlace the_place)
 worker_send = WorkerSent.the_send LivePlace the_place place_send
@@ -53,7 +53,7 @@ writer_send = WriterSent.the_field_send Published Published Known ByBatch Global
 
 pub teller_send : IsSend Teller.the_row
 teller_send =
-    let all : AllSend (fields Teller.the_type) = (writer_send, (search sendable, (search sendable, tt))) in
+    let all : AllSend (fields Teller.the_type) = (writer_send, (search sendable, (search sendable, (search sendable, tt)))) in
     declared_send Teller.the_type all
 
 pub plans_send : IsSend (Deque Accepted Global the_global)

@@ -4,13 +4,13 @@ use Rattle.std.proofs.Math.Nat.{suc-mul}
 use Rattle.std.proofs.lemmas.Option.{slice_get_within}
 use Rattle.std.specs.Prelude.{IfSome}
 use Rattle.std.specs.Option.{ForSome}
-use Rattle.std.specs.Arc.{arc_value}
 use Rattle.plan_check.specs.Verified.{Verified}
 use Rattle.relay_net.specs.declared.job.Job.{Job}
 use Rattle.relay_net.specs.States.{State}
 use Rattle.relay_net.specs.declared.served.Served.{Served}
 use Rattle.live_plan.specs.declared.place.Place.{Ghosts}
 use Rattle.live_plan.specs.declared.worker.Worker.{Worker}
+use Rattle.live_plan.specs.Entries.{entry_plan}
 use Rattle.live_plan.specs.Plans.{Rose, HasPlan}
 use Rattle.live_plan.specs.Batches.{IsServed, IsShare, Lasts, GoesOn, Counted, KeepsAll}
 use Rattle.live_plan.proofs.Passed.{get_snoc}
@@ -26,14 +26,14 @@ follows_at (Some l) plans n n' seen p p' m same told has = subst (λ x. HasPlan 
 
 module _ {P : Type 0} {g : Ghosts P} where
   pub goes_on : (w w' : Worker P g) → w'.index ≡ w.index → g.nodes w'.place ≡ g.nodes w.place → g.plans w'.place ≡ g.plans w.place → (g.entries w.place ≤ g.entries w'.place) × (g.refusals w.place ≤ g.refusals w'.place)
-      → w.kept.number ≤ w'.kept.number → IfSome (g.plans w'.place) (λ l. (w'.kept.number ≡ g.seen w'.place) × HasPlan l w'.kept.number (arc_value w'.kept.plan)) → (g.plans w.place ≡ None → w'.kept ≡ w.kept) → GoesOn w w'
+      → w.kept.number ≤ w'.kept.number → IfSome (g.plans w'.place) (λ l. (w'.kept.number ≡ g.seen w'.place) × HasPlan l w'.kept.number (entry_plan w'.kept)) → (g.plans w.place ≡ None → w'.kept ≡ w.kept) → GoesOn w w'
   goes_on w w' index nodes plans counts rises told untold = record {
     lasts = λ n. record { index = index; nodes = nodes; entries = counts.0; refusals = counts.1; number = λ le. rises };
     rises = rises;
     follows = λ l f. record {
       told = subst (λ o. ForSome o (λ x. x ≡ l)) (sym plans) f.told;
-      has = follows_at (g.plans w'.place) l w.kept.number w'.kept.number (g.seen w'.place) (arc_value w.kept.plan) (arc_value w'.kept.plan) told
-          (λ none. let e = untold (sym plans ∙ none) in (ap (λ k. k.number) e, ap (λ k. arc_value k.plan) e))
+      has = follows_at (g.plans w'.place) l w.kept.number w'.kept.number (g.seen w'.place) (entry_plan w.kept) (entry_plan w'.kept) told
+          (λ none. let e = untold (sym plans ∙ none) in (ap (λ k. k.number) e, ap entry_plan e))
           (subst (λ o. ForSome o (λ x. x ≡ l)) (sym plans) f.told) f.has;
     };
   }

@@ -1,13 +1,13 @@
 -- What a batch of jobs leaves.
 use Rattle.std.specs.Prelude.{◌≡◌, ◌⊎◌, ℕ, ◌+◌, ◌*◌, ◌%◌, ◌<◌, ◌≤◌, List, length, slice_get, slice_index_or, Some, IfSome}
 use Rattle.std.specs.Option.{ForSome}
-use Rattle.std.specs.Arc.{arc_value}
 use Rattle.plan_check.specs.Verified.{Verified}
 use Rattle.relay_net.specs.declared.job.Job.{Job}
 use Rattle.relay_net.specs.States.{State}
 use Rattle.relay_net.specs.declared.served.Served.{Served}
 use Rattle.live_plan.specs.declared.place.Place.{Ghosts}
 use Rattle.live_plan.specs.declared.worker.Worker.{Worker}
+use Rattle.live_plan.specs.Entries.{entry_plan}
 use Rattle.live_plan.specs.Plans.{Rose, HasPlan}
 use Rattle.live_plan.specs.Routed.{journey_under}
 
@@ -38,7 +38,7 @@ module _ {P : Type 0} {g : Ghosts P} where
   -- a worker keeps a plan of the list, which is the one that its place tells, if any
   pub record Follows (plans : List Verified) (w : Worker P g) : Type 0 where
     pub told : ForSome (g.plans w.place) (λ l. l ≡ plans)
-    pub has : HasPlan plans w.kept.number (arc_value w.kept.plan)
+    pub has : HasPlan plans w.kept.number (entry_plan w.kept)
 
   -- what stays of a worker, and what doesn't fall: its number doesn't where it was at most n
   pub record Lasts (n : ℕ) (w w' : Worker P g) : Type 0 where

@@ -1,5 +1,6 @@
 pub mod Machine
 pub mod Plans
+pub mod Entries
 pub mod Routed
 pub mod Published
 pub mod Seats

@@ -5,7 +5,7 @@ ghost use mathlib.Core.List.{IsPrefix};
 ghost use Rattle.live_plan.specs.Plans.{HaveNodes};
 ghost use Rattle.live_plan.specs.Batches.{AllPairs, AreServed, Counted, Follows, HasServed, Lasts};
 ghost use Rattle.live_plan.specs.Publishing.{HasPublished};
-ghost use Rattle.live_plan.specs.Tellers.{plans_of, due_of};
+ghost use Rattle.live_plan.specs.Tellers.{told_by, plans_of, due_of};
 
 use crate::briefing::brief_all;
 use crate::collecting::collect;
@@ -91,20 +91,12 @@ fn serve_beside<R: Threads + Wait + Sync, G: Gate + Sync>(
     published
 }
 
-// How many threads may run at once, two at least.
-fn processors<R: Threads>(rt: &R) -> usize
-    ensures { 0 < result }
-{
-    match thread::available_parallelism(rt) {
-        Ok(count) => count.get().max(2),
-        Err(_) => 2,
-    }
-}
-
 // Few jobs are served sooner than a thread is made: there is one for sixteen of them, a second one from four jobs on, and no
-// more than shares or processors. These are asked for where they count: the answer takes the time of some jobs.
-fn threads_for<R: Threads>(rt: &R, shares: usize, jobs: usize) -> usize
-    ensures { 0 < result }
+// more than shares or processors.
+fn threads_for<R: Threads>(rt: &R, teller: &mut Teller, shares: usize, jobs: usize) -> usize
+    ensures some { 0 < result }
+    ensures told { told_by teller.new ≡ told_by teller.old }
+    ensures nodes { teller.new.nodes ≡ teller.old.nodes }
 {
     if jobs < 4 {
         return 1;
@@ -113,7 +105,7 @@ fn threads_for<R: Threads>(rt: &R, shares: usize, jobs: usize) -> usize
     if worth < 3 {
         2
     } else {
-        worth.min(processors(rt))
+        worth.min(teller.processors(rt))
     }
 }
 
@@ -143,16 +135,9 @@ fn serve_batch<R: Threads + Wait + Sync, G: Gate + Sync>(
     ensures nodes { teller.new.nodes ≡ teller.old.nodes }
 {
     brief_all(workers, teller)?;
+    let threads = threads_for(rt, teller, workers.len(), jobs.len());
     serve_beside(
-        rt,
-        alloc,
-        threads_for(rt, workers.len(), jobs.len()),
-        states,
-        jobs,
-        gate,
-        teller,
-        plans,
-        workers,
+        rt, alloc, threads, states, jobs, gate, teller, plans, workers,
     )?;
     collect(alloc, jobs.len(), workers)
 }

@@ -34,12 +34,11 @@ fn serve_here<G: Gate>(
     requires entries { All (λ job. job.entry < teller.now.nodes) jobs.now }
     ensures { IfOk result (AreServed (plans_of teller.now) states.now jobs.now workers (length (plans_of teller.now))) }
 {
-    let by = teller.last_entry()?;
     let mut answers = List::from_vec(Vec::with_capacity(alloc, jobs.len())?);
     for i in 0..jobs.len() {
         let job = &jobs[i];
         gate.pass((i % workers) as u32, job.index);
-        let served = route(alloc, &by, states, job)?;
+        let served = route(alloc, teller.number(), teller.latest(), states, job)?;
         answers.push(served)?;
     }
     Ok(answers)

@@ -1,12 +1,14 @@
 ghost use Rattle.std.specs.Prelude.{◌≡◌, ℕ, ◌+◌, ◌-◌, ◌^◌, ◌<◌, ◌≤◌, List, length, map, slice_get, Some, IfSome};
 ghost use Rattle.std.specs.Arc.{arc_value};
 ghost use Rattle.plan_check.specs.Verified.{Verified};
+ghost use Rattle.live_plan.specs.Entries.{entry_plan};
 ghost use Rattle.live_plan.specs.Plans.{HasPlan, HaveNodes, nodes_of};
 
 use crate::nodes::count_nodes;
 use crate::place::{Entry, Place, raised};
 use plan_check::Accepted;
 use sccp_base::List;
+use std::alloc::Global;
 use std::sync::Arc;
 
 // One more plan, where there is one.
@@ -19,24 +21,19 @@ fn one_more(seen: usize, all: usize) -> usize
     if seen < all { seen + 1 } else { seen }
 }
 
-// The entry at the plan of this number, counted from 1. None where the plan is shared too often to be shared once more.
-fn entry_at(plans: &[Arc<Accepted>], number: usize) -> Option<Entry>
+// The entry at the plan of this number, counted from 1. None where it can't be shared once more.
+fn entry_at(alloc: Global, plans: &[Arc<Accepted>], number: usize) -> Option<Entry>
     requires { (0 < number) × (number ≤ length plans.now) × (length plans.now < 2 ^ 32) }
     ensures number { IfSome result (λ e. e.number ≡ number) }
-    ensures plan { IfSome result (λ e. HasPlan (map arc_value plans.now) number (arc_value e.plan)) }
+    ensures plan { IfSome result (λ e. HasPlan (map arc_value plans.now) number (entry_plan e)) }
 {
-    match Arc::try_clone(&plans[number - 1]) {
-        Ok(plan) => Some(Entry {
-            number: number as u32,
-            plan,
-        }),
-        Err(_) => None,
-    }
+    Entry::of(alloc, number as u32, &plans[number - 1]).ok()
 }
 
 /// A place over a list in memory, of which each entry sees one plan more, up to the whole list.
 #[derive(Drop)]
 pub struct ListPlace {
+    alloc: Global,
     plans: List<Arc<Accepted>>,
     refusing: List<u64>,
     nodes: u8,
@@ -50,7 +47,7 @@ pub struct ListPlace {
 
 impl ListPlace {
     /// The place that has seen the first plan. The calls of `enter` that `refusing` names, counted from 0, are refused.
-    pub fn new(plans: List<Arc<Accepted>>, refusing: List<u64>) -> ListPlace
+    pub fn new(alloc: Global, plans: List<Arc<Accepted>>, refusing: List<u64>) -> ListPlace
         requires within { (0 < length plans) × (length plans < 2 ^ 32) }
         requires alike { (first : Verified) → slice_get (map arc_value plans) 0 ≡ Some first → HaveNodes (nodes_of first) (map arc_value plans) }
         ensures plans { result.plans ≡ plans }
@@ -60,6 +57,7 @@ impl ListPlace {
     {
         let nodes = count_nodes(&plans.as_slice()[0]);
         ListPlace {
+            alloc,
             plans,
             refusing,
             nodes,
@@ -91,7 +89,7 @@ impl Place for ListPlace {
         }
         let plans = self.plans.as_slice();
         let seen = one_more(self.seen, plans.len());
-        match entry_at(plans, seen) {
+        match entry_at(self.alloc, plans, seen) {
             Some(entry) => {
                 self.seen = seen;
                 self.entries = raised(self.entries);

@@ -16,12 +16,12 @@ use std::sync::Wait;
 pub struct Live;
 
 // A worker with the publisher's last plan, and no reader yet.
-fn hired(teller: &Teller, index: u32) -> Result<Worker<LivePlace>, OutOfMemory>
+fn hired(alloc: Global, teller: &Teller, index: u32) -> Result<Worker<LivePlace>, OutOfMemory>
     ensures index { IfOk result (λ w. w.index ≡ index) }
     ensures nodes { IfOk result (λ w. w.place.nodes ≡ teller.now.nodes) }
 {
     let first = teller.last_entry()?;
-    let place = LivePlace::vacant(teller.nodes());
+    let place = LivePlace::vacant(alloc, teller.nodes());
     Ok(Worker::over(index, place, first))
 }
 
@@ -37,7 +37,7 @@ fn all_hired(
 {
     let mut all = Vec::new(alloc);
     for index in 0..workers {
-        let worker = hired(teller, index)?;
+        let worker = hired(alloc, teller, index)?;
         all.push(worker)?;
     }
     Ok(all)

@@ -1,6 +1,7 @@
-ghost use Rattle.std.specs.Prelude.{◌≡◌, ◌≤◌, length, Option, Some, None, IfSome, option_map};
+ghost use Rattle.std.specs.Prelude.{◌≡◌, ◌≤◌, length, Option, Some, None, IfSome, IsSomeAnd, option_map};
 ghost use Rattle.std.specs.Option.{ForSome};
 ghost use Rattle.std.specs.Arc.{arc_value};
+ghost use Rattle.live_plan.specs.Entries.{entry_plan};
 ghost use Rattle.live_plan.specs.Plans.{HasPlan, nodes_of};
 ghost use Rattle.live_plan.specs.Seats.{HasPassed, known_by};
 ghost use Rattle.live_plan.specs.Tellers.{told_by, plans_of, due_of};
@@ -11,51 +12,64 @@ use crate::published::{Published, Shown};
 use crate::rule::{ByBatch, Sees};
 use crate::teller::Teller;
 use left_right::reader::Reader;
-use std::sync::Arc;
+use std::alloc::Global;
 
 pub(crate) type PlanReader = Reader<Published, Known, ByBatch>;
 
 /// A place over a reader of the published plans, or over none where none could be had: then each entry is refused, and so is
 /// one that meets another batch than that for which the place was briefed.
+///
+/// It keeps its share of the plan of the last entry, so that one which meets the same plan again counts no share of others.
 #[derive(Drop)]
 pub struct LivePlace {
+    alloc: Global,
     pub(crate) reader: Option<PlanReader>,
+    own: Option<Entry>,
     pub(crate) nodes: u8,
     batch: u64,
     pub(crate) passed: u32,
     entries: u64,
     refusals: u64,
     ghost has_passed: { ForSome reader (λ r. HasPassed nodes batch passed (known_by r.place)) },
+    ghost owns: { ForSome reader (λ r. ForSome own (λ e. HasPlan (known_by r.place).plans e.number (entry_plan e))) },
 }
 
-// What is shown, as an entry.
-fn entry_of(shown: &Shown) -> Option<Entry>
+// What is shown, as an entry: the own one where that has its number.
+fn entry_of(alloc: Global, shown: &Shown, own: Option<Entry>) -> Option<Entry>
+    requires { ForSome own (λ e. e.number ≡ shown.now.number → entry_plan e ≡ arc_value shown.now.plan) }
     ensures number { IfSome result (λ e. e.number ≡ shown.now.number) }
-    ensures plan { IfSome result (λ e. arc_value e.plan ≡ arc_value shown.now.plan) }
+    ensures plan { IfSome result (λ e. entry_plan e ≡ arc_value shown.now.plan) }
 {
-    match Arc::try_clone(&shown.plan) {
-        Ok(plan) => Some(Entry {
-            number: shown.number,
-            plan,
-        }),
-        Err(_) => None,
+    if let Some(entry) = own {
+        if entry.number == shown.number {
+            return Some(entry);
+        }
     }
+    Entry::of(alloc, shown.number, &shown.plan).ok()
 }
 
 // Enters, takes the last plan where it is shown in this batch, and leaves.
-fn visit(reader: PlanReader, nodes: u8, batch: u64, passed: u32) -> (PlanReader, Option<Entry>)
-    requires { HasPassed nodes batch passed (known_by reader.place) }
+fn visit(
+    alloc: Global,
+    reader: PlanReader,
+    own: Option<Entry>,
+    nodes: u8,
+    batch: u64,
+    passed: u32,
+) -> (PlanReader, Option<Entry>)
+    requires passed { HasPassed nodes batch passed (known_by reader.place) }
+    requires owns { ForSome own (λ e. HasPlan (known_by reader.place).plans e.number (entry_plan e)) }
     ensures passed { HasPassed nodes batch passed (known_by result.0.place) }
     ensures plans { (known_by result.0.place).plans ≡ (known_by reader.place).plans }
-    ensures entry { IfSome result.1 (λ e. HasPlan (known_by reader.place).plans e.number (arc_value e.plan) × (passed ≤ e.number)) }
+    ensures entry { IfSome result.1 (λ e. HasPlan (known_by reader.place).plans e.number (entry_plan e) × (passed ≤ e.number)) }
     ensures further { IfSome result.1 (λ e. HasPassed nodes batch e.number (known_by result.0.place)) }
-    ensures nodes { IfSome result.1 (λ e. nodes_of (arc_value e.plan) ≡ nodes) }
+    ensures nodes { IfSome result.1 (λ e. nodes_of (entry_plan e) ≡ nodes) }
 {
     match reader.enter_as::<Sees>() {
         Ok(reading) => {
             let shown = &*reading.get().shown;
             if shown.batch == batch {
-                let entry = entry_of(shown);
+                let entry = entry_of(alloc, shown, own);
                 (reading.leave(), entry)
             } else {
                 (reading.leave(), None)
@@ -65,15 +79,27 @@ fn visit(reader: PlanReader, nodes: u8, batch: u64, passed: u32) -> (PlanReader,
     }
 }
 
+// One more share of it.
+fn shared(own: &Option<Entry>) -> Option<Entry>
+    ensures some { IfSome result (λ e. IsSomeAnd own.now (λ o. (e.number ≡ o.number) × (entry_plan e ≡ entry_plan o))) }
+{
+    match own {
+        Some(entry) => entry.again().ok(),
+        None => None,
+    }
+}
+
 impl LivePlace {
     /// A place without a reader, for plans of so many nodes.
-    pub(crate) fn vacant(nodes: u8) -> LivePlace
+    pub(crate) fn vacant(alloc: Global, nodes: u8) -> LivePlace
         ensures plans { result.reader ≡ None }
         ensures nodes { result.nodes ≡ nodes }
         ensures counts { (result.entries ≡ 0) × (result.refusals ≡ 0) }
     {
         LivePlace {
+            alloc,
             reader: None,
+            own: None,
             nodes,
             batch: 0,
             passed: 0,
@@ -94,6 +120,7 @@ impl LivePlace {
     {
         // The old reader gives up its seat first.
         self.reader = None;
+        self.own = None;
         self.passed = teller.number();
         self.batch = teller.batch();
         self.reader = teller.reader();
@@ -118,9 +145,18 @@ impl Place for LivePlace {
                 None
             }
             Some(reader) => {
-                let (reader, entry) = visit(reader, self.nodes, self.batch, self.passed);
+                let own = self.own.take();
+                let (reader, own) = visit(
+                    self.alloc,
+                    reader,
+                    own,
+                    self.nodes,
+                    self.batch,
+                    self.passed,
+                );
                 self.reader = Some(reader);
-                match entry {
+                self.own = own;
+                match shared(&self.own) {
                     Some(entry) => {
                         self.passed = entry.number;
                         self.entries = raised(self.entries);

@@ -1,16 +1,46 @@
-ghost use Rattle.std.specs.Prelude.{◌≡◌, ℕ, ◌<◌, ◌≤◌, List, Option, Some, None, IfSome, IfNone, IsSomeAnd};
+ghost use Rattle.std.specs.Prelude.{◌≡◌, ℕ, ◌<◌, ◌≤◌, List, Option, Some, None, IfOk, IfSome, IfNone, IsSomeAnd};
 ghost use Rattle.std.specs.Arc.{arc_value};
+ghost use Rattle.live_plan.specs.Entries.{entry_plan};
 ghost use Rattle.plan_check.specs.Verified.{Verified};
 ghost use Rattle.live_plan.specs.Plans.{HasPlan, Rose, nodes_of};
 
 use plan_check::Accepted;
+use sccp_base::OutOfMemory;
+use std::alloc::Global;
 use std::sync::Arc;
 
 /// A plan with its number among those that are published, from 1.
+///
+/// All workers share the plan, and who shares it is counted in one place, for which threads that count often wait. So each
+/// worker shares a share of its own: of that it counts for itself, once for each message.
 #[derive(Drop)]
 pub struct Entry {
     pub number: u32,
-    pub plan: Arc<Accepted>,
+    pub plan: Arc<Arc<Accepted>>,
+}
+
+impl Entry {
+    /// A share of this plan, with its number, of which nobody else counts.
+    pub fn of(alloc: Global, number: u32, plan: &Arc<Accepted>) -> Result<Entry, OutOfMemory>
+        ensures number { IfOk result (λ e. e.number ≡ number) }
+        ensures plan { IfOk result (λ e. entry_plan e ≡ arc_value plan.now) }
+    {
+        let plan = Arc::try_clone(plan)?;
+        let plan = Arc::new(alloc, plan)?;
+        Ok(Entry { number, plan })
+    }
+
+    /// The same plan with its number, counted where this one is.
+    pub(crate) fn again(&self) -> Result<Entry, OutOfMemory>
+        ensures number { IfOk result (λ e. e.number ≡ self.now.number) }
+        ensures plan { IfOk result (λ e. entry_plan e ≡ entry_plan self.now) }
+    {
+        let plan = Arc::try_clone(&self.plan)?;
+        Ok(Entry {
+            number: self.number,
+            plan,
+        })
+    }
 }
 
 /// One more, where the count isn't at its end.
@@ -44,6 +74,6 @@ pub trait Place {
         ensures nodes { nodes self.new ≡ nodes self.old }
         ensures seen { seen self.old ≤ seen self.new }
         ensures counts { (entries self.old ≤ entries self.new) × (refusals self.old ≤ refusals self.new) }
-        ensures some { IfSome result (λ e. Rose (entries self.old) (entries self.new) × IsSomeAnd (plans self.new) (λ l. HasPlan l e.number (arc_value e.plan)) × (e.number ≡ seen self.new) × (nodes_of (arc_value e.plan) ≡ nodes self.new)) }
+        ensures some { IfSome result (λ e. Rose (entries self.old) (entries self.new) × IsSomeAnd (plans self.new) (λ l. HasPlan l e.number (entry_plan e)) × (e.number ≡ seen self.new) × (nodes_of (entry_plan e) ≡ nodes self.new)) }
         ensures none { IfNone result (Rose (refusals self.old) (refusals self.new) × (seen self.new ≡ seen self.old)) };
 }

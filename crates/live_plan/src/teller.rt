@@ -18,5 +18,7 @@ pub struct Teller {
     writer: PlanWriter,
     alloc: Global,
     nodes: u8,
+    /// How many threads may run at once, or 0 until that is asked.
+    processors: usize,
     ghost telling: { IsTelling nodes (arc_value writer.desk.shown.value.shown) (known_by writer.desk.place) },
 }

@@ -1,40 +1,39 @@
 ghost use Rattle.std.specs.Prelude.{◌≡◌, ◌⊎◌, ◌<◌, ◌≤◌, length, None, IfOk, IfSome};
-ghost use Rattle.std.specs.Arc.{arc_value};
+ghost use Rattle.live_plan.specs.Entries.{entry_plan};
 ghost use Rattle.live_plan.specs.Plans.{HasPlan, IsKept, Rose, nodes_of};
 ghost use Rattle.live_plan.specs.Routed.{journey_under};
 
 use crate::gate::Gate;
 use crate::nodes::count_nodes;
 use crate::place::{Entry, Place};
+use plan_check::Accepted;
 use relay_net::{Job, NodeState, Served, journey};
 use sccp_base::OutOfMemory;
 use std::alloc::Global;
 use std::collections::VecDeque;
 
-// A job is routed over all its relays under one plan.
+// A job is routed over all its relays under one plan, which has this number.
 pub(crate) fn route(
     alloc: Global,
-    by: &Entry,
+    number: u32,
+    plan: &Accepted,
     states: &[NodeState],
     job: &Job,
 ) -> Result<Served, OutOfMemory>
-    requires entry { job.now.entry < nodes_of (arc_value by.now.plan) }
-    requires states { length states.now ≡ nodes_of (arc_value by.now.plan) }
-    ensures number { IfOk result (λ served. served.number ≡ by.now.number) }
-    ensures journey { IfOk result (λ served. served.journey ≡ journey_under (arc_value by.now.plan) states.now job.now) }
+    requires entry { job.now.entry < nodes_of plan.now }
+    requires states { length states.now ≡ nodes_of plan.now }
+    ensures number { IfOk result (λ served. served.number ≡ number) }
+    ensures journey { IfOk result (λ served. served.journey ≡ journey_under plan.now states.now job.now) }
 {
     let journey = journey(
         alloc,
-        &by.plan,
+        plan,
         states,
         job.entry,
         job.origin,
         job.octets.as_slice(),
     )?;
-    Ok(Served {
-        number: by.number,
-        journey,
-    })
+    Ok(Served { number, journey })
 }
 
 /// A worker with its place, and the plan that it keeps and routes by.
@@ -45,13 +44,13 @@ pub struct Worker<P: Place> {
     pub(crate) kept: Entry,
     /// The answers of its share of a batch, until they are collected.
     pub(crate) answers: Option<VecDeque<Served>>,
-    ghost keeps: { IsKept (P.plans place) (P.seen place) (P.nodes place) kept.number (arc_value kept.plan) },
+    ghost keeps: { IsKept (P.plans place) (P.seen place) (P.nodes place) kept.number (entry_plan kept) },
 }
 
 impl<P: Place> Worker<P> {
     /// A worker over a place, which keeps the plan that it is handed. It tells gates its index.
     pub fn over(index: u32, place: P, first: Entry) -> Worker<P>
-        requires { IsKept (P.plans place) (P.seen place) (P.nodes place) first.number (arc_value first.plan) }
+        requires { IsKept (P.plans place) (P.seen place) (P.nodes place) first.number (entry_plan first) }
         ensures { (result.index ≡ index) × (result.place ≡ place) × (result.kept ≡ first) }
     {
         Worker {
@@ -84,10 +83,10 @@ impl<P: Place> Worker<P> {
         ensures entered { Rose (P.entries self.old.place) (P.entries self.new.place) ⊎ Rose (P.refusals self.old.place) (P.refusals self.new.place) }
         ensures counts { (P.entries self.old.place ≤ P.entries self.new.place) × (P.refusals self.old.place ≤ P.refusals self.new.place) }
         ensures seen { P.seen self.old.place ≤ P.seen self.new.place }
-        ensures told { IfSome (P.plans self.new.place) (λ l. (self.new.kept.number ≡ P.seen self.new.place) × HasPlan l self.new.kept.number (arc_value self.new.kept.plan)) }
+        ensures told { IfSome (P.plans self.new.place) (λ l. (self.new.kept.number ≡ P.seen self.new.place) × HasPlan l self.new.kept.number (entry_plan self.new.kept)) }
         ensures untold { P.plans self.old.place ≡ None → self.new.kept ≡ self.old.kept }
         ensures rises { self.old.kept.number ≤ self.new.kept.number }
-        ensures routes { nodes_of (arc_value self.new.kept.plan) ≡ P.nodes self.old.place }
+        ensures routes { nodes_of (entry_plan self.new.kept) ≡ P.nodes self.old.place }
     {
         if let Some(entry) = self.place.enter() {
             self.kept = entry;
@@ -111,14 +110,14 @@ impl<P: Place> Worker<P> {
         ensures entered { Rose (P.entries self.old.place) (P.entries self.new.place) ⊎ Rose (P.refusals self.old.place) (P.refusals self.new.place) }
         ensures counts { (P.entries self.old.place ≤ P.entries self.new.place) × (P.refusals self.old.place ≤ P.refusals self.new.place) }
         ensures seen { P.seen self.old.place ≤ P.seen self.new.place }
-        ensures told { IfSome (P.plans self.new.place) (λ l. (self.new.kept.number ≡ P.seen self.new.place) × HasPlan l self.new.kept.number (arc_value self.new.kept.plan)) }
+        ensures told { IfSome (P.plans self.new.place) (λ l. (self.new.kept.number ≡ P.seen self.new.place) × HasPlan l self.new.kept.number (entry_plan self.new.kept)) }
         ensures untold { P.plans self.old.place ≡ None → self.new.kept ≡ self.old.kept }
         ensures rises { self.old.kept.number ≤ self.new.kept.number }
         ensures number { IfOk result (λ served. served.number ≡ self.new.kept.number) }
-        ensures journey { IfOk result (λ served. served.journey ≡ journey_under (arc_value self.new.kept.plan) states.now job.now) }
+        ensures journey { IfOk result (λ served. served.journey ≡ journey_under (entry_plan self.new.kept) states.now job.now) }
     {
         gate.pass(self.index, job.index);
         self.look();
-        route(alloc, &self.kept, states, job)
+        route(alloc, self.kept.number, &self.kept.plan, states, job)
     }
 }

@@ -5,34 +5,34 @@ ghost use Rattle.sccp_tool.specs.Replayers.{ComesToNode, RoutesBatch, jobs_from,
 ghost use Rattle.sccp_tool.specs.Routings.{ArePlans, IsRouting, ahead, routing, standing};
 
 use crate::settled::Settled;
-use live_plan::{Gate, Live, LivePlace, Teller, Worker, serve_jobs};
+use live_plan::{Entry, Gate, Live, LivePlace, Teller, Worker, serve_jobs};
 use plan_check::Accepted;
 use relay_net::{Job, NodeState, Served};
 use sccp_base::{List, OutOfMemory};
 use std::alloc::Global;
 use std::marker::Model;
-use std::sync::{Arc, Wait};
+use std::sync::Wait;
 use std::thread::Threads;
 
 /// Several workers, who route messages beside each other while the plans that come in a batch are published. It can't be
 /// dropped: `end` ends it.
 pub struct Crew {
-    first: Arc<Accepted>,
+    first: Entry,
     teller: Teller,
     workers: List<Worker<LivePlace>>,
 }
 
 impl Model for Crew {
     ghost use Rattle.std.specs.Prelude.{◌≡◌, All, drop, length};
-    ghost use Rattle.std.specs.Arc.{arc_value};
+    ghost use Rattle.live_plan.specs.Entries.{entry_plan};
     ghost use Rattle.live_plan.specs.Tellers.{plans_of};
     ghost use Rattle.sccp_tool.specs.Routings.{Routing, IsCrew, routing};
 
     ghost Value = { Routing };
 
-    ghost view = { λ c. routing (length c.workers) (arc_value c.first) (drop 1 (plans_of c.teller)) };
+    ghost view = { λ c. routing (length c.workers) (entry_plan c.first) (drop 1 (plans_of c.teller)) };
 
-    ghost invariant = { λ c. IsCrew (plans_of c.teller) c.teller.nodes (length c.workers) (arc_value c.first) (drop 1 (plans_of c.teller)) × All (λ w. w.place.nodes ≡ c.teller.nodes) c.workers };
+    ghost invariant = { λ c. IsCrew (plans_of c.teller) c.teller.nodes (length c.workers) (entry_plan c.first) (drop 1 (plans_of c.teller)) × All (λ w. w.place.nodes ≡ c.teller.nodes) c.workers };
 }
 
 /// A message that is to be routed becomes the next job.
@@ -88,7 +88,7 @@ impl Crew {
         let (teller, workers) = Live::new(rt, alloc, first, workers)?;
         match teller.last_entry() {
             Ok(entry) => Ok(Crew {
-                first: entry.plan,
+                first: entry,
                 teller,
                 workers,
             }),
@@ -104,7 +104,7 @@ impl Crew {
         ensures value { result.now ≡ self.now.first }
         ensures plans { IsRouting self.now }
     {
-        &self.first
+        &self.first.plan
     }
 
     /// How many plans were accepted.

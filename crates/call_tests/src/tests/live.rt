@@ -120,11 +120,11 @@ fn three_plans(alloc: Global) -> Result<List<Arc<Accepted>>, Fail>
 /// A worker over them, of whose calls the second is refused.
 fn worker(alloc: Global) -> Result<Worker<ListPlace>, Fail> {
     let plans = three_plans(alloc)?;
-    let plan = Arc::try_clone(&plans.as_slice()[0])?;
+    let first = Entry::of(alloc, 1, &plans.as_slice()[0])?;
     let mut refusing = List::new(alloc);
     refusing.push(1)?;
-    let place = ListPlace::new(plans, refusing);
-    Ok(Worker::over(0, place, Entry { number: 1, plan }))
+    let place = ListPlace::new(alloc, plans, refusing);
+    Ok(Worker::over(0, place, first))
 }
 
 /// What is told of the job where the worker serves it. Its answer is dropped as an item of a list.

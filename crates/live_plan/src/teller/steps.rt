@@ -1,6 +1,7 @@
 //! The steps of the publisher.
 ghost use Rattle.std.specs.Prelude.{◌≡◌, ◌+◌, ◌^◌, ◌<◌, [], ◌∷◌, ◌++◌, length, IfOk, IfSome, OnOk, OnErr};
 ghost use Rattle.std.specs.Arc.{arc_value};
+ghost use Rattle.live_plan.specs.Entries.{entry_plan};
 ghost use Rattle.live_plan.specs.Plans.{HasPlan, HaveNodes, nodes_of};
 ghost use Rattle.live_plan.specs.Published.{begun, advanced};
 ghost use Rattle.live_plan.specs.Seats.{HasPassed, known_by};
@@ -18,6 +19,8 @@ use sccp_base::{List, OutOfMemory};
 use std::alloc::{AllocError, Global};
 use std::snapshot::Snapshot;
 use std::sync::{Arc, Wait};
+use std::thread;
+use std::thread::Threads;
 
 // The most readers at one time: each worker has one at most.
 const READERS: usize = 16;
@@ -37,6 +40,7 @@ fn with_begun<R: Wait>(teller: Teller, given: (&R, Published)) -> (Teller, Resul
         mut writer,
         alloc,
         nodes,
+        processors,
     } = teller;
     match writer.append(given.1) {
         Ok(()) => {}
@@ -45,6 +49,7 @@ fn with_begun<R: Wait>(teller: Teller, given: (&R, Published)) -> (Teller, Resul
                 writer,
                 alloc,
                 nodes,
+                processors,
             };
             return (teller, Err(AllocError));
         }
@@ -54,6 +59,7 @@ fn with_begun<R: Wait>(teller: Teller, given: (&R, Published)) -> (Teller, Resul
         writer,
         alloc,
         nodes,
+        processors,
     };
     (teller, published)
 }
@@ -71,6 +77,7 @@ fn with_next<R: Wait>(teller: Teller, given: (&R, Published)) -> (Teller, Result
         mut writer,
         alloc,
         nodes,
+        processors,
     } = teller;
     match writer.append(given.1) {
         Ok(()) => {}
@@ -79,6 +86,7 @@ fn with_next<R: Wait>(teller: Teller, given: (&R, Published)) -> (Teller, Result
                 writer,
                 alloc,
                 nodes,
+                processors,
             };
             return (teller, Err(AllocError));
         }
@@ -88,6 +96,7 @@ fn with_next<R: Wait>(teller: Teller, given: (&R, Published)) -> (Teller, Result
         writer,
         alloc,
         nodes,
+        processors,
     };
     (teller, published)
 }
@@ -141,6 +150,7 @@ pub(crate) fn open<R: Wait>(rt: &R, alloc: Global, first: Accepted) -> Result<Te
             writer,
             alloc,
             nodes,
+            processors: 0,
         }),
         Err(_) => {
             writer.take(rt);
@@ -178,19 +188,30 @@ impl Teller {
         self.writer.published().shown.batch
     }
 
+    // How many threads may run at once, two at least. The system is asked once: its answer takes the time of some jobs.
+    pub(crate) fn processors<R: Threads>(&mut self, rt: &R) -> usize
+        ensures some { 0 < result }
+        ensures told { told_by self.new ≡ told_by self.old }
+        ensures nodes { self.new.nodes ≡ self.old.nodes }
+    {
+        if self.processors == 0 {
+            self.processors = match thread::available_parallelism(rt) {
+                Ok(count) => count.get().max(2),
+                Err(_) => 2,
+            };
+        }
+        self.processors
+    }
+
     /// The last plan with its number.
     pub fn last_entry(&self) -> Result<Entry, OutOfMemory>
         ensures number { IfOk result (λ e. e.number ≡ length (plans_of self.now)) }
-        ensures plan { IfOk result (λ e. HasPlan (plans_of self.now) e.number (arc_value e.plan)) }
-        ensures due { IfOk result (λ e. HasPlan (due_of self.now) e.number (arc_value e.plan)) }
-        ensures nodes { IfOk result (λ e. nodes_of (arc_value e.plan) ≡ self.now.nodes) }
+        ensures plan { IfOk result (λ e. HasPlan (plans_of self.now) e.number (entry_plan e)) }
+        ensures due { IfOk result (λ e. HasPlan (due_of self.now) e.number (entry_plan e)) }
+        ensures nodes { IfOk result (λ e. nodes_of (entry_plan e) ≡ self.now.nodes) }
     {
         let shown = &*self.writer.published().shown;
-        let plan = Arc::try_clone(&shown.plan)?;
-        Ok(Entry {
-            number: shown.number,
-            plan,
-        })
+        Entry::of(self.alloc, shown.number, &shown.plan)
     }
 
     // A new reader, which knows what the publisher knows.
@@ -282,6 +303,7 @@ impl Teller {
             writer,
             alloc: _,
             nodes: _,
+            processors: _,
         } = self;
         writer.take(rt);
     }

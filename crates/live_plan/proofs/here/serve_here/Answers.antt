@@ -1,6 +1,5 @@
 use Rattle.std.proofs.Common.{◌≡◌, ◌+◌, ◌++◌, ◌∷◌, [], List, length, slice_get, Some, sym, ◌∙◌, subst, arith}
 use Rattle.std.proofs.Math.Nat.{mod-lt}
-use Rattle.std.specs.Arc.{arc_value}
 use Rattle.relay_net.specs.declared.job.Job.{Job}
 use Rattle.relay_net.specs.declared.served.Served.{Served}
 use Rattle.live_plan.specs.Batches.{IsServed, IsShare}
@@ -20,9 +19,9 @@ loop-i-preserved g c =
     let served : Served = c.in_ok-served.served in
     let longer : c.push.new.self ≡ answers ++ served ∷ [] = c.in_ok-push.ensures.ok in
     let here : slice_get c.args.jobs.now c.loop-i.i ≡ Some job = get_here _ _ _ c.loop-i-test.true c.index-jobs-i.is in
-    let is : IsServed plans c.args.states.now job served = record { plan = arc_value c.in_ok-by.by.plan; has = rw (c.in_ok-served.ensures.number) c.in_ok-by.ensures.plan; journey = c.in_ok-served.ensures.journey } in
+    let is : IsServed plans c.args.states.now job served = record { plan = c.latest.result.now; has = rw (c.in_ok-served.ensures.number ∙ c.number.ensures) c.latest.ensures; journey = c.in_ok-served.ensures.journey } in
     subst (λ l. (length l ≡ c.loop-i.i + 1) × IsShare plans c.args.states.now c.args.jobs.now 1 0 (length plans) (length plans) l) (sym longer)
-    (here_more plans c.args.states.now c.args.jobs.now (length plans) c.loop-i.i answers served job c.loop-i.invariant.0 c.loop-i.invariant.1 (c.in_ok-served.ensures.number ∙ c.in_ok-by.ensures.number) here is)
+    (here_more plans c.args.states.now c.args.jobs.now (length plans) c.loop-i.i answers served job c.loop-i.invariant.0 c.loop-i.invariant.1 (c.in_ok-served.ensures.number ∙ c.number.ensures) here is)
 
 pub returns : goal.returns
 returns g c =

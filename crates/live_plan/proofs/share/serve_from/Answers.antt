@@ -1,8 +1,8 @@
 use Rattle.std.proofs.Common.{rules, ◌≡◌, ◌*◌, ◌+◌, ◌<◌, ◌≤◌, ◌++◌, ◌∷◌, [], length, slice_get, Some, ap, sym, ◌∙◌, subst}
-use Rattle.std.specs.Arc.{arc_value}
 use Rattle.relay_net.specs.declared.job.Job.{Job}
 use Rattle.relay_net.specs.declared.served.Served.{Served}
 use Rattle.live_plan.specs.Batches.{IsServed, IsShare, GoesOn, Follows}
+use Rattle.live_plan.specs.Entries.{entry_plan}
 use Rattle.live_plan.proofs.Passed.{get_here}
 use Rattle.live_plan.proofs.Shares.{goes_on, goes_trans, counts_last, share_more, next_at}
 use Rattle.live_plan.proofs.share.serve_from.Goals as goal
@@ -49,7 +49,7 @@ loop-at-preserved g c =
       (λ lt. counts_last c.args.worker.now before now c.loop-at.invariant.1 s.entered),
       (λ plans f.
           let mine : Follows plans now = one.follows plans (c.loop-at.invariant.1.follows plans f) in
-          let is : IsServed plans c.args.states.now job served = record { plan = arc_value now.kept.plan; has = rw number mine.has; journey = c.in_ok-served.ensures.journey } in
+          let is : IsServed plans c.args.states.now job served = record { plan = entry_plan now.kept; has = rw number mine.has; journey = c.in_ok-served.ensures.journey } in
           let more = share_more plans c.args.states.now c.args.jobs.now c.args.count c.args.share c.args.worker.now.kept.number before.kept.number answers served job (c.loop-at.invariant.3 plans f) c.loop-at.invariant.1.rises le
           (subst (λ i. slice_get c.args.jobs.now i ≡ Some job) c.loop-at.invariant.0 here) is in
           subst (λ n. IsShare plans c.args.states.now c.args.jobs.now c.args.count c.args.share c.args.worker.now.kept.number n c.push_back.new.self.items) number

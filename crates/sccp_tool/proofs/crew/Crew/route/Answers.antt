@@ -1,5 +1,5 @@
 use Rattle.std.proofs.Common.{length, drop, ◌∙◌, sym, ap, subst}
-use Rattle.std.specs.Arc.{arc_value}
+use Rattle.live_plan.specs.Entries.{entry_plan}
 use Rattle.plan_check.specs.Verified.{Verified}
 use Rattle.live_plan.specs.Plans.{HaveNodes}
 use Rattle.live_plan.specs.Tellers.{plans_of}
@@ -19,7 +19,7 @@ serve_jobs-requires-clause-nodes g c κs within =
 pub invariant_of-self : goal.invariant_of-self
 invariant_of-self g c =
     let e = c.serve_jobs.ensures in (
-      crew_stays (plans_of c.self.inside.teller) (plans_of c.serve_jobs.new.teller) c.args.coming c.self.inside.teller.nodes c.serve_jobs.new.teller.nodes (length c.self.inside.workers) (length c.serve_jobs.new.workers) (arc_value c.self.inside.first) c.self.invariant.0
+      crew_stays (plans_of c.self.inside.teller) (plans_of c.serve_jobs.new.teller) c.args.coming c.self.inside.teller.nodes c.serve_jobs.new.teller.nodes (length c.self.inside.workers) (length c.serve_jobs.new.workers) (entry_plan c.self.inside.first) c.self.invariant.0
           (subst (λ (r : Routing). ArePlans r.first.plan (ahead (standing r c.args.states.now) c.args.coming).later) (sym c.self.view_is) c.requires.plans) e.begins e.within e.nodes e.lasts.long,
       all_last c.self.inside.workers c.serve_jobs.new.workers (λ w. w.place.nodes) c.self.inside.teller.nodes c.serve_jobs.new.teller.nodes e.nodes e.lasts.long (λ i d lt. (e.lasts.each i d lt).nodes) c.self.invariant.1,
     )
@@ -27,15 +27,15 @@ invariant_of-self g c =
 pub returns-clause-plans : goal.returns-clause-plans
 returns-clause-plans g c =
     let e = c.serve_jobs.ensures in
-    (crew_stays (plans_of c.self.inside.teller) (plans_of c.serve_jobs.new.teller) c.args.coming c.self.inside.teller.nodes c.serve_jobs.new.teller.nodes (length c.self.inside.workers) (length c.serve_jobs.new.workers) (arc_value c.self.inside.first) c.self.invariant.0
+    (crew_stays (plans_of c.self.inside.teller) (plans_of c.serve_jobs.new.teller) c.args.coming c.self.inside.teller.nodes c.serve_jobs.new.teller.nodes (length c.self.inside.workers) (length c.serve_jobs.new.workers) (entry_plan c.self.inside.first) c.self.invariant.0
     (subst (λ (r : Routing). ArePlans r.first.plan (ahead (standing r c.args.states.now) c.args.coming).later) (sym c.self.view_is) c.requires.plans) e.begins e.within e.nodes e.lasts.long).plans_are
 
 pub returns-clause-at : goal.returns-clause-at
 returns-clause-at g c =
-    crew_at c.serve_jobs.result (plans_of c.self.inside.teller) (plans_of c.serve_jobs.new.teller) c.args.coming (length c.self.inside.workers) (length c.serve_jobs.new.workers) (arc_value c.self.inside.first) c.args.states.now c.args.self.now
+    crew_at c.serve_jobs.result (plans_of c.self.inside.teller) (plans_of c.serve_jobs.new.teller) c.args.coming (length c.self.inside.workers) (length c.serve_jobs.new.workers) (entry_plan c.self.inside.first) c.args.states.now c.args.self.now
     c.self.invariant.0.begins c.self.view_is c.serve_jobs.ensures.lasts.long c.serve_jobs.ensures.published
 
 pub returns-clause-served : goal.returns-clause-served
 returns-clause-served g c =
-    crew_served c.serve_jobs.result (plans_of c.self.inside.teller) (plans_of c.serve_jobs.new.teller) c.args.coming (length c.self.inside.workers) (arc_value c.self.inside.first) c.args.states.now c.args.self.now c.args.settled.now c.in_ok-jobs.jobs
+    crew_served c.serve_jobs.result (plans_of c.self.inside.teller) (plans_of c.serve_jobs.new.teller) c.args.coming (length c.self.inside.workers) (entry_plan c.self.inside.first) c.args.states.now c.args.self.now c.args.settled.now c.in_ok-jobs.jobs
     c.self.invariant.0.several c.self.invariant.0.begins c.self.view_is c.serve_jobs.ensures.published c.in_ok-jobs.ensures c.requires.plans c.requires.fits c.serve_jobs.ensures.served
