@@ -17,12 +17,17 @@ or memory that another one wrote, isn't in that count.
 What a machine gives to several threads isn't told by the number of its processors, of which two may be one core: so it is
 measured how much more is done in a time by two and by four replays with one worker, at once.
 
-Run it from anywhere: bench/workers.py [PROGRAM]. It builds nothing: run ./sccp once before. On a machine that has other work
-threads wait for each other: `chrt -f 10 bench/workers.py` as root puts that work aside for some two minutes.
+Run it from anywhere: bench/workers.py [--awake] [PROGRAM]. It builds nothing: run ./sccp once before. On a machine that has
+other work threads wait for each other: `chrt -f 10 bench/workers.py` as root puts that work aside for some two minutes.
+
+Between two batches the processors of the other threads have nothing to do. One of a shared host then has to be woken by the
+host, which may take as long as serving a tenth of a batch. `--awake` runs a loop of the lowest class on each processor, which
+gives way at once, so that none falls asleep.
 """
 import os
 import re
 import shutil
+import signal
 import statistics
 import subprocess
 import sys
@@ -30,7 +35,9 @@ import tempfile
 import time
 
 TOP = os.path.dirname(os.path.dirname(os.path.abspath(__file__)))
-PROGRAM = os.path.abspath(sys.argv[1]) if len(sys.argv) > 1 else os.path.join(TOP, "crates/sccp/out/sccp")
+WORDS = [word for word in sys.argv[1:] if word != "--awake"]
+AWAKE = "--awake" in sys.argv
+PROGRAM = os.path.abspath(WORDS[0]) if WORDS else os.path.join(TOP, "crates/sccp/out/sccp")
 RELAYS = 6
 MESSAGE = "msg n0 1-0-1 0980030E120B1206001204947101000021044301080802AABB"
 WORKERS = (1, 2, 4, 16)
@@ -111,7 +118,31 @@ def tell_instructions(folder, below):
               f"caller's thread, and all threads {(mine + sum(others)) / below:.2f} times as many as one worker")
 
 
+def keep_awake():
+    """A loop of the lowest class on each processor; their processes."""
+    loops = []
+    for processor in sorted(os.sched_getaffinity(0)):
+        loop = os.fork()
+        if not loop:
+            os.sched_setaffinity(0, {processor})
+            os.sched_setscheduler(0, os.SCHED_IDLE, os.sched_param(0))
+            while os.getppid() != 1:
+                pass
+            os._exit(0)
+        loops.append(loop)
+    return loops
+
+
 def main():
+    loops = keep_awake() if AWAKE else []
+    try:
+        measure()
+    finally:
+        for loop in loops:
+            os.kill(loop, signal.SIGKILL)
+
+
+def measure():
     with tempfile.TemporaryDirectory() as folder:
         traces = {"batches": (MESSAGE + "\n") * 100_000, "single": (MESSAGE + "\nfence\n") * 50_000}
         others = {"empty": "", "counted": (MESSAGE + "\n") * COUNTED}
