@@ -120,13 +120,14 @@ def tell_instructions(folder, below):
 
 def keep_awake():
     """A loop of the lowest class on each processor; their processes."""
+    parent = os.getpid()
     loops = []
     for processor in sorted(os.sched_getaffinity(0)):
         loop = os.fork()
         if not loop:
             os.sched_setaffinity(0, {processor})
             os.sched_setscheduler(0, os.SCHED_IDLE, os.sched_param(0))
-            while os.getppid() != 1:
+            while os.getppid() == parent:
                 pass
             os._exit(0)
         loops.append(loop)
