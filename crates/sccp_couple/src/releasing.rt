@@ -26,7 +26,7 @@ fn complete(
 ) -> Result<List<Sent>, OutOfMemory>
     ensures { IfOk result (λ sent. sent ≡ map written_sent (to_one origin (Message.Rlc slr dlr))) }
 {
-    to_one(alloc, origin, &Message::Rlc { dlr: slr, slr: dlr })
+    to_one(alloc, origin, Message::Rlc { dlr: slr, slr: dlr })
 }
 
 /// The release is completed toward its origin, and goes on to the other point.
@@ -52,7 +52,7 @@ fn complete_and_release(
         cause,
         params,
     };
-    to_two(alloc, origin, &completed, other.point, &released)
+    to_two(alloc, origin, completed, other.point, released)
 }
 
 /// The section ends, and its other one is released, or ends too where it has no remote.

@@ -48,7 +48,7 @@ fn go_on(
         called,
         params,
     };
-    let sent = to_one(alloc, to, &request)?;
+    let sent = to_one(alloc, to, request)?;
     sections.couple(near, far, origin, slr, to)?;
     Ok(sent)
 }

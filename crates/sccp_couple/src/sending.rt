@@ -1,7 +1,8 @@
 //! Messages as octets on their way to a point.
-ghost use Rattle.std.specs.Prelude.{◌≡◌, ◌≤◌, ◌++◌, ℕ, [], map, length, true, IfOk, Some};
+ghost use Rattle.std.specs.Prelude.{◌≡◌, ◌≤◌, ◌++◌, ℕ, [], map, length, true, IfOk, Some, Ok};
 ghost use Rattle.sccp_layout.specs.Joining.{are_short};
 ghost use Rattle.sccp_message.specs.declared.message.Message.{Message};
+ghost use Rattle.sccp_message.specs.Encoding.{Gives};
 ghost use Rattle.sccp_message.specs.Written.{message_octets, Writable};
 ghost use Rattle.sccp_couple.specs.Coupling.{to_one, to_remote, toward};
 ghost use Rattle.sccp_couple.specs.Sending.{written_sent};
@@ -14,12 +15,20 @@ use sccp_manage::Sent;
 use sccp_message::{EncodeFault, Message, encode};
 use std::alloc::Global;
 
-/// The octets of a message that can be written.
-fn octets_of(alloc: Global, message: &Message) -> Result<Octets, OutOfMemory>
-    requires { Writable message.now }
-    ensures { IfOk result (λ octets. octets ≡ message_octets message.now) }
+/// What is written of a message, which ends here: in one place it goes out of scope.
+fn written(alloc: Global, message: Message) -> Result<Octets, EncodeFault>
+    requires { Writable message }
+    ensures { Gives (λ octets. octets) result (Ok (message_octets message)) }
 {
-    match encode(alloc, message) {
+    encode(alloc, &message)
+}
+
+/// The octets of a message that can be written.
+fn octets_of(alloc: Global, message: Message) -> Result<Octets, OutOfMemory>
+    requires { Writable message }
+    ensures { IfOk result (λ octets. octets ≡ message_octets message) }
+{
+    match written(alloc, message) {
         Ok(octets) => Ok(octets),
         Err(EncodeFault::OutOfMemory) => Err(OutOfMemory),
         Err(_) => unreachable!(),
@@ -30,10 +39,10 @@ fn octets_of(alloc: Global, message: &Message) -> Result<Octets, OutOfMemory>
 pub(crate) fn to_one(
     alloc: Global,
     to: PointCode,
-    message: &Message,
+    message: Message,
 ) -> Result<List<Sent>, OutOfMemory>
-    requires { Writable message.now }
-    ensures { IfOk result (λ sent. sent ≡ map written_sent (to_one to message.now)) }
+    requires { Writable message }
+    ensures { IfOk result (λ sent. sent ≡ map written_sent (to_one to message)) }
 {
     let octets = octets_of(alloc, message)?;
     let mut sent = List::new(alloc);
@@ -45,16 +54,17 @@ pub(crate) fn to_one(
 pub(crate) fn to_two(
     alloc: Global,
     to: PointCode,
-    message: &Message,
+    message: Message,
     then_to: PointCode,
-    then_message: &Message,
+    then_message: Message,
 ) -> Result<List<Sent>, OutOfMemory>
-    requires first { Writable message.now }
-    requires second { Writable then_message.now }
-    ensures { IfOk result (λ sent. sent ≡ map written_sent (to_one to message.now ++ to_one then_to then_message.now)) }
+    requires first { Writable message }
+    requires second { Writable then_message }
+    ensures { IfOk result (λ sent. sent ≡ map written_sent (to_one to message ++ to_one then_to then_message)) }
 {
+    let then_octets = octets_of(alloc, then_message);
     let mut sent = to_one(alloc, to, message)?;
-    let octets = octets_of(alloc, then_message)?;
+    let octets = then_octets?;
     sent.push(Sent {
         to: then_to,
         octets,
@@ -71,7 +81,7 @@ pub(crate) fn error(
 ) -> Result<List<Sent>, OutOfMemory>
     ensures { IfOk result (λ sent. sent ≡ map written_sent (to_one to (Message.Err dlr cause))) }
 {
-    to_one(alloc, to, &Message::Err { dlr, cause })
+    to_one(alloc, to, Message::Err { dlr, cause })
 }
 
 /// A refusal (CREF) without parameters.
@@ -84,7 +94,7 @@ pub(crate) fn refusal(
     ensures { IfOk result (λ sent. sent ≡ map written_sent (to_one to (Message.Cref dlr cause []))) }
 {
     let params = List::new(alloc);
-    to_one(alloc, to, &Message::Cref { dlr, cause, params })
+    to_one(alloc, to, Message::Cref { dlr, cause, params })
 }
 
 /// A confirmation (CC).
@@ -107,7 +117,7 @@ fn confirmation(
         class,
         params,
     };
-    to_one(alloc, to, &message)
+    to_one(alloc, to, message)
 }
 
 /// A confirmation toward a section, where there is one with a remote.
@@ -142,7 +152,7 @@ fn refusal_with(
     ensures { IfOk result (λ sent. sent ≡ map written_sent (to_one to (Message.Cref dlr cause params.now))) }
 {
     let params = copied(alloc, params)?;
-    to_one(alloc, to, &Message::Cref { dlr, cause, params })
+    to_one(alloc, to, Message::Cref { dlr, cause, params })
 }
 
 /// A refusal toward a section, where there is one with a remote.
@@ -177,7 +187,7 @@ fn data(
     ensures { IfOk result (λ sent. sent ≡ map written_sent (to_one to (Message.Dt1 dlr more payload.now))) }
 {
     let payload = payload.try_clone(alloc)?;
-    to_one(alloc, to, &Message::Dt1 { dlr, more, payload })
+    to_one(alloc, to, Message::Dt1 { dlr, more, payload })
 }
 
 /// Data toward a section, where there is one with a remote.
