@@ -8,7 +8,7 @@ use couple_chain::{Delivered, OfferFault};
 use plan_text::read;
 use sample_plans::ROAMING;
 use sccp_base::{Octets, PointCode, Reference};
-use sccp_message::{Message, decode, encode};
+use sccp_message::{Message, decode, discard, encode};
 use std::alloc::Global;
 use std::test::Fail;
 
@@ -62,7 +62,11 @@ fn deliver(
     to: PointCode,
 ) -> Result<(), Fail> {
     match world.deliver(from, to)? {
-        Delivered::Out(message) => handed(alloc, text, to, &message),
+        Delivered::Out(message) => {
+            let told = handed(alloc, text, to, &message);
+            discard(message);
+            told
+        }
         _ => Ok(()),
     }
 }
@@ -83,9 +87,11 @@ fn refused(
     world: &mut World,
     from: PointCode,
     to: PointCode,
-    message: &Message,
+    message: Message,
 ) -> Option<OfferFault> {
-    match world.offer(from, to, message) {
+    let offered = world.offer(from, to, &message);
+    discard(message);
+    match offered {
         Ok(()) => None,
         Err(fault) => Some(fault),
     }
@@ -103,7 +109,7 @@ fn offer(
     let to = point(to)?;
     let octets = hex::decode(alloc, octets)?;
     let message = decode(alloc, &octets)?;
-    Ok(refused(world, from, to, &message))
+    Ok(refused(world, from, to, message))
 }
 
 /// What comes of an offer: its fault, or what ends are handed.
@@ -257,7 +263,7 @@ fn offer_data(alloc: Global, world: &mut World, size: u32) -> Result<&'static st
     let from = point("1-0-1")?;
     let to = point("1-0-2")?;
     let message = data_of_size(alloc, size)?;
-    Ok(said(refused(world, from, to, &message)))
+    Ok(said(refused(world, from, to, message)))
 }
 
 /// The same in a new world.

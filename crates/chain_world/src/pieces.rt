@@ -8,7 +8,7 @@ use crate::line::Piece;
 use crate::offering::read;
 use couple_chain::Passed;
 use sccp_base::{List, Octets, OutOfMemory, Reference};
-use sccp_message::Message;
+use sccp_message::{Message, discard};
 use std::alloc::Global;
 
 /// A piece of data in memory of its own.
@@ -61,7 +61,11 @@ fn piece_read(alloc: Global, octets: &[u8], dlr: Reference) -> Result<Option<Pie
     ensures { IfOk result (λ p. option_map told_piece p ≡ piece_in (Some dlr) octets.now) }
 {
     match read(alloc, octets)? {
-        Some(message) => piece_for(alloc, &message, dlr),
+        Some(message) => {
+            let piece = piece_for(alloc, &message, dlr);
+            discard(message);
+            piece
+        }
         None => Ok(None),
     }
 }

@@ -6,6 +6,7 @@ ghost use Rattle.sccp_message.specs.declared.message.Message.{Message};
 ghost use Rattle.sccp_message.specs.Written.{message_octets, IsMessage, Sound};
 ghost use Rattle.plan_model.specs.Network.{has_point};
 ghost use Rattle.sccp_couple.specs.Sending.{HasShortParts};
+ghost use Rattle.couple_chain.specs.declared.happening.Happening.{Happening as Event};
 ghost use Rattle.couple_chain.specs.declared.happening.Happening.TheVariants.{Offers, Delivers};
 ghost use Rattle.couple_chain.specs.Fit.{IsFit};
 ghost use Rattle.couple_chain.specs.Relays.{first_relay};
@@ -27,7 +28,7 @@ use couple_chain::{Delivered, Happening, OfferFault, Relay};
 use plan_model::Plan;
 use sccp_base::{Octets, OutOfMemory, PointCode, Reference};
 use sccp_couple::{is_connection, vouch_short};
-use sccp_message::Message as Signal;
+use sccp_message::{Message as Signal, discard};
 use std::alloc::Global;
 use std::marker::Model;
 
@@ -53,6 +54,15 @@ impl Model for World {
     ghost view = { λ w. kept w.plan w.history.items };
 
     ghost invariant = { λ w. IsWorld w.plan w.relays.items w.links.items w.history.items };
+}
+
+/// The last event is taken back.
+fn take_back(history: &mut Vec<Happening>)
+    ensures { (before : List Event) (last : Event) → history.old.items ≡ before ++ last ∷ [] → history.new.items ≡ before }
+{
+    if let Some(Happening::Offers { message, .. }) = history.pop() {
+        discard(message);
+    }
 }
 
 /// So many relays, by their places.
@@ -156,7 +166,7 @@ impl World {
         match put(self.alloc, &mut self.links, from, to, octets) {
             Ok(()) => Ok(()),
             Err(fault) => {
-                self.history.pop();
+                take_back(&mut self.history);
                 Err(fault)
             }
         }
@@ -191,9 +201,16 @@ impl World {
         ensures ok { OnOk result (self.new ≡ kept self.old.plan (self.old.history ++ Offers from to read ∷ [])) }
         ensures err { OnErr result (self.new ≡ self.old) }
     {
-        let octets = self.tested(from, to, &read)?;
-        self.accept(from, to, read, octets)?;
-        Ok(())
+        match self.tested(from, to, &read) {
+            Ok(octets) => {
+                self.accept(from, to, read, octets)?;
+                Ok(())
+            }
+            Err(fault) => {
+                discard(read);
+                Err(fault)
+            }
+        }
     }
 
     /// The first test that an offer fails of a message that octets don't say.
@@ -252,9 +269,16 @@ impl World {
         ensures ok { OnOk result (self.new ≡ kept self.old.plan (self.old.history ++ Delivers from to ∷ [])) }
         ensures err { OnErr result (self.new ≡ self.old) }
     {
-        self.history.push(Happening::Delivers { from, to })?;
-        pass(&mut self.links, from, to);
-        Ok(Delivered::Out(message))
+        match self.history.push(Happening::Delivers { from, to }) {
+            Ok(()) => {
+                pass(&mut self.links, from, to);
+                Ok(Delivered::Out(message))
+            }
+            Err(_) => {
+                discard(message);
+                Err(OutOfMemory)
+            }
+        }
     }
 
     /// A relay takes the oldest message, and what it sends goes on its links.
@@ -288,7 +312,7 @@ impl World {
                 Ok(Delivered::Handled)
             }
             Err(fault) => {
-                self.history.pop();
+                take_back(&mut self.history);
                 Err(fault)
             }
         }
@@ -305,7 +329,11 @@ impl World {
             None => self.deliver_nothing(from, to),
             Some(message) => match self.plan.node_at(to) {
                 None => self.hand_out(from, to, message),
-                Some(node) => self.handle(node, from, to, &message),
+                Some(node) => {
+                    let handled = self.handle(node, from, to, &message);
+                    discard(message);
+                    handled
+                }
             },
         }
     }

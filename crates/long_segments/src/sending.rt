@@ -13,7 +13,7 @@ use crate::long_fault::LongFault;
 use sccp_address::Address;
 use sccp_base::{List, Octets, OutOfMemory, Reference};
 use sccp_layout::Param;
-use sccp_message::{DecodeFault, EncodeFault, Message, decode, encode, param};
+use sccp_message::{DecodeFault, EncodeFault, Message, decode, discard, encode, param};
 use sccp_segment::{Segment, SplitDataFault, copied_address, split_data};
 use std::alloc::Global;
 
@@ -105,7 +105,9 @@ fn written(alloc: Global, frame: &Frame, segment: &Segment) -> Result<Octets, En
     ensures exact { Encodes (λ octets. octets) result (encoding (segment_message frame.now.class frame.now.hops frame.now.called frame.now.calling frame.now.params segment.now)) }
 {
     let message = message(alloc, frame, segment)?;
-    encode(alloc, &message)
+    let octets = encode(alloc, &message);
+    discard(message);
+    octets
 }
 
 // The octets of further segments, which can be written.
@@ -237,6 +239,9 @@ pub fn send_on(
             };
             send_message(alloc, &frame, payload.as_slice(), size, reference)
         }
-        _ => Err(LongFault::NotLong),
+        other => {
+            discard(other);
+            Err(LongFault::NotLong)
+        }
     }
 }

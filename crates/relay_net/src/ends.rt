@@ -8,7 +8,7 @@ ghost use Rattle.relay_net.specs.Journeys.{last_node};
 
 use sccp_address::Address;
 use sccp_base::OutOfMemory;
-use sccp_message::{DecodeFault, Message, decode};
+use sccp_message::{DecodeFault, Message, decode, discard};
 use std::alloc::Global;
 
 /// The last of some nodes, or the first one where there is none.
@@ -49,7 +49,11 @@ pub(crate) fn ssn_in(alloc: Global, octets: &[u8]) -> Result<Option<u8>, OutOfMe
     ensures { IfOk result (λ ssn. ssn ≡ ssn_in (reading octets.now)) }
 {
     match decode(alloc, octets) {
-        Ok(message) => Ok(ssn_of(&message)),
+        Ok(message) => {
+            let ssn = ssn_of(&message);
+            discard(message);
+            Ok(ssn)
+        }
         Err(DecodeFault::OutOfMemory) => Err(OutOfMemory),
         Err(_) => Ok(None),
     }

@@ -12,15 +12,17 @@ use crate::section::Section;
 use sccp_base::{List, Octets, OutOfMemory, PointCode, Reference};
 use sccp_layout::Param;
 use sccp_manage::Sent;
-use sccp_message::{EncodeFault, Message, encode};
+use sccp_message::{EncodeFault, Message, discard, encode};
 use std::alloc::Global;
 
-/// What is written of a message, which ends here: in one place it goes out of scope.
+/// What is written of a message, which nobody wants any more.
 fn written(alloc: Global, message: Message) -> Result<Octets, EncodeFault>
     requires { Writable message }
     ensures { Gives (λ octets. octets) result (Ok (message_octets message)) }
 {
-    encode(alloc, &message)
+    let octets = encode(alloc, &message);
+    discard(message);
+    octets
 }
 
 /// The octets of a message that can be written.

@@ -4,7 +4,7 @@ ghost use Rattle.sccp_manage.specs.Statuses.{code_of, kind_of, management, statu
 
 use sccp_address::{Address, Title};
 use sccp_base::{Octets, OutOfMemory, PointCode};
-use sccp_message::{EncodeFault, Message, encode};
+use sccp_message::{EncodeFault, Message, discard, encode};
 use std::alloc::Global;
 
 /// The kinds of status message (Q.713 section 5), in the order of their numbers, which go from 1 to 6.
@@ -133,7 +133,9 @@ pub fn octets_of(alloc: Global, status: &StatusMessage) -> Result<Octets, OutOfM
         calling: management(),
         payload,
     };
-    match encode(alloc, &message) {
+    let octets = encode(alloc, &message);
+    discard(message);
+    match octets {
         Ok(octets) => Ok(octets),
         Err(EncodeFault::OutOfMemory) => Err(OutOfMemory),
         Err(_) => unreachable!(),

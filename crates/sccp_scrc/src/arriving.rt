@@ -18,7 +18,7 @@ use crate::rewriting::{address_after, spot_in};
 use plan_model::{Plan, Step, step};
 use sccp_address::Address;
 use sccp_base::{List, Mark, Marking, OutOfMemory, PointCode};
-use sccp_message::{DecodeFault, Message, decode};
+use sccp_message::{DecodeFault, Message, decode, discard};
 use std::alloc::Global;
 
 pub(crate) fn own_point(plan: &Plan, node: u8) -> PointCode
@@ -67,8 +67,13 @@ fn at_subsystem(
     }
     let own = own_point(plan, node);
     if marking.holds(Mark::Subsystem(own, ssn)) {
-        let marks = one_mark(alloc, Mark::Subsystem(own, ssn))?;
-        return returned(alloc, marking, origin, message, 3, marks);
+        return match one_mark(alloc, Mark::Subsystem(own, ssn)) {
+            Ok(marks) => returned(alloc, marking, origin, message, 3, marks),
+            Err(fault) => {
+                discard(message);
+                Err(fault)
+            }
+        };
     }
     Ok(Arrival::Local { ssn, message })
 }
@@ -150,9 +155,16 @@ fn at_title(
     match spot_in(node, &message) {
         None => returned(alloc, marking, origin, message, 0, List::new(alloc)),
         Some(spot) => {
-            let step = step(alloc, plan, &spot, marking)?;
-            let to = address_after(&message, &spot, &step);
-            after(alloc, plan, node, marking, origin, message, to, step)
+            match step(alloc, plan, &spot, marking) {
+                Ok(step) => {
+                    let to = address_after(&message, &spot, &step);
+                    after(alloc, plan, node, marking, origin, message, to, step)
+                }
+                Err(fault) => {
+                    discard(message);
+                    Err(fault)
+                }
+            }
         }
     }
 }

@@ -11,7 +11,7 @@ use crate::returning::returned;
 use crate::rewriting::{restore, rewrite};
 use sccp_address::Address;
 use sccp_base::{List, Marking, Octets, OutOfMemory, PointCode};
-use sccp_message::{EncodeFault, Message, encode};
+use sccp_message::{EncodeFault, Message, discard, encode};
 use std::alloc::Global;
 
 /// The octets of a message, where it can be written.
@@ -41,9 +41,12 @@ pub(crate) fn relay(
 {
     let before = hops(&message).unwrap_or(0);
     let (new, old) = rewrite(message, to);
-    match octets_of(alloc, &new)? {
-        Some(octets) => Ok(Arrival::Relayed { pc, octets }),
-        None => returned(
+    match octets_of(alloc, &new) {
+        Ok(Some(octets)) => {
+            discard(new);
+            Ok(Arrival::Relayed { pc, octets })
+        }
+        Ok(None) => returned(
             alloc,
             marking,
             origin,
@@ -51,6 +54,10 @@ pub(crate) fn relay(
             9,
             List::new(alloc),
         ),
+        Err(fault) => {
+            discard(new);
+            Err(fault)
+        }
     }
 }
 
@@ -69,9 +76,12 @@ fn depart(
 {
     let before = hops(&message).unwrap_or(0);
     let (new, old) = rewrite(message, to);
-    match octets_of(alloc, &new)? {
-        Some(octets) => Ok(Arrival::Ended { pc, ssn, octets }),
-        None => returned(
+    match octets_of(alloc, &new) {
+        Ok(Some(octets)) => {
+            discard(new);
+            Ok(Arrival::Ended { pc, ssn, octets })
+        }
+        Ok(None) => returned(
             alloc,
             marking,
             origin,
@@ -79,6 +89,10 @@ fn depart(
             9,
             List::new(alloc),
         ),
+        Err(fault) => {
+            discard(new);
+            Err(fault)
+        }
     }
 }
 

@@ -13,7 +13,7 @@ use crate::service::Service;
 use crate::way::Way;
 use sccp_address::Address;
 use sccp_base::{List, Mark, Marking, OutOfMemory, PointCode};
-use sccp_message::{Message, wants_return};
+use sccp_message::{Message, discard, wants_return};
 use std::alloc::Global;
 
 /// The way to a point.
@@ -62,7 +62,10 @@ macro_rules! by_type {
             $(Message::$type { called, calling, payload, params, .. } => Some(
                 Message::$service { cause: $cause, hops: 15, called: calling, calling: called, payload, params }
             ),)*
-            _ => None,
+            other => {
+                discard(other);
+                None
+            }
         }
     };
 }
@@ -113,10 +116,15 @@ fn service_for(
     ensures { IfOk result (λ s. s ≡ service_for marking.now origin cause message) }
 {
     if !asks_for_return(&message) {
+        discard(message);
         return Ok(None);
     }
     match service_message(cause, message) {
-        Some(service) => service_by(alloc, marking, origin, &service),
+        Some(service) => {
+            let by = service_by(alloc, marking, origin, &service);
+            discard(service);
+            by
+        }
         None => Ok(None),
     }
 }

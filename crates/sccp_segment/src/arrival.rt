@@ -9,7 +9,7 @@ use crate::segment::Segment;
 use sccp_address::Address;
 use sccp_base::{List, Octets, OutOfMemory, Reference};
 use sccp_layout::Param;
-use sccp_message::{Message, param};
+use sccp_message::{Message, discard, param};
 use std::alloc::Global;
 
 // The name of the segmentation parameter (Q.713 section 3.17).
@@ -58,7 +58,10 @@ impl Arrival {
                 params,
                 ..
             } => by(calling, payload, &params),
-            _ => None,
+            other => {
+                discard(other);
+                None
+            }
         }
     }
 

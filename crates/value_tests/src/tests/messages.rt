@@ -2,7 +2,7 @@
 use sccp_address::{Address, Title};
 use sccp_base::{Digits, List, Octets, OutOfMemory, PointCode, Selector};
 use sccp_layout::{Fixed, Layout, Param, layout};
-use sccp_message::{EncodeFault, Message, encode, param, wants_return};
+use sccp_message::{EncodeFault, Message, discard, encode, param, wants_return};
 use sccp_report::message_text;
 use std::alloc::Global;
 use std::test::Fail;
@@ -122,6 +122,13 @@ fn octets(alloc: Global, count: usize) -> Result<Octets, OutOfMemory> {
     Ok(Octets::from_vec(vec![in alloc; 0x55; count]?))
 }
 
+/// The fault of writing a message, which nobody wants any more.
+fn fault_of(alloc: Global, message: Message) -> Option<EncodeFault> {
+    let fault = encode(alloc, &message).err();
+    discard(message);
+    fault
+}
+
 /// The fault of a UDT with so many octets of data.
 fn fault_of_udt(alloc: Global, count: usize) -> Result<Option<EncodeFault>, OutOfMemory> {
     let message = Message::Udt {
@@ -130,7 +137,7 @@ fn fault_of_udt(alloc: Global, count: usize) -> Result<Option<EncodeFault>, OutO
         calling: by_number(8),
         payload: octets(alloc, count)?,
     };
-    Ok(encode(alloc, &message).err())
+    Ok(fault_of(alloc, message))
 }
 
 /// The fault of an LUDT with so many octets of data.
@@ -143,7 +150,7 @@ fn fault_of_ludt(alloc: Global, count: usize) -> Result<Option<EncodeFault>, Out
         payload: octets(alloc, count)?,
         params: List::new(alloc),
     };
-    Ok(encode(alloc, &message).err())
+    Ok(fault_of(alloc, message))
 }
 
 #[test]
@@ -180,7 +187,7 @@ fn fault_of_xudt(
         payload: octets(alloc, 230)?,
         params,
     };
-    Ok(encode(alloc, &message).err())
+    Ok(fault_of(alloc, message))
 }
 
 /// The pointer to the optional part reaches 255 octets. That a part is too long is told before a pointer that is too far.
