@@ -13,7 +13,7 @@ use crate::holds_marking::HoldsMarking;
 use crate::travelling::{point_of, travel};
 use plan_model::Plan;
 use sccp_base::{List, Marking, OutOfMemory, PointCode};
-use sccp_message::Message;
+use sccp_message::{Message, discard};
 use sccp_scrc::{Arrival, arrive_message, pass_on};
 use std::alloc::Global;
 
@@ -126,6 +126,7 @@ fn end_ride<S: HoldsMarking>(
     ensures path { IfOk result (λ last. path.new ≡ path.old ++ (travel plan.now (map S.held states.now) left node origin (message_octets message)).path) }
 {
     if left == 0 {
+        discard(message);
         return Ok(None);
     }
     path.push(node)?;
@@ -166,15 +167,20 @@ pub(crate) fn travel_unwritten<S: HoldsMarking>(
     ensures path { IfOk result (λ last. path.new ≡ path.old ++ (travel plan.now (map S.held states.now) left node origin (message_octets message)).path) }
 {
     let mut ridden = message;
-    let rest = ride(alloc, plan, states, left, node, origin, &mut ridden, path)?;
-    end_ride(
-        alloc,
-        plan,
-        states,
-        rest.left,
-        rest.node,
-        rest.origin,
-        ridden,
-        path,
-    )
+    match ride(alloc, plan, states, left, node, origin, &mut ridden, path) {
+        Ok(rest) => end_ride(
+            alloc,
+            plan,
+            states,
+            rest.left,
+            rest.node,
+            rest.origin,
+            ridden,
+            path,
+        ),
+        Err(fault) => {
+            discard(ridden);
+            Err(fault)
+        }
+    }
 }
