@@ -8,7 +8,7 @@ use couple_chain::{Delivered, OfferFault};
 use plan_text::read;
 use sample_plans::ROAMING;
 use sccp_base::{Octets, PointCode, Reference};
-use sccp_message::{Message, decode, discard, encode};
+use sccp_message::{Message, decode, encode};
 use std::alloc::Global;
 use std::test::Fail;
 
@@ -64,7 +64,7 @@ fn deliver(
     match world.deliver(from, to)? {
         Delivered::Out(message) => {
             let told = handed(alloc, text, to, &message);
-            discard(message);
+            drop(message);
             told
         }
         _ => Ok(()),
@@ -90,7 +90,7 @@ fn refused(
     message: Message,
 ) -> Option<OfferFault> {
     let offered = world.offer(from, to, &message);
-    discard(message);
+    drop(message);
     match offered {
         Ok(()) => None,
         Err(fault) => Some(fault),

@@ -8,7 +8,7 @@ use crate::line::Piece;
 use crate::offering::read;
 use couple_chain::Passed;
 use sccp_base::{List, Octets, OutOfMemory, Reference};
-use sccp_message::{Message, discard};
+use sccp_message::Message;
 use std::alloc::Global;
 
 /// A piece of data in memory of its own.
@@ -63,7 +63,7 @@ fn piece_read(alloc: Global, octets: &[u8], dlr: Reference) -> Result<Option<Pie
     match read(alloc, octets)? {
         Some(message) => {
             let piece = piece_for(alloc, &message, dlr);
-            discard(message);
+            drop(message);
             piece
         }
         None => Ok(None),

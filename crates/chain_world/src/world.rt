@@ -28,7 +28,7 @@ use couple_chain::{Delivered, Happening, OfferFault, Relay};
 use plan_model::Plan;
 use sccp_base::{Octets, OutOfMemory, PointCode, Reference};
 use sccp_couple::{is_connection, vouch_short};
-use sccp_message::{Message as Signal, discard};
+use sccp_message::Message as Signal;
 use std::alloc::Global;
 use std::marker::Model;
 
@@ -61,7 +61,7 @@ fn take_back(history: &mut Vec<Happening>)
     ensures { (before : List Event) (last : Event) → history.old.items ≡ before ++ last ∷ [] → history.new.items ≡ before }
 {
     if let Some(Happening::Offers { message, .. }) = history.pop() {
-        discard(message);
+        drop(message);
     }
 }
 
@@ -207,7 +207,7 @@ impl World {
                 Ok(())
             }
             Err(fault) => {
-                discard(read);
+                drop(read);
                 Err(fault)
             }
         }
@@ -275,7 +275,7 @@ impl World {
                 Ok(Delivered::Out(message))
             }
             Err(_) => {
-                discard(message);
+                drop(message);
                 Err(OutOfMemory)
             }
         }
@@ -331,7 +331,7 @@ impl World {
                 None => self.hand_out(from, to, message),
                 Some(node) => {
                     let handled = self.handle(node, from, to, &message);
-                    discard(message);
+                    drop(message);
                     handled
                 }
             },

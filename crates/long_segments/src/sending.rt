@@ -13,7 +13,7 @@ use crate::long_fault::LongFault;
 use sccp_address::Address;
 use sccp_base::{List, Octets, OutOfMemory, Reference};
 use sccp_layout::Param;
-use sccp_message::{DecodeFault, EncodeFault, Message, decode, discard, encode, param};
+use sccp_message::{DecodeFault, EncodeFault, Message, decode, encode, param};
 use sccp_segment::{Segment, SplitDataFault, copied_address, split_data};
 use std::alloc::Global;
 
@@ -106,7 +106,7 @@ fn written(alloc: Global, frame: &Frame, segment: &Segment) -> Result<Octets, En
 {
     let message = message(alloc, frame, segment)?;
     let octets = encode(alloc, &message);
-    discard(message);
+    drop(message);
     octets
 }
 
@@ -240,7 +240,7 @@ pub fn send_on(
             send_message(alloc, &frame, payload.as_slice(), size, reference)
         }
         other => {
-            discard(other);
+            drop(other);
             Err(LongFault::NotLong)
         }
     }

@@ -8,7 +8,7 @@ ghost use Rattle.relay_net.specs.Journeys.{last_node};
 
 use sccp_address::Address;
 use sccp_base::OutOfMemory;
-use sccp_message::{DecodeFault, Message, decode, discard};
+use sccp_message::{DecodeFault, Message, decode};
 use std::alloc::Global;
 
 /// The last of some nodes, or the first one where there is none.
@@ -51,7 +51,7 @@ pub(crate) fn ssn_in(alloc: Global, octets: &[u8]) -> Result<Option<u8>, OutOfMe
     match decode(alloc, octets) {
         Ok(message) => {
             let ssn = ssn_of(&message);
-            discard(message);
+            drop(message);
             Ok(ssn)
         }
         Err(DecodeFault::OutOfMemory) => Err(OutOfMemory),

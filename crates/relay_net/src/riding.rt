@@ -13,7 +13,7 @@ use crate::holds_marking::HoldsMarking;
 use crate::travelling::{point_of, travel};
 use plan_model::Plan;
 use sccp_base::{List, Marking, OutOfMemory, PointCode};
-use sccp_message::{Message, discard};
+use sccp_message::Message;
 use sccp_scrc::{Arrival, arrive_message, pass_on};
 use std::alloc::Global;
 
@@ -126,7 +126,7 @@ fn end_ride<S: HoldsMarking>(
     ensures path { IfOk result (λ last. path.new ≡ path.old ++ (travel plan.now (map S.held states.now) left node origin (message_octets message)).path) }
 {
     if left == 0 {
-        discard(message);
+        drop(message);
         return Ok(None);
     }
     path.push(node)?;
@@ -179,7 +179,7 @@ pub(crate) fn travel_unwritten<S: HoldsMarking>(
             path,
         ),
         Err(fault) => {
-            discard(ridden);
+            drop(ridden);
             Err(fault)
         }
     }

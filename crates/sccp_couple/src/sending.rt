@@ -12,7 +12,7 @@ use crate::section::Section;
 use sccp_base::{List, Octets, OutOfMemory, PointCode, Reference};
 use sccp_layout::Param;
 use sccp_manage::Sent;
-use sccp_message::{EncodeFault, Message, discard, encode};
+use sccp_message::{EncodeFault, Message, encode};
 use std::alloc::Global;
 
 /// What is written of a message, which nobody wants any more.
@@ -21,7 +21,7 @@ fn written(alloc: Global, message: Message) -> Result<Octets, EncodeFault>
     ensures { Gives (λ octets. octets) result (Ok (message_octets message)) }
 {
     let octets = encode(alloc, &message);
-    discard(message);
+    drop(message);
     octets
 }
 

@@ -4,7 +4,7 @@ ghost use Rattle.sccp_manage.specs.Statuses.{code_of, kind_of, management, statu
 
 use sccp_address::{Address, Title};
 use sccp_base::{Octets, OutOfMemory, PointCode};
-use sccp_message::{EncodeFault, Message, discard, encode};
+use sccp_message::{EncodeFault, Message, encode};
 use std::alloc::Global;
 
 /// The kinds of status message (Q.713 section 5), in the order of their numbers, which go from 1 to 6.
@@ -134,7 +134,7 @@ pub fn octets_of(alloc: Global, status: &StatusMessage) -> Result<Octets, OutOfM
         payload,
     };
     let octets = encode(alloc, &message);
-    discard(message);
+    drop(message);
     match octets {
         Ok(octets) => Ok(octets),
         Err(EncodeFault::OutOfMemory) => Err(OutOfMemory),

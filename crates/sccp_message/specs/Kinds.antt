@@ -7,9 +7,13 @@ use Rattle.sccp_message.specs.declared.fault.DecodeFault.{DecodeFault}
 use Rattle.sccp_message.specs.declared.fault.DecodeFault.TheVariants as faults
 use Rattle.sccp_message.specs.Reading.{message_in}
 
--- connectionless: a called and a calling address, and data
-abbrev pub is_connectionless : ℕ → Bool
-is_connectionless code = (code == 0x09) || (code == 0x0A) || (code == 0x11) || (code == 0x12) || (code == 0x13) || (code == 0x14)
+-- connectionless without an optional part: a called and a calling address, and data
+abbrev pub is_plain : ℕ → Bool
+is_plain code = (code == 0x09) || (code == 0x0A)
+
+-- connectionless with a hop counter and an optional part beside these
+abbrev pub is_extended : ℕ → Bool
+is_extended code = (code == 0x11) || (code == 0x12) || (code == 0x13) || (code == 0x14)
 
 -- connection-oriented, with an optional part
 abbrev pub has_parameters : ℕ → Bool

@@ -1,7 +1,9 @@
-ghost use Rattle.std.specs.Prelude.{◌≡◌, Some, Ok, IfOk, IfErr, ◌⊎◌};
+ghost use Rattle.std.specs.Prelude.{◌≡◌, ◌≤◌, ◌-◌, [], ◌∷◌, length, slice_get, Some, Ok, IfOk, IfErr, ◌⊎◌};
+ghost use Rattle.std.specs.List.{range_with_len};
+ghost use Rattle.sccp_base.specs.Answers.{all_ok};
 ghost use Rattle.sccp_layout.specs.Parts.{FitsLayout};
-ghost use Rattle.sccp_message.specs.Reading.{Gives, message_in, reading, first_fault};
-ghost use Rattle.sccp_message.specs.Kinds.{is_connectionless, has_parameters, has_no_parameters, message_if_of};
+ghost use Rattle.sccp_message.specs.Reading.{Gives, address_in, message_in, reading, first_fault};
+ghost use Rattle.sccp_message.specs.Kinds.{is_plain, is_extended, has_parameters, has_no_parameters, message_if_of};
 ghost use Rattle.sccp_message.specs.declared.message.Message.{Message};
 ghost use Rattle.sccp_message.specs.Reads.{Reads};
 ghost use Rattle.sccp_message.specs.Written.{Sound, IsMessage};
@@ -10,7 +12,9 @@ use crate::fault::DecodeFault;
 use crate::fields::{address, data, is_more, reference, sequence};
 use crate::message::Message;
 use crate::params::{CALLED, CALLING, CREDIT, DATA, HOPS, IMPORTANCE, SEGMENTATION, tested};
-use sccp_layout::{Parts, SplitFault, split};
+use sccp_address::Address;
+use sccp_base::{List, Octets};
+use sccp_layout::{Part, Parts, SplitFault, split};
 use std::alloc::Global;
 
 // The value of one field: it stands at a place of the fixed part, it is a variable part, or it is the parameters, of
@@ -58,25 +62,89 @@ macro_rules! by_code {
     }};
 }
 
-// Types with a called and a calling address, and data.
-fn connectionless_code(code: u8) -> bool
-    ensures { result ≡ is_connectionless code }
+// The same of the types that carry addresses and data: their fixed octets, and of some the tested parameters.
+macro_rules! connectionless {
+    ($parts:expr, $alloc:ident; $($value:literal $variant:ident { $($octet:ident: octet($place:literal)),* $(; known($($name:ident),*))? })*) => {{
+        let Parts {
+            code,
+            fixed,
+            variable,
+            params,
+        } = $parts;
+        let fixed = fixed.as_slice();
+        match code {
+            $($value => {
+                let Carried { called, calling, payload } = what_is_carried($alloc, &variable)?;
+                Ok(Message::$variant {
+                    $($octet: fixed[$place],)*
+                    called,
+                    calling,
+                    payload,
+                    $(params: tested($alloc, &[$($name),*], params)?,)?
+                })
+            })*
+            _ => Err(DecodeFault::Split(SplitFault::UnknownType)),
+        }
+    }};
+}
+
+// What every connectionless message carries: its addresses are the first two variable parts, and its data are the last.
+struct Carried {
+    called: Address,
+    calling: Address,
+    payload: Octets,
+}
+
+fn what_is_carried(alloc: Global, variable: &List<Part<'_>>) -> Result<Carried, DecodeFault>
+    requires { 2 ≤ length variable.now }
+    ensures addresses { Gives (λ c. c.called ∷ c.calling ∷ []) result (all_ok (address_in variable.now) (range_with_len 0 2)) }
+    ensures payload { IfOk result (λ c. slice_get variable.now (length variable.now - 1) ≡ Some c.payload) }
 {
-    code == 0x09 || code == 0x0A || code == 0x11 || code == 0x12 || code == 0x13 || code == 0x14
+    let called = address(alloc, variable, 0)?;
+    let calling = address(alloc, variable, 1)?;
+    let payload = data(alloc, variable)?;
+    Ok(Carried {
+        called,
+        calling,
+        payload,
+    })
+}
+
+// Connectionless types without an optional part.
+fn plain_code(code: u8) -> bool
+    ensures { result ≡ is_plain code }
+{
+    code == 0x09 || code == 0x0A
 }
 
 #[tactic(auto, unfolding(crate::specs::Reading::message_in))]
-fn connectionless(alloc: Global, parts: Parts<'_>) -> Result<Message, DecodeFault>
+fn plain(alloc: Global, parts: Parts<'_>) -> Result<Message, DecodeFault>
     requires { FitsLayout parts }
-    ensures { Gives (λ m. m) result (message_if_of is_connectionless parts.entry) }
+    ensures { Gives (λ m. m) result (message_if_of is_plain parts.entry) }
 {
-    by_code! { parts, alloc;
-        0x09 Udt { class: octet(0), called: address(0), calling: address(1), payload: data() }
-        0x0A Udts { cause: octet(0), called: address(0), calling: address(1), payload: data() }
-        0x11 Xudt { class: octet(0), hops: octet(1), called: address(0), calling: address(1), payload: data(), params: known(SEGMENTATION, IMPORTANCE) }
-        0x12 Xudts { cause: octet(0), hops: octet(1), called: address(0), calling: address(1), payload: data(), params: known(SEGMENTATION, IMPORTANCE) }
-        0x13 Ludt { class: octet(0), hops: octet(1), called: address(0), calling: address(1), payload: data(), params: known(SEGMENTATION, IMPORTANCE) }
-        0x14 Ludts { cause: octet(0), hops: octet(1), called: address(0), calling: address(1), payload: data(), params: known(SEGMENTATION, IMPORTANCE) }
+    connectionless! { parts, alloc;
+        0x09 Udt { class: octet(0) }
+        0x0A Udts { cause: octet(0) }
+    }
+}
+
+// Connectionless types with a hop counter and an optional part.
+fn extended_code(code: u8) -> bool
+    ensures { result ≡ is_extended code }
+{
+    code == 0x11 || code == 0x12 || code == 0x13 || code == 0x14
+}
+
+#[tactic(auto, unfolding(crate::specs::Reading::message_in))]
+fn extended(alloc: Global, parts: Parts<'_>) -> Result<Message, DecodeFault>
+    requires { FitsLayout parts }
+    ensures { Gives (λ m. m) result (message_if_of is_extended parts.entry) }
+{
+    connectionless! { parts, alloc;
+        0x11 Xudt { class: octet(0), hops: octet(1); known(SEGMENTATION, IMPORTANCE) }
+        0x12 Xudts { cause: octet(0), hops: octet(1); known(SEGMENTATION, IMPORTANCE) }
+        0x13 Ludt { class: octet(0), hops: octet(1); known(SEGMENTATION, IMPORTANCE) }
+        0x14 Ludts { cause: octet(0), hops: octet(1); known(SEGMENTATION, IMPORTANCE) }
     }
 }
 
@@ -140,8 +208,11 @@ fn message(alloc: Global, parts: Parts<'_>) -> Result<Message, DecodeFault>
     requires { FitsLayout parts }
     ensures { Gives (λ m. m) result (message_in parts.entry) }
 {
-    if connectionless_code(parts.code) {
-        return connectionless(alloc, parts);
+    if plain_code(parts.code) {
+        return plain(alloc, parts);
+    }
+    if extended_code(parts.code) {
+        return extended(alloc, parts);
     }
     if code_with_parameters(parts.code) {
         return with_parameters(alloc, parts);

@@ -18,7 +18,7 @@ use crate::rewriting::{address_after, spot_in};
 use plan_model::{Plan, Step, step};
 use sccp_address::Address;
 use sccp_base::{List, Mark, Marking, OutOfMemory, PointCode};
-use sccp_message::{DecodeFault, Message, decode, discard};
+use sccp_message::{DecodeFault, Message, decode};
 use std::alloc::Global;
 
 pub(crate) fn own_point(plan: &Plan, node: u8) -> PointCode
@@ -70,7 +70,7 @@ fn at_subsystem(
         return match one_mark(alloc, Mark::Subsystem(own, ssn)) {
             Ok(marks) => returned(alloc, marking, origin, message, 3, marks),
             Err(fault) => {
-                discard(message);
+                drop(message);
                 Err(fault)
             }
         };
@@ -161,7 +161,7 @@ fn at_title(
                     after(alloc, plan, node, marking, origin, message, to, step)
                 }
                 Err(fault) => {
-                    discard(message);
+                    drop(message);
                     Err(fault)
                 }
             }

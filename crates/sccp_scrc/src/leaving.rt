@@ -11,7 +11,7 @@ use crate::returning::returned;
 use crate::rewriting::{restore, rewrite};
 use sccp_address::Address;
 use sccp_base::{List, Marking, Octets, OutOfMemory, PointCode};
-use sccp_message::{EncodeFault, Message, discard, encode};
+use sccp_message::{EncodeFault, Message, encode};
 use std::alloc::Global;
 
 /// The octets of a message, where it can be written.
@@ -43,7 +43,7 @@ pub(crate) fn relay(
     let (new, old) = rewrite(message, to);
     match octets_of(alloc, &new) {
         Ok(Some(octets)) => {
-            discard(new);
+            drop(new);
             Ok(Arrival::Relayed { pc, octets })
         }
         Ok(None) => returned(
@@ -55,7 +55,7 @@ pub(crate) fn relay(
             List::new(alloc),
         ),
         Err(fault) => {
-            discard(new);
+            drop(new);
             Err(fault)
         }
     }
@@ -78,7 +78,7 @@ fn depart(
     let (new, old) = rewrite(message, to);
     match octets_of(alloc, &new) {
         Ok(Some(octets)) => {
-            discard(new);
+            drop(new);
             Ok(Arrival::Ended { pc, ssn, octets })
         }
         Ok(None) => returned(
@@ -90,7 +90,7 @@ fn depart(
             List::new(alloc),
         ),
         Err(fault) => {
-            discard(new);
+            drop(new);
             Err(fault)
         }
     }

@@ -13,7 +13,7 @@ use crate::service::Service;
 use crate::way::Way;
 use sccp_address::Address;
 use sccp_base::{List, Mark, Marking, OutOfMemory, PointCode};
-use sccp_message::{Message, discard, wants_return};
+use sccp_message::{Message, wants_return};
 use std::alloc::Global;
 
 /// The way to a point.
@@ -63,7 +63,7 @@ macro_rules! by_type {
                 Message::$service { cause: $cause, hops: 15, called: calling, calling: called, payload, params }
             ),)*
             other => {
-                discard(other);
+                drop(other);
                 None
             }
         }
@@ -116,13 +116,13 @@ fn service_for(
     ensures { IfOk result (λ s. s ≡ service_for marking.now origin cause message) }
 {
     if !asks_for_return(&message) {
-        discard(message);
+        drop(message);
         return Ok(None);
     }
     match service_message(cause, message) {
         Some(service) => {
             let by = service_by(alloc, marking, origin, &service);
-            discard(service);
+            drop(service);
             by
         }
         None => Ok(None),

@@ -9,7 +9,7 @@ use crate::segment::Segment;
 use sccp_address::Address;
 use sccp_base::{List, Octets, OutOfMemory, Reference};
 use sccp_layout::Param;
-use sccp_message::{Message, discard, param};
+use sccp_message::{Message, param};
 use std::alloc::Global;
 
 // The name of the segmentation parameter (Q.713 section 3.17).
@@ -59,7 +59,7 @@ impl Arrival {
                 ..
             } => by(calling, payload, &params),
             other => {
-                discard(other);
+                drop(other);
                 None
             }
         }

@@ -2,7 +2,7 @@
 use sccp_address::{Address, Title};
 use sccp_base::{Digits, List, Octets, OutOfMemory, PointCode, Selector};
 use sccp_layout::{Fixed, Layout, Param, layout};
-use sccp_message::{EncodeFault, Message, discard, encode, param, wants_return};
+use sccp_message::{EncodeFault, Message, encode, param, wants_return};
 use sccp_report::message_text;
 use std::alloc::Global;
 use std::test::Fail;
@@ -125,7 +125,7 @@ fn octets(alloc: Global, count: usize) -> Result<Octets, OutOfMemory> {
 /// The fault of writing a message, which nobody wants any more.
 fn fault_of(alloc: Global, message: Message) -> Option<EncodeFault> {
     let fault = encode(alloc, &message).err();
-    discard(message);
+    drop(message);
     fault
 }
 
