@@ -1,6 +1,7 @@
 //! Look-ups in a relay's rows with the rows counted that are looked at.
 ghost use Rattle.std.specs.Prelude.{◌≡◌, ◌≤◌, ◌<◌, ◌+◌, length};
 
+use plan_model::Plan;
 use plan_rules::{Steps, Table};
 use plan_text::read;
 use sample_plans::NESTED_PREFIXES;
@@ -47,12 +48,7 @@ fn counted(table: &Table, selector: Selector, digits: &Digits) -> Option<usize>
 }
 
 /// The row that counts for a title at the plan's first relay, without a count and with one.
-fn rows_for(
-    alloc: Global,
-    text: &str,
-    digits: &str,
-) -> Result<(Option<usize>, Option<usize>), Fail> {
-    let plan = read(alloc, text.as_bytes())?;
+fn rows_of(plan: &Plan, digits: &str) -> Result<(Option<usize>, Option<usize>), Fail> {
     let selector = Selector::new(4, 0, 1, 4).ok_or("a selector")?;
     let digits = Digits::parse(digits.as_bytes())?;
     let Some(node) = plan.nodes().as_slice().first() else {
@@ -65,6 +61,18 @@ fn rows_for(
         node.table.find(selector, 6, &digits),
         counted(&node.table, selector, &digits),
     ))
+}
+
+/// The same of a plan's text.
+fn rows_for(
+    alloc: Global,
+    text: &str,
+    digits: &str,
+) -> Result<(Option<usize>, Option<usize>), Fail> {
+    let plan = read(alloc, text.as_bytes())?;
+    let rows = rows_of(&plan, digits);
+    drop(plan);
+    rows
 }
 
 #[test]

@@ -98,21 +98,34 @@ fn cuts_are_refused(rt: HostRuntime) -> Result<(), Fail> {
     Ok(())
 }
 
+/// The place of the first segment (message, whether it is the first, how many follow) that a pool doesn't answer so.
+fn first_other(
+    alloc: Global,
+    pool: &mut Pool,
+    segments: &[(u32, bool, u8, u8)],
+) -> Result<Option<usize>, Fail> {
+    for (place, (value, first, remaining, answer)) in segments.iter().enumerate() {
+        if takes(alloc, pool, *value, *first, *remaining)? != *answer {
+            return Ok(Some(place));
+        }
+    }
+    Ok(None)
+}
+
+/// Whether the last segment of the first message makes it whole.
+fn becomes_whole(alloc: Global, pool: &mut Pool, octets: &[u8]) -> Result<bool, Fail> {
+    Ok(is_whole(pool.take(key(1)?, segment(alloc, false, 0, 0)?), octets))
+}
+
 #[test]
 fn segments_become_whole(rt: HostRuntime) -> Result<(), Fail> {
-    let mut pool = Pool::new(rt.alloc());
-    assert_eq!(rt; takes(rt.alloc(), &mut pool, 1, true, 2)?, 0);
-    assert_eq!(rt; takes(rt.alloc(), &mut pool, 2, true, 1)?, 0);
-    assert_eq!(rt; takes(rt.alloc(), &mut pool, 1, false, 1)?, 0);
-    assert!(rt;
-        is_whole(
-            pool.take(key(1)?, segment(rt.alloc(), false, 0, 0)?),
-            &[2, 1, 0]
-        )
-    );
-    assert_eq!(rt; takes(rt.alloc(), &mut pool, 2, true, 1)?, 4);
-    assert_eq!(rt; takes(rt.alloc(), &mut pool, 2, false, 1)?, 3);
-    assert_eq!(rt; takes(rt.alloc(), &mut pool, 2, false, 0)?, 2);
+    let alloc = rt.alloc();
+    let mut pool = Pool::new(alloc);
+    let begun = [(1, true, 2, 0), (2, true, 1, 0), (1, false, 1, 0)];
+    assert_eq!(rt; first_other(alloc, &mut pool, &begun)?, None);
+    assert!(rt; becomes_whole(alloc, &mut pool, &[2, 1, 0])?);
+    let dropped = [(2, true, 1, 4), (2, false, 1, 3), (2, false, 0, 2)];
+    assert_eq!(rt; first_other(alloc, &mut pool, &dropped)?, None);
     assert_eq!(rt; pool.len(), 0);
     Ok(())
 }
