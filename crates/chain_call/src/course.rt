@@ -110,7 +110,9 @@ impl Course {
     ) -> Result<(), OutOfMemory>
         ensures { OnOk result (self.new ≡ offered from to message self.old) }
     {
-        self.offer_lent(from, to, &message)
+        let offered = self.offer_lent(from, to, &message);
+        drop(message);
+        offered
     }
 
     /// An end answers a release.
