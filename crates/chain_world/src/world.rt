@@ -274,7 +274,8 @@ impl World {
                 pass(&mut self.links, from, to);
                 Ok(Delivered::Out(message))
             }
-            Err(_) => {
+            Err(refused) => {
+                drop(refused);
                 drop(message);
                 Err(OutOfMemory)
             }
