@@ -167,7 +167,9 @@ impl Course {
         let deliveries = one_more(self.deliveries)?;
         let delivered = self.world.deliver(from, to)?;
         self.deliveries = deliveries;
-        self.come_out(from, to, &delivered)
+        let come = self.come_out(from, to, &delivered);
+        drop(delivered);
+        come
     }
 
     /// The link that is to deliver next.
