@@ -2,7 +2,7 @@ ghost use Rattle.std.specs.Prelude.{◌≡◌, ◌≤◌, ◌-◌, [], ◌∷◌
 ghost use Rattle.std.specs.List.{range_with_len};
 ghost use Rattle.sccp_base.specs.Answers.{all_ok};
 ghost use Rattle.sccp_layout.specs.Parts.{FitsLayout};
-ghost use Rattle.sccp_message.specs.Reading.{Gives, address_in, message_in, reading, first_fault};
+ghost use Rattle.sccp_message.specs.Reading.{Gives, address_in, fields_in, message_in, reading, first_fault};
 ghost use Rattle.sccp_message.specs.Kinds.{is_plain, is_extended, has_parameters, has_no_parameters, message_if_of};
 ghost use Rattle.sccp_message.specs.declared.message.Message.{Message};
 ghost use Rattle.sccp_message.specs.Reads.{Reads};
@@ -57,7 +57,7 @@ macro_rules! by_code {
 
 // The same of the types that carry addresses and data: their fixed octets, and of some the tested parameters.
 macro_rules! connectionless {
-    ($alloc:ident $code:ident $fixed:ident $variable:ident $params:ident; $($value:literal $variant:ident { $($octet:ident: octet($place:literal)),* $(; known($($name:ident),*))? })*) => {
+    ($alloc:ident $code:ident $fixed:ident $variable:ident; $($value:literal $variant:ident { $($octet:ident: octet($place:literal)),* })*) => {
         match $code {
             $($value => {
                 let Carried { called, calling, payload } = what_is_carried($alloc, $variable)?;
@@ -66,7 +66,22 @@ macro_rules! connectionless {
                     called,
                     calling,
                     payload,
-                    $(params: tested($alloc, &[$($name),*], $params)?,)?
+                })
+            })*
+            _ => Err(DecodeFault::Split(SplitFault::UnknownType)),
+        }
+    };
+    ($alloc:ident $code:ident $fixed:ident $variable:ident $params:ident; $($value:literal $variant:ident { $($octet:ident: octet($place:literal)),* })*) => {
+        match $code {
+            $($value => {
+                let carried = what_is_carried($alloc, $variable)?;
+                let (Carried { called, calling, payload }, params) = with_tested($alloc, carried, $params)?;
+                Ok(Message::$variant {
+                    $($octet: $fixed[$place],)*
+                    called,
+                    calling,
+                    payload,
+                    params,
                 })
             })*
             _ => Err(DecodeFault::Split(SplitFault::UnknownType)),
@@ -75,6 +90,7 @@ macro_rules! connectionless {
 }
 
 // What every connectionless message carries: its addresses are the first two variable parts, and its data are the last.
+#[derive(Drop)]
 struct Carried {
     called: Address,
     calling: Address,
@@ -96,6 +112,24 @@ fn what_is_carried(alloc: Global, variable: &List<Part<'_>>) -> Result<Carried, 
     })
 }
 
+// The same with its parameters, where those that are known to it are read.
+fn with_tested(
+    alloc: Global,
+    carried: Carried,
+    params: List<Param>,
+) -> Result<(Carried, List<Param>), DecodeFault>
+    ensures carried { IfOk result (λ both. both.0 ≡ carried) }
+    ensures params { Gives (λ both. both.1) result (fields_in (SEGMENTATION ∷ IMPORTANCE ∷ []) params) }
+{
+    match tested(alloc, &[SEGMENTATION, IMPORTANCE], params) {
+        Ok(params) => Ok((carried, params)),
+        Err(fault) => {
+            drop(carried);
+            Err(fault)
+        }
+    }
+}
+
 // Connectionless types without an optional part.
 fn plain_code(code: u8) -> bool
     ensures { result ≡ is_plain code }
@@ -114,7 +148,7 @@ fn plain(
     requires { FitsLayout (record { code = code; fixed = fixed.now; variable = variable.now; params = params }) }
     ensures { Gives (λ m. m) result (message_if_of is_plain (record { code = code; fixed = fixed.now; variable = variable.now; params = params })) }
 {
-    connectionless! { alloc code fixed variable params;
+    connectionless! { alloc code fixed variable;
         0x09 Udt { class: octet(0) }
         0x0A Udts { cause: octet(0) }
     }
@@ -139,10 +173,10 @@ fn extended(
     ensures { Gives (λ m. m) result (message_if_of is_extended (record { code = code; fixed = fixed.now; variable = variable.now; params = params })) }
 {
     connectionless! { alloc code fixed variable params;
-        0x11 Xudt { class: octet(0), hops: octet(1); known(SEGMENTATION, IMPORTANCE) }
-        0x12 Xudts { cause: octet(0), hops: octet(1); known(SEGMENTATION, IMPORTANCE) }
-        0x13 Ludt { class: octet(0), hops: octet(1); known(SEGMENTATION, IMPORTANCE) }
-        0x14 Ludts { cause: octet(0), hops: octet(1); known(SEGMENTATION, IMPORTANCE) }
+        0x11 Xudt { class: octet(0), hops: octet(1) }
+        0x12 Xudts { cause: octet(0), hops: octet(1) }
+        0x13 Ludt { class: octet(0), hops: octet(1) }
+        0x14 Ludts { cause: octet(0), hops: octet(1) }
     }
 }
 
