@@ -17,6 +17,12 @@ pub explore-returns-then-depth-eq14-clause-found : goal.explore-returns-then-dep
 explore-returns-then-depth-eq14-clause-found t c =
     fifteenth c.args.plan.now c.args.class.now c.args.depth c.in_ok-least_title.field-0 c.in_ok-least_title.ensures.member c.in_ok-least_title.ensures.markings (omega (arith, c.if-depth-eq14.true))
 
+pub explore-returns-in_err-found-clause-keeps : goal.explore-returns-in_err-found-clause-keeps
+explore-returns-in_err-found-clause-keeps t c = c.follow.ensures.keeps
+
+pub explore-returns-clause-keeps : goal.explore-returns-clause-keeps
+explore-returns-clause-keeps t c = keeps_more _ _ _ c.follow.ensures.keeps c.settle.ensures.keeps
+
 pub explore_parts-explore-requires : goal.explore_parts-explore-requires
 explore_parts-explore-requires t c =
     let part : IsPart c.args.class.now c.part-item.result = part_of c.args.class.now _ _ c.loop-part.part-index _ c.in_ok-parts.ensures.splits c.as_slice-part-items.ensures c.loop-part-test.true c.part-item.is in (
