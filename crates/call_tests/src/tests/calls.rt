@@ -115,29 +115,31 @@ fn first_other<R: Threads + Wait + Sync>(
     Ok(None)
 }
 
+/// Words, and the call on the files that fails.
+const FAILING: [(&str, u64); 16] = [
+    ("show f", 0),
+    ("show f", 1),
+    ("show f", 2),
+    ("show g", 9),
+    ("verify f", 0),
+    ("verify f", 1),
+    ("verify f", 2),
+    ("verify g", 9),
+    ("route f b 4:0:1:4 6 49", 0),
+    ("route f b 4:0:1:4 6 49", 1),
+    ("route f b 4:0:1:4 6 49", 2),
+    ("route g b 4:0:1:4 6 49", 9),
+    ("replay f f 1", 0),
+    ("replay f f 1", 1),
+    ("replay f f 1", 2),
+    ("replay g f 1", 9),
+];
+
 /// The file of a command is begun by the first call, the second takes its octets, and the third finds its end. An absent one
 /// fails at the first.
 #[test]
 fn a_fault_of_the_files_ends_the_call(rt: HostRuntime) -> Result<(), Fail> {
-    let rows = [
-        ("show f", 0),
-        ("show f", 1),
-        ("show f", 2),
-        ("show g", 9),
-        ("verify f", 0),
-        ("verify f", 1),
-        ("verify f", 2),
-        ("verify g", 9),
-        ("route f b 4:0:1:4 6 49", 0),
-        ("route f b 4:0:1:4 6 49", 1),
-        ("route f b 4:0:1:4 6 49", 2),
-        ("route g b 4:0:1:4 6 49", 9),
-        ("replay f f 1", 0),
-        ("replay f f 1", 1),
-        ("replay f f 1", 2),
-        ("replay g f 1", 9),
-    ];
-    assert_eq!(rt; first_other(&rt, rt.alloc(), &rows)?, None);
+    assert_eq!(rt; first_other(&rt, rt.alloc(), &FAILING)?, None);
     Ok(())
 }
 

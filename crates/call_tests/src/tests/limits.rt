@@ -58,63 +58,65 @@ fn first_other_trace<R: Threads + Wait + Sync>(
     Ok(None)
 }
 
+/// A piece of a trace, how often it comes, the end, and the status and the text of what is shown.
+const TRACES: [(&str, usize, &str, Status, &str); 10] = [
+    ("0", 8192, "", Status::Done, "undecodable unknown type\n\n"),
+    (
+        "0",
+        8192,
+        "\n",
+        Status::Done,
+        "undecodable unknown type\n\n",
+    ),
+    (
+        "0",
+        8190,
+        "\r\n",
+        Status::Done,
+        "undecodable unknown type\n\n",
+    ),
+    (
+        "0",
+        8192,
+        "\r\n",
+        Status::BadTrace,
+        "bad trace line 1 too long\n",
+    ),
+    (
+        "0",
+        8193,
+        "",
+        Status::BadTrace,
+        "bad trace line 1 too long\n",
+    ),
+    ("\n", 1_000_000, "", Status::Done, ""),
+    (
+        "\n",
+        1_000_000,
+        "x",
+        Status::BadTrace,
+        "bad trace line 1000001 too many\n",
+    ),
+    (
+        "\n",
+        1_000_001,
+        "",
+        Status::BadTrace,
+        "bad trace line 1000001 too many\n",
+    ),
+    (
+        "x",
+        1_048_576,
+        "",
+        Status::BadTrace,
+        "bad trace line 1 too long\n",
+    ),
+    ("x", 1_048_577, "", Status::TooLong, "too long\n"),
+];
+
 #[test]
 fn the_limits_of_lines_hold(rt: HostRuntime) -> Result<(), Fail> {
-    let rows = [
-        ("0", 8192, "", Status::Done, "undecodable unknown type\n\n"),
-        (
-            "0",
-            8192,
-            "\n",
-            Status::Done,
-            "undecodable unknown type\n\n",
-        ),
-        (
-            "0",
-            8190,
-            "\r\n",
-            Status::Done,
-            "undecodable unknown type\n\n",
-        ),
-        (
-            "0",
-            8192,
-            "\r\n",
-            Status::BadTrace,
-            "bad trace line 1 too long\n",
-        ),
-        (
-            "0",
-            8193,
-            "",
-            Status::BadTrace,
-            "bad trace line 1 too long\n",
-        ),
-        ("\n", 1_000_000, "", Status::Done, ""),
-        (
-            "\n",
-            1_000_000,
-            "x",
-            Status::BadTrace,
-            "bad trace line 1000001 too many\n",
-        ),
-        (
-            "\n",
-            1_000_001,
-            "",
-            Status::BadTrace,
-            "bad trace line 1000001 too many\n",
-        ),
-        (
-            "x",
-            1_048_576,
-            "",
-            Status::BadTrace,
-            "bad trace line 1 too long\n",
-        ),
-        ("x", 1_048_577, "", Status::TooLong, "too long\n"),
-    ];
-    assert_eq!(rt; first_other_trace(&rt, rt.alloc(), &rows)?, None);
+    assert_eq!(rt; first_other_trace(&rt, rt.alloc(), &TRACES)?, None);
     Ok(())
 }
 
@@ -154,30 +156,32 @@ fn first_other_size<R: Threads + Wait + Sync>(
     Ok(None)
 }
 
+/// Words, the size of the plan, and their status and text.
+const SIZES: [(&str, usize, Status, &str); 4] = [
+    (
+        "route f b 4:0:1:4 6 49",
+        1_048_576,
+        Status::Done,
+        "unknown node\n",
+    ),
+    (
+        "route f b 4:0:1:4 6 49",
+        1_048_577,
+        Status::TooLong,
+        "too long\n",
+    ),
+    (
+        "verify f",
+        1_048_576,
+        Status::Done,
+        "accepted bound 1\nat a 4:0:1:4 6 490000000000 held none ended 2-0-1/6 target 0\n",
+    ),
+    ("verify f", 1_048_577, Status::TooLong, "too long\n"),
+];
+
 #[test]
 fn a_plan_file_has_a_greatest_size(rt: HostRuntime) -> Result<(), Fail> {
-    let rows = [
-        (
-            "route f b 4:0:1:4 6 49",
-            1_048_576,
-            Status::Done,
-            "unknown node\n",
-        ),
-        (
-            "route f b 4:0:1:4 6 49",
-            1_048_577,
-            Status::TooLong,
-            "too long\n",
-        ),
-        (
-            "verify f",
-            1_048_576,
-            Status::Done,
-            "accepted bound 1\nat a 4:0:1:4 6 490000000000 held none ended 2-0-1/6 target 0\n",
-        ),
-        ("verify f", 1_048_577, Status::TooLong, "too long\n"),
-    ];
-    assert_eq!(rt; first_other_size(&rt, rt.alloc(), &rows)?, None);
+    assert_eq!(rt; first_other_size(&rt, rt.alloc(), &SIZES)?, None);
     Ok(())
 }
 
@@ -202,41 +206,45 @@ fn first_other_plan<R: Threads + Wait + Sync>(
     Ok(None)
 }
 
+const ONE_ROW: &str =
+    "version = 1\n[[node]]\nname = \"a\"\npoint = \"1-0-2\"\n[[node.row]]\nselector = \"1:4\"\nprefix = \"49\"\nfirst = { final = \"2-0-1\" }\n";
+
+const BOTH: &str =
+    "[[node]]\nname = \"a\"\npoint = \"1-0-2\"\n[[cover]]\nnode = \"a\"\nselector = \"1:4\"\nssn = 6\nprefix = \"49\"\nleast = 2\nmost = 2\nallowed = []\n";
+
+/// What comes before a piece of a plan, the piece, how often it comes, the end, and the text of the verification.
+const PLANS: [(&str, &str, usize, &str, &str); 7] = [
+    (
+        "version = 1\n",
+        NODE,
+        64,
+        "",
+        "bad plan repeated node 1 name\n",
+    ),
+    ("version = 1\n", NODE, 65, "", "bad plan limit nodes\n"),
+    ("version = 3\n", NODE, 65, "", "bad plan limit nodes\n"),
+    ("version = 1\n", BOTH, 257, "", "bad plan limit nodes\n"),
+    (
+        ONE_ROW,
+        COVER,
+        256,
+        "",
+        "accepted bound 1\nat a 1:4 6 49 held none ended 2-0-1/6 target 0\n",
+    ),
+    (ONE_ROW, COVER, 257, "", "bad plan limit covers\n"),
+    (
+        ONE_ROW,
+        COVER,
+        255,
+        "[[cover]]\nnode = \"a\"\nselector = \"1:4\"\nssn = 6\nprefix = \"48\"\nleast = 2\nmost = 2\nallowed = []\n",
+        "refused no row 1 cover 255 steady yes\nat a 1:4 6 48 held none no row 1\n",
+    ),
+];
+
 /// A limit is told before the version's value, a repeated name and a missing cover; the nodes are counted first.
 #[test]
 fn the_limits_of_nodes_and_covers_hold(rt: HostRuntime) -> Result<(), Fail> {
-    let one_row =
-        "version = 1\n[[node]]\nname = \"a\"\npoint = \"1-0-2\"\n[[node.row]]\nselector = \"1:4\"\nprefix = \"49\"\nfirst = { final = \"2-0-1\" }\n";
-    let both =
-        "[[node]]\nname = \"a\"\npoint = \"1-0-2\"\n[[cover]]\nnode = \"a\"\nselector = \"1:4\"\nssn = 6\nprefix = \"49\"\nleast = 2\nmost = 2\nallowed = []\n";
-    let rows = [
-        (
-            "version = 1\n",
-            NODE,
-            64,
-            "",
-            "bad plan repeated node 1 name\n",
-        ),
-        ("version = 1\n", NODE, 65, "", "bad plan limit nodes\n"),
-        ("version = 3\n", NODE, 65, "", "bad plan limit nodes\n"),
-        ("version = 1\n", both, 257, "", "bad plan limit nodes\n"),
-        (
-            one_row,
-            COVER,
-            256,
-            "",
-            "accepted bound 1\nat a 1:4 6 49 held none ended 2-0-1/6 target 0\n",
-        ),
-        (one_row, COVER, 257, "", "bad plan limit covers\n"),
-        (
-            one_row,
-            COVER,
-            255,
-            "[[cover]]\nnode = \"a\"\nselector = \"1:4\"\nssn = 6\nprefix = \"48\"\nleast = 2\nmost = 2\nallowed = []\n",
-            "refused no row 1 cover 255 steady yes\nat a 1:4 6 48 held none no row 1\n",
-        ),
-    ];
-    assert_eq!(rt; first_other_plan(&rt, rt.alloc(), &rows)?, None);
+    assert_eq!(rt; first_other_plan(&rt, rt.alloc(), &PLANS)?, None);
     Ok(())
 }
 
