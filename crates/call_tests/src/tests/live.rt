@@ -184,12 +184,26 @@ fn serves(alloc: Global, worker: &mut Worker<ListPlace>) -> Result<(u32, u16), F
     serves_job(alloc, worker, net.states(), &job)
 }
 
+/// What is told of the next three jobs.
+fn serves_three(
+    alloc: Global,
+    worker: &mut Worker<ListPlace>,
+) -> Result<((u32, u16), (u32, u16), (u32, u16)), Fail> {
+    let first = serves(alloc, worker)?;
+    let second = serves(alloc, worker)?;
+    let third = serves(alloc, worker)?;
+    Ok((first, second, third))
+}
+
 #[test]
 fn a_refused_entry_keeps_the_plan(rt: HostRuntime) -> Result<(), Fail> {
     let mut worker = worker(rt.alloc())?;
-    assert_eq!(rt; serves(rt.alloc(), &mut worker)?, (2, 4098));
-    assert_eq!(rt; serves(rt.alloc(), &mut worker)?, (2, 4098));
-    assert_eq!(rt; serves(rt.alloc(), &mut worker)?, (3, 4097));
+    let told = serves_three(rt.alloc(), &mut worker);
+    drop(worker);
+    let (first, second, third) = told?;
+    assert_eq!(rt; first, (2, 4098));
+    assert_eq!(rt; second, (2, 4098));
+    assert_eq!(rt; third, (3, 4097));
     Ok(())
 }
 
@@ -243,7 +257,9 @@ fn meet<R: Threads + Wait + Sync>(
     let plans = second(alloc)?;
     let states = net.states();
     let answers = run_batch(rt, alloc, teller, workers, states, &jobs, plans, gate)?;
-    Ok(are_met(answers.as_slice()))
+    let met = are_met(answers.as_slice());
+    drop(answers);
+    Ok(met)
 }
 
 #[test]
@@ -255,8 +271,11 @@ fn publisher_and_workers_run_beside_each_other(rt: HostRuntime) -> Result<(), Fa
     let met = meet(&rt, alloc, &mut teller, &mut workers, &gate);
     let number = teller.number();
     teller.end(&rt);
+    drop(workers);
+    let kept = gate.was_kept();
+    drop(gate);
     let met = met?;
-    assert!(rt; gate.was_kept());
+    assert!(rt; kept);
     assert_eq!(rt; number, 2);
     assert!(rt; met);
     Ok(())
