@@ -15,7 +15,7 @@ fn files(alloc: Global) -> Result<Vec<(String, Vec<u8>)>, AllocError> {
     Ok(files)
 }
 
-/// Whether nothing is open at first, an absent name fails, and both places are begun, of which the first gives its first octets.
+/// Whether nothing is open at first, an absent name fails, and both places are begun, of which the first one gives octets.
 fn begins_both<F: Files>(files: &mut F, buffer: &mut [u8; 3], absent: &str, name: &str) -> bool {
     files.take(buffer) == Ok(0)
         && files.begin(absent) == Err(IoFault::Failed)
@@ -34,21 +34,21 @@ fn takes_both<F: Files>(files: &mut F, buffer: &mut [u8; 3]) -> bool {
         && buffer.as_slice() == b"123".as_slice()
 }
 
+/// Whether a name that is absent changes nothing between the two, and an empty file is begun beside and has no octets.
+fn keeps_both(files: &mut SoundFiles, buffer: &mut [u8; 3]) -> bool {
+    begins_both(files, buffer, "c", "a")
+        && files.begin("c") == Err(IoFault::Failed)
+        && takes_both(files, buffer)
+        && files.begin_beside("b") == Ok(())
+        && files.take_beside(buffer) == Ok(0)
+}
+
 #[test]
 fn sound_files_keep_two_places(rt: HostRuntime) -> Result<(), Fail> {
     let mut files = SoundFiles::new(files(rt.alloc())?);
-    let mut buffer = [0u8; 3];
-    let begun = begins_both(&mut files, &mut buffer, "c", "a");
-    let absent = files.begin("c");
-    let taken = takes_both(&mut files, &mut buffer);
-    let beside = files.begin_beside("b");
-    let end = files.take_beside(&mut buffer);
+    let kept = keeps_both(&mut files, &mut [0u8; 3]);
     drop(files);
-    assert!(rt; begun, "nothing is open, and two places are begun");
-    assert_eq!(rt; absent, Err(IoFault::Failed));
-    assert!(rt; taken, "each place is read by itself");
-    assert_eq!(rt; beside, Ok(()));
-    assert_eq!(rt; end, Ok(0));
+    assert!(rt; kept, "each place is kept");
     Ok(())
 }
 
@@ -104,16 +104,17 @@ fn listed_calls_on_a_sink_fail(rt: HostRuntime) -> Result<(), Fail> {
     Ok(())
 }
 
+/// Whether two pieces are taken whole, one behind the other.
+fn takes_all(sink: &mut SoundSink) -> bool {
+    sink.put(b"ab") == Ok(2) && sink.put(b"c") == Ok(1) && sink.taken() == b"abc".as_slice()
+}
+
 #[test]
 fn a_sound_sink_takes_all(rt: HostRuntime) {
     let mut sink = SoundSink::new(rt.alloc());
-    let first = sink.put(b"ab");
-    let second = sink.put(b"c");
-    let same = sink.taken() == b"abc".as_slice();
+    let taken = takes_all(&mut sink);
     drop(sink);
-    assert_eq!(rt; first, Ok(2));
-    assert_eq!(rt; second, Ok(1));
-    assert!(rt; same, "abc");
+    assert!(rt; taken, "abc");
 }
 
 /// What a real file holds is no matter of proof.
