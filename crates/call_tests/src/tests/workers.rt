@@ -218,22 +218,40 @@ fn numbers_never_fall_in_a_share(rt: HostRuntime) -> Result<(), Fail> {
     Ok(())
 }
 
-/// So many messages, and what is printed of them.
-fn many(alloc: Global, count: u32) -> Result<(Vec<u8>, Vec<u8>), Fail> {
-    let mut trace = Vec::new(alloc);
-    let mut told = b"plan 1 f accepted bound 1\n".to_vec(alloc)?;
+/// Appends a number.
+fn push_number(text: &mut Vec<u8>, alloc: Global, number: u32) -> Result<(), Fail> {
+    text.extend_from_slice(number.to_string(alloc)?.as_bytes())?;
+    Ok(())
+}
+
+/// Appends so many messages, and what is printed of them.
+fn push_many(
+    alloc: Global,
+    count: u32,
+    trace: &mut Vec<u8>,
+    told: &mut Vec<u8>,
+) -> Result<(), Fail> {
+    told.extend_from_slice(b"plan 1 f accepted bound 1\n")?;
     for line in 0..count {
         trace.extend_from_slice(
             b"msg a 1-0-1 0980030E120B1206001204947101000021044301080802AABB\n",
         )?;
-        told.extend_from_slice((line + 1).to_string(alloc)?.as_bytes())?;
+        push_number(told, alloc, line + 1)?;
         told.extend_from_slice(
             b" by 1 via a ended 2-0-1/6 0980030E120B5206001204947101000021044301080802AABB\n",
         )?;
     }
     told.extend_from_slice(b"end ")?;
-    told.extend_from_slice(count.to_string(alloc)?.as_bytes())?;
+    push_number(told, alloc, count)?;
     told.extend_from_slice(b"\n")?;
+    Ok(())
+}
+
+/// So many messages, and what is printed of them.
+fn many(alloc: Global, count: u32) -> Result<(Vec<u8>, Vec<u8>), Fail> {
+    let mut trace = Vec::new(alloc);
+    let mut told = Vec::new(alloc);
+    push_many(alloc, count, &mut trace, &mut told)?;
     Ok((trace, told))
 }
 
