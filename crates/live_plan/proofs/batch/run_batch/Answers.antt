@@ -1,10 +1,10 @@
-use Rattle.std.proofs.Common.{◌≡◌, ◌<◌, ◌++◌, ℕ, List, length, take, drop, get_or, ap, sym, ◌∙◌, subst}
-use Rattle.std.specs.Prelude.{OnOk, IfOk}
+use Rattle.std.proofs.Common.{◌≡◌, ◌<◌, ◌++◌, List, length, take, drop, get_or, ap, sym, ◌∙◌, subst}
+use Rattle.std.specs.Prelude.{IfOk}
 use mathlib.Core.List.{IsPrefix}
 use Rattle.plan_check.specs.Verified.{Verified}
 use Rattle.relay_net.specs.declared.job.Job.{Job}
 use Rattle.live_plan.specs.Batches.{AllPairs, AreServed, Counted, Follows, Lasts}
-use Rattle.live_plan.specs.Tellers.{plans_of, due_of}
+use Rattle.live_plan.specs.Tellers.{plans_of}
 use Rattle.live_plan.proofs.Batched.{if_ok, whole_back}
 use Rattle.live_plan.proofs.batch.run_batch.Goals as goal
 

@@ -1,4 +1,4 @@
-use Rattle.std.proofs.Common.{rules, ◌≡◌, ◌+◌, ◌^◌, ◌<◌, ◌++◌, ◌∷◌, [], List, length, ap, sym, ◌∙◌, subst}
+use Rattle.std.proofs.Common.{rules, ◌≡◌, ◌++◌, ◌∷◌, [], ap, sym, ◌∙◌, subst}
 use Rattle.plan_check.specs.Verified.{Verified}
 use Rattle.live_plan.specs.Plans.{HaveNodes}
 use Rattle.live_plan.specs.Tellers.{plans_of, due_of}
