@@ -110,7 +110,9 @@ impl Course {
     ) -> Result<(), OutOfMemory>
         ensures { OnOk result (self.new ≡ offered from to message self.old) }
     {
-        self.offer_lent(from, to, &message)
+        let offered = self.offer_lent(from, to, &message);
+        drop(message);
+        offered
     }
 
     /// An end answers a release.
@@ -165,7 +167,9 @@ impl Course {
         let deliveries = one_more(self.deliveries)?;
         let delivered = self.world.deliver(from, to)?;
         self.deliveries = deliveries;
-        self.come_out(from, to, &delivered)
+        let come = self.come_out(from, to, &delivered);
+        drop(delivered);
+        come
     }
 
     /// The link that is to deliver next.

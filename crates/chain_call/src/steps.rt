@@ -326,7 +326,11 @@ fn with_line(alloc: Global, course: &mut Course, call: &Call) -> Result<Outcome,
     ensures { IfOk result (λ o. o ≡ with_line call.now course.old) }
 {
     match course.line(call.from, near_reference())? {
-        Some(line) => opened(alloc, course, call, &line),
+        Some(line) => {
+            let outcome = opened(alloc, course, call, &line);
+            drop(line);
+            outcome
+        }
         None => Ok(refused_or(first_refusal(call.from, course.handed()))),
     }
 }

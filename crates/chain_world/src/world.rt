@@ -56,6 +56,20 @@ impl Model for World {
     ghost invariant = { λ w. IsWorld w.plan w.relays.items w.links.items w.history.items };
 }
 
+/// One more event.
+fn note(history: &mut Vec<Happening>, event: Happening) -> Result<(), OutOfMemory>
+    ensures ok { OnOk result (history.new.items ≡ history.old.items ++ event ∷ []) }
+    ensures err { OnErr result (history.new.items ≡ history.old.items) }
+{
+    match history.push(event) {
+        Ok(()) => Ok(()),
+        Err(refused) => {
+            drop(refused);
+            Err(OutOfMemory)
+        }
+    }
+}
+
 /// The last event is taken back.
 fn take_back(history: &mut Vec<Happening>)
     ensures { (before : List Event) (last : Event) → history.old.items ≡ before ++ last ∷ [] → history.new.items ≡ before }
@@ -162,7 +176,7 @@ impl World {
         ensures ok { OnOk result (self.new ≡ kept self.old.plan (self.old.history ++ Offers from to message ∷ [])) }
         ensures err { OnErr result (self.new ≡ self.old) }
     {
-        self.history.push(Happening::Offers { from, to, message })?;
+        note(&mut self.history, Happening::Offers { from, to, message })?;
         match put(self.alloc, &mut self.links, from, to, octets) {
             Ok(()) => Ok(()),
             Err(fault) => {
@@ -252,7 +266,7 @@ impl World {
         ensures ok { OnOk result (self.new ≡ kept self.old.plan (self.old.history ++ Delivers from to ∷ [])) }
         ensures err { OnErr result (self.new ≡ self.old) }
     {
-        self.history.push(Happening::Delivers { from, to })?;
+        note(&mut self.history, Happening::Delivers { from, to })?;
         Ok(Delivered::Nothing)
     }
 
@@ -269,14 +283,14 @@ impl World {
         ensures ok { OnOk result (self.new ≡ kept self.old.plan (self.old.history ++ Delivers from to ∷ [])) }
         ensures err { OnErr result (self.new ≡ self.old) }
     {
-        match self.history.push(Happening::Delivers { from, to }) {
+        match note(&mut self.history, Happening::Delivers { from, to }) {
             Ok(()) => {
                 pass(&mut self.links, from, to);
                 Ok(Delivered::Out(message))
             }
-            Err(_) => {
+            Err(fault) => {
                 drop(message);
-                Err(OutOfMemory)
+                Err(fault)
             }
         }
     }
@@ -297,7 +311,7 @@ impl World {
         ensures err { OnErr result (self.new ≡ self.old) }
     {
         let place = usize::from(node);
-        self.history.push(Happening::Delivers { from, to })?;
+        note(&mut self.history, Happening::Delivers { from, to })?;
         match take_in(
             self.alloc,
             &self.plan,

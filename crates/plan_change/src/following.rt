@@ -2,10 +2,11 @@
 ghost use Rattle.std.specs.Prelude.{◌≡◌, ◌<◌, ◌⊎◌, ℕ, IsTrue, false, length, IfSome, IfOk, OnOk, Err, None, Some, List, [], ◌∷◌};
 ghost use Rattle.sccp_base.specs.declared.mark.Mark.{Mark};
 ghost use Rattle.plan_classes.specs.declared.leads.Image.{Image};
+ghost use Rattle.plan_classes.specs.declared.leads.Image.TheVariants.{Ends, NotEquipped, TooLong};
 ghost use Rattle.plan_model.specs.Network.{IsPlan};
 ghost use Rattle.plan_classes.specs.Titles.{IsClass, IsLongest, spot_of};
 ghost use Rattle.plan_classes.specs.Classes.{Decided, class_row, Reaches, HasImage};
-ghost use Rattle.plan_classes.specs.Leading.{Takes};
+ghost use Rattle.plan_classes.specs.Leading.{Takes, ImageIsExact};
 ghost use Rattle.plan_mixed.specs.Pairs.{old_of, new_of};
 ghost use Rattle.plan_mixed.specs.Mixed.{held, BothDecided, MixedReachable, MixedReachAtLeast};
 ghost use Rattle.plan_change.specs.declared.halt.Halt.TheVariants as halts;
@@ -141,25 +142,104 @@ fn follow_target(
     ensures bad { IfOk result (λ way. IfSome way (IsBadHere plans.now.old.now plans.now.new.now class.now)) }
     ensures wide { result ≡ Err halts.Wide → MixedReachAtLeast plans.now.old.now plans.now.new.now 262144 }
 {
-    let Origin { which, target, .. } = origin;
-    let plan = plans.held(which);
-    if !reaches_by(plan, class, row, target) {
+    let plan = plans.held(origin.which);
+    if !reaches_by(plan, class, row, origin.target) {
         return Ok(None);
     }
-    match image_by(plan, class, row, target) {
+    match image_by(plan, class, row, origin.target) {
         Image::Next(next) => {
             enter(alloc, plans, &next, origin, hop)?;
             Ok(None)
         }
-        Image::Ends { pc, ssn } => {
-            if both_allow(plans, class.cover(), pc, ssn) {
-                return Ok(None);
-            }
-            Ok(Some(through(alloc, which, plan, class, target, sample(class))?))
-        }
-        Image::NotEquipped => Ok(Some(through(alloc, which, plan, class, target, sample(class))?)),
-        Image::TooLong => Ok(Some(through(alloc, which, plan, class, target, longest(class))?)),
+        Image::Ends { pc, ssn } => Ok(ended(alloc, plans, plan, class, origin, pc, ssn)?),
+        Image::NotEquipped => Ok(Some(unequipped(alloc, plans, plan, class, origin)?)),
+        Image::TooLong => Ok(Some(overgrown(alloc, plans, plan, class, origin)?)),
     }
+}
+
+/// A title of a class that a target ends where not both covers allow it.
+fn ended(
+    alloc: Global,
+    plans: &Plans<'_>,
+    plan: &Plan,
+    class: &Class,
+    origin: Origin,
+    pc: PointCode,
+    ssn: u8,
+) -> Result<Option<Way>, OutOfMemory>
+    requires held { plan.now ≡ held plans.now.old.now plans.now.new.now origin.which }
+    requires pair { IsPair plans.now.old.now plans.now.new.now class.now.cover }
+    requires node { class.now.node < length plan.now.nodes }
+    requires decided { Decided plan.now class.now }
+    requires reached { Reaches plan.now class.now origin.target }
+    requires exact { ImageIsExact plan.now class.now origin.target (Ends pc ssn) }
+    ensures well { IfOk result (λ way. way ≡ None → PairAllows plans.now.old.now plans.now.new.now class.now.cover pc ssn) }
+    ensures bad { IfOk result (λ way. IfSome way (IsBadHere plans.now.old.now plans.now.new.now class.now)) }
+{
+    if both_allow(plans, class.cover(), pc, ssn) {
+        return Ok(None);
+    }
+    let way = through(
+        alloc,
+        origin.which,
+        plan,
+        class,
+        origin.target,
+        sample(class),
+    )?;
+    Ok(Some(way))
+}
+
+/// The least title of a class that a target leads to a subsystem that isn't there.
+fn unequipped(
+    alloc: Global,
+    plans: &Plans<'_>,
+    plan: &Plan,
+    class: &Class,
+    origin: Origin,
+) -> Result<Way, OutOfMemory>
+    requires held { plan.now ≡ held plans.now.old.now plans.now.new.now origin.which }
+    requires node { class.now.node < length plan.now.nodes }
+    requires decided { Decided plan.now class.now }
+    requires reached { Reaches plan.now class.now origin.target }
+    requires exact { ImageIsExact plan.now class.now origin.target NotEquipped }
+    ensures { IfOk result (IsBadHere plans.now.old.now plans.now.new.now class.now) }
+{
+    let way = through(
+        alloc,
+        origin.which,
+        plan,
+        class,
+        origin.target,
+        sample(class),
+    )?;
+    Ok(way)
+}
+
+/// The longest title of a class that a target makes too long.
+fn overgrown(
+    alloc: Global,
+    plans: &Plans<'_>,
+    plan: &Plan,
+    class: &Class,
+    origin: Origin,
+) -> Result<Way, OutOfMemory>
+    requires held { plan.now ≡ held plans.now.old.now plans.now.new.now origin.which }
+    requires node { class.now.node < length plan.now.nodes }
+    requires decided { Decided plan.now class.now }
+    requires reached { Reaches plan.now class.now origin.target }
+    requires exact { ImageIsExact plan.now class.now origin.target TooLong }
+    ensures { IfOk result (IsBadHere plans.now.old.now plans.now.new.now class.now) }
+{
+    let way = through(
+        alloc,
+        origin.which,
+        plan,
+        class,
+        origin.target,
+        longest(class),
+    )?;
+    Ok(way)
 }
 
 /// Whether both covers of a pair allow a place.

@@ -7,20 +7,24 @@ use Rattle.plan_model.specs.declared.cover.Cover.{Cover}
 use Rattle.plan_model.specs.declared.spot.Spot.{Spot}
 use Rattle.plan_model.specs.Network.{Network, IsPlan}
 use Rattle.plan_model.specs.Covered.{Covered}
-use Rattle.plan_model.specs.Verdicts.{Tight}
+use Rattle.plan_model.specs.Verdicts.{HasSpot, Tight}
 use Rattle.plan_classes.specs.Titles.{Titles, IsMember, spot_of}
 use Rattle.plan_classes.specs.Classes.{start_of, Reachable}
 use Rattle.plan_classes.specs.Classes.Reachable.{Start}
 use Rattle.plan_check.specs.Ranking.{rank_in}
 use Rattle.plan_check.specs.Ranked.{RanksUpTo, IsRankedClass, StartsBelow, IsGreatestStart}
 use Rattle.plan_check.proofs.Soundness.{some_of}
+use Rattle.plan_check.specs.Verified.{Verified, IsVerified}
+use Rattle.plan_verify.specs.declared.verdict.Verdict.TheVariants.{Accepted}
+use Rattle.plan_verify.specs.Lawful.{IsLawful}
 use Rattle.plan_verify.specs.declared.outcome.Greatest.{Greatest}
 use Rattle.plan_verify.specs.declared.trace.Trace.{Trace}
 use Rattle.plan_verify.specs.Searching.{Keeps, IsSound, HasStart}
-use Rattle.plan_verify.specs.Traces.{IsWay}
+use Rattle.plan_verify.specs.Traces.{IsTrace, IsWay}
+use Rattle.plan_verify.specs.Ends.{IsBadRoute}
 use Rattle.plan_verify.proofs.Keeping.{some_kept}
 use Rattle.plan_check.proofs.Greatest.{wider}
-use Rattle.plan_verify.proofs.Tracing.{start_covered}
+use Rattle.plan_verify.proofs.Tracing.{start_has, start_node, start_covered}
 
 -- the class is the start of this cover
 abbrev pub IsStartOf : Network → ℕ → Titles → Type 0
@@ -102,3 +106,18 @@ tight_from plan number bound c t s is start way at =
       count = way.count;
       hops = way.each;
     })
+
+-- a checked plan gives a lawful verdict
+pub lawful_checked : (plan : Network) (v : Verified) → v.plan ≡ plan → IsVerified v → IsLawful plan (Accepted v)
+lawful_checked plan v same is = subst (λ (p : Network). IsLawful p (Accepted v)) same (record { some = is.some; few = is.few; safe = is.safe }, is.tight, is.range)
+
+-- the spot of a bad route from a start
+pub start_spot : (plan : Network) (number : ℕ) (t : Trace) (c : Titles) (s : Spot) → IsPlan plan → IsStartOf plan number c → s ≡ spot_of c t.digits → IsSomeAnd (slice_get plan.covers number) (λ cover. IsTrace plan (start_of number cover) 0 t) → HasSpot plan number s × (s.node < length plan.nodes) × IsBadRoute plan number 0 s t.markings
+start_spot plan number t c s is start at has =
+    let k = some_of (slice_get plan.covers number) (λ cover. c ≡ start_of number cover) start in
+    let trace : IsTrace plan (start_of number k.0) 0 t = subst (λ (o : Option Cover). IsSomeAnd o (λ cover. IsTrace plan (start_of number cover) 0 t)) k.1 has in
+    let here : s ≡ spot_of (start_of number k.0) t.digits = at ∙ ap (λ (q : Titles). spot_of q t.digits) k.2 in (
+      subst (HasSpot plan number) (sym here) (start_has plan number k.0 t.digits is k.1 trace.member),
+      subst (λ (z : Spot). z.node < length plan.nodes) (sym here) (start_node plan number k.0 is k.1),
+      subst (λ (z : Spot). IsBadRoute plan number 0 z t.markings) (sym here) trace.bad,
+    )

@@ -6,7 +6,7 @@ ghost use Rattle.plan_classes.specs.Classes.{start_of};
 ghost use Rattle.plan_check.specs.Ranking.{rank_in};
 ghost use Rattle.plan_check.specs.Ranked.{StartsBelow};
 ghost use Rattle.plan_verify.specs.Lawful.{IsLawful, plan_of};
-ghost use Rattle.plan_verify.specs.Searching.{IsSound, HasStart};
+ghost use Rattle.plan_verify.specs.Searching.{IsSound, IsOutcome, HasStart};
 ghost use Rattle.plan_verify.specs.Traces.{IsTrace};
 ghost use Rattle.plan_verify.specs.Witnesses.{IsWitness};
 
@@ -30,13 +30,46 @@ pub fn verify(alloc: Global, plan: Plan) -> Result<Verdict, OutOfMemory>
     ensures lawful { IfOk result (IsLawful plan) }
 {
     let mut ranks = Ranks::new(alloc);
-    match explore_starts(alloc, &plan, &mut ranks)? {
-        Outcome::Ranked(greatest) => accept(alloc, plan, &ranks, greatest),
-        Outcome::Refuted(number, trace) => {
-            let witness = refute(alloc, &plan, number, trace)?;
-            Ok(Verdict::Refused(plan, witness))
+    match explore_starts(alloc, &plan, &mut ranks) {
+        Ok(outcome) => judge(alloc, plan, ranks, outcome),
+        Err(fault) => {
+            drop(ranks);
+            drop(plan);
+            Err(fault)
         }
+    }
+}
+
+/// The verdict by what the search found of all covers.
+fn judge(alloc: Global, plan: Plan, ranks: Ranks, outcome: Outcome) -> Result<Verdict, OutOfMemory>
+    requires plan { IsPlan plan }
+    requires sound { IsSound plan ranks }
+    requires outcome { IsOutcome plan ranks outcome }
+    ensures same { IfOk result (λ verdict. plan_of verdict ≡ plan) }
+    ensures lawful { IfOk result (IsLawful plan) }
+{
+    let verdict = match outcome {
+        Outcome::Ranked(greatest) => accept(alloc, plan, &ranks, greatest),
+        Outcome::Refuted(number, trace) => refuse(alloc, plan, number, trace),
         Outcome::TooMany => Ok(Verdict::TooWide(plan)),
+    };
+    drop(ranks);
+    verdict
+}
+
+/// The plan with the witness of a title that a cover has.
+fn refuse(alloc: Global, plan: Plan, number: u16, trace: Trace) -> Result<Verdict, OutOfMemory>
+    requires plan { IsPlan plan }
+    requires trace { IsSomeAnd (slice_get plan.covers number) (λ cover. IsTrace plan (start_of number cover) 0 trace) }
+    ensures same { IfOk result (λ verdict. plan_of verdict ≡ plan) }
+    ensures lawful { IfOk result (IsLawful plan) }
+{
+    match refute(alloc, &plan, number, trace) {
+        Ok(witness) => Ok(Verdict::Refused(plan, witness)),
+        Err(fault) => {
+            drop(plan);
+            Err(fault)
+        }
     }
 }
 
@@ -65,13 +98,40 @@ fn accept(
     ensures same { IfOk result (λ verdict. plan_of verdict ≡ plan) }
     ensures lawful { IfOk result (IsLawful plan) }
 {
-    let longest = longest(alloc, &plan, ranks, greatest)?;
+    match longest(alloc, &plan, ranks, greatest) {
+        Ok(longest) => accept_with(alloc, plan, ranks, greatest, longest),
+        Err(fault) => {
+            drop(plan);
+            Err(fault)
+        }
+    }
+}
+
+/// The same with the longest route, which is handed in.
+fn accept_with(
+    alloc: Global,
+    plan: Plan,
+    ranks: &Ranks,
+    greatest: Greatest,
+    longest: Longest,
+) -> Result<Verdict, OutOfMemory>
+    requires sound { IsSound plan ranks.now }
+    requires starts { StartsBelow plan (rank_in ranks.now) greatest.rank }
+    requires start { HasStart plan ranks.now greatest }
+    requires tight { Tight plan greatest.rank longest.spot longest.markings }
+    ensures same { IfOk result (λ verdict. plan_of verdict ≡ plan) }
+    ensures lawful { IfOk result (IsLawful plan) }
+{
     match check(alloc, plan, ranks, longest) {
         Ok(accepted) => Ok(Verdict::Accepted(accepted)),
-        Err(unchecked) => match unchecked.fault {
-            CheckFault::OutOfMemory => Err(OutOfMemory),
-            _ => unreachable!(),
-        },
+        Err(unchecked) => {
+            let fault = unchecked.fault;
+            drop(unchecked);
+            match fault {
+                CheckFault::OutOfMemory => Err(OutOfMemory),
+                _ => unreachable!(),
+            }
+        }
     }
 }
 

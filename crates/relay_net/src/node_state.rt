@@ -84,7 +84,11 @@ impl NodeState {
     {
         match what {
             Happening::Managed(event) => self.manage(alloc, event),
-            Happening::Connected { origin, message } => self.couple(alloc, plan, origin, &message),
+            Happening::Connected { origin, message } => {
+                let coupled = self.couple(alloc, plan, origin, &message);
+                drop(message);
+                coupled
+            }
             Happening::Delivered { message } => self.deliver(alloc, message),
         }
     }

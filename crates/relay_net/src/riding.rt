@@ -129,23 +129,28 @@ fn end_ride<S: HoldsMarking>(
         drop(message);
         return Ok(None);
     }
-    path.push(node)?;
-    match stop_message(alloc, plan, states, node, origin, message)? {
-        Arrival::Relayed { pc, octets } => {
-            let next = plan.relay_at(pc);
-            let from = point_of(plan, node);
-            travel(
-                alloc,
-                plan,
-                states,
-                left - 1,
-                next,
-                from,
-                octets.as_slice(),
-                path,
-            )
+    match path.push(node) {
+        Ok(()) => match stop_message(alloc, plan, states, node, origin, message)? {
+            Arrival::Relayed { pc, octets } => {
+                let next = plan.relay_at(pc);
+                let from = point_of(plan, node);
+                travel(
+                    alloc,
+                    plan,
+                    states,
+                    left - 1,
+                    next,
+                    from,
+                    octets.as_slice(),
+                    path,
+                )
+            }
+            last => Ok(Some(last)),
+        },
+        Err(fault) => {
+            drop(message);
+            Err(fault)
         }
-        last => Ok(Some(last)),
     }
 }
 

@@ -1,3 +1,4 @@
+pub mod Steps
 pub mod Titles
 pub mod Laws
 pub mod Writing

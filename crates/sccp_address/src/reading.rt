@@ -1,10 +1,12 @@
-ghost use Rattle.std.specs.Prelude.{◌≡◌, ◌≤◌, ◌+◌, ◌<◌, ◌&&◌, ◌==◌, IfOk, Ok};
-ghost use Rattle.sccp_base.specs.Bits.{bit};
+ghost use Rattle.std.specs.Prelude.{◌≡◌, ◌≤◌, ◌+◌, ◌<◌, ◌&&◌, ◌==◌, if◌then◌else◌, IfOk, Ok};
+ghost use Rattle.sccp_base.specs.Answers.{◌>>=◌ as bind};
+ghost use Rattle.sccp_base.specs.Bits.{bit, bits};
+ghost use Rattle.sccp_base.specs.Selector.{numbers};
 ghost use Rattle.sccp_address.specs.declared.address.Address.{Address};
 ghost use Rattle.sccp_address.specs.Addresses.{AddressIs};
 ghost use Rattle.sccp_address.specs.Written.{IsAddress};
 ghost use Rattle.sccp_address.specs.Faults.{Gives};
-ghost use Rattle.sccp_address.specs.Reading.{field_at, point_code, global_or_raw, by_scheme, full_at, title_at, address_of};
+ghost use Rattle.sccp_address.specs.Reading.{field_at, point_code, first_of, global_or_raw, by_scheme, none_at, nature_at, translation_at, plan_at, full_at, title_at, address_of};
 
 use crate::address::{Address, Title};
 use crate::fault::AddressFault;
@@ -84,6 +86,84 @@ fn schemed(
     }
 }
 
+// Nothing may be left where no title is announced.
+fn none_of(octets: &[u8]) -> Result<Title, AddressFault>
+    ensures { Gives (λ t. t) result (none_at octets.now) }
+{
+    match octets {
+        [] => Ok(Title::Absent),
+        _ => Err(AddressFault::Extra),
+    }
+}
+
+// The encoding scheme is the low half of its octet.
+fn scheme_of(plan: u8) -> u8
+    ensures { result ≡ bits plan 1 4 }
+{
+    plan & 0x0F
+}
+
+// The selector of kind 1, by the octet of the nature of address.
+fn nature_selector(nature: u8) -> Selector
+    ensures { result ≡ numbers 1 0 0 (bits nature 1 7) }
+{
+    Selector::new(1, 0, 0, nature & 0x7F).unwrap()
+}
+
+// The selector of kind 2.
+fn translation_selector(translation: u8) -> Selector
+    ensures { result ≡ numbers 2 translation 0 0 }
+{
+    Selector::new(2, translation, 0, 0).unwrap()
+}
+
+// The selector of kind 3, by the octets of the translation type and of the numbering plan.
+fn plan_selector(translation: u8, plan: u8) -> Selector
+    ensures { result ≡ numbers 3 translation (bits plan 5 8) 0 }
+{
+    Selector::new(3, translation, plan >> 4, 0).unwrap()
+}
+
+// The selector of kind 4, by the three octets before the digits.
+fn full_selector(translation: u8, plan: u8, nature: u8) -> Selector
+    ensures { result ≡ numbers 4 translation (bits plan 5 8) (bits nature 1 7) }
+{
+    Selector::new(4, translation, plan >> 4, nature & 0x7F).unwrap()
+}
+
+// A title of kind 1: the nature of address before the digits.
+fn nature_of(alloc: Global, octets: &[u8]) -> Result<Title, AddressFault>
+    ensures { Gives (λ t. t) result (nature_at octets.now) }
+{
+    let [nature, digits @ ..] = octets else {
+        return Err(AddressFault::Short);
+    };
+    let selector = nature_selector(*nature);
+    global(alloc, selector, is_set(*nature, 8), digits, octets)
+}
+
+// A title of kind 2: the translation type before the digits.
+fn translation_of(alloc: Global, octets: &[u8]) -> Result<Title, AddressFault>
+    ensures { Gives (λ t. t) result (translation_at octets.now) }
+{
+    let [translation, digits @ ..] = octets else {
+        return Err(AddressFault::Short);
+    };
+    let selector = translation_selector(*translation);
+    global(alloc, selector, false, digits, octets)
+}
+
+// A title of kind 3: translation type, and numbering plan with encoding scheme before the digits.
+fn plan_of(alloc: Global, octets: &[u8]) -> Result<Title, AddressFault>
+    ensures { Gives (λ t. t) result (plan_at octets.now) }
+{
+    let [translation, plan, digits @ ..] = octets else {
+        return Err(AddressFault::Short);
+    };
+    let selector = plan_selector(*translation, *plan);
+    schemed(alloc, scheme_of(*plan), selector, digits, octets)
+}
+
 // A title of kind 4: translation type, numbering plan with encoding scheme, and nature of address before the digits.
 fn full_of(alloc: Global, octets: &[u8]) -> Result<Title, AddressFault>
     ensures { Gives (λ t. t) result (full_at octets.now) }
@@ -91,33 +171,70 @@ fn full_of(alloc: Global, octets: &[u8]) -> Result<Title, AddressFault>
     let [translation, plan, nature, digits @ ..] = octets else {
         return Err(AddressFault::Short);
     };
-    let selector = Selector::new(4, *translation, *plan >> 4, *nature & 0x7F).unwrap();
-    schemed(alloc, *plan & 0x0F, selector, digits, octets)
+    let selector = full_selector(*translation, *plan, *nature);
+    schemed(alloc, scheme_of(*plan), selector, digits, octets)
 }
 
 // The title of a kind, whose octets are all that are left.
 fn title_of(alloc: Global, kind: u8, octets: &[u8]) -> Result<Title, AddressFault>
     ensures { Gives (λ t. t) result (title_at kind octets.now) }
 {
-    match (kind, octets) {
-        (0, []) => Ok(Title::Absent),
-        (0, _) => Err(AddressFault::Extra),
-        (1, [nature, digits @ ..]) => {
-            let selector = Selector::new(1, 0, 0, *nature & 0x7F).unwrap();
-            global(alloc, selector, is_set(*nature, 8), digits, octets)
-        }
-        (2, [translation, digits @ ..]) => {
-            let selector = Selector::new(2, *translation, 0, 0).unwrap();
-            global(alloc, selector, false, digits, octets)
-        }
-        (3, [translation, plan, digits @ ..]) => {
-            let selector = Selector::new(3, *translation, *plan >> 4, 0).unwrap();
-            schemed(alloc, *plan & 0x0F, selector, digits, octets)
-        }
-        (4, _) => full_of(alloc, octets),
-        (1..=3, _) => Err(AddressFault::Short),
+    match kind {
+        0 => none_of(octets),
+        1 => nature_of(alloc, octets),
+        2 => translation_of(alloc, octets),
+        3 => plan_of(alloc, octets),
+        4 => full_of(alloc, octets),
         _ => raw(alloc, kind, octets),
     }
+}
+
+// The field of the subsystem number, which the indicator may announce, and what stands behind it.
+fn ssn_field(indicator: u8, octets: &[u8]) -> Result<(&[u8], &[u8]), AddressFault>
+    ensures { Gives (λ x. (x.0.now, x.1.now)) result (field_at (if bit indicator 2 then 1 else 0) octets.now) }
+{
+    if is_set(indicator, 2) {
+        field_of(1, octets)
+    } else {
+        field_of(0, octets)
+    }
+}
+
+// The kind of title that the indicator announces.
+fn kind_of(indicator: u8) -> u8
+    ensures { result ≡ bits indicator 3 6 }
+{
+    (indicator >> 2) & 0x0F
+}
+
+// The subsystem number that a field has.
+fn ssn_of(octets: &[u8]) -> Option<u8>
+    ensures { result ≡ first_of octets.now }
+{
+    match octets {
+        [ssn, ..] => Some(*ssn),
+        _ => None,
+    }
+}
+
+// The address behind its indicator and its point code.
+fn behind_pc(
+    alloc: Global,
+    indicator: u8,
+    pc: &[u8],
+    octets: &[u8],
+) -> Result<Address, AddressFault>
+    ensures { Gives (λ a. a) result (bind (field_at (if bit indicator 2 then 1 else 0) octets.now) (λ ssn. bind (title_at (bits indicator 3 6) ssn.1) (λ title. Ok (record { national = bit indicator 8; by_ssn = bit indicator 7; pc = point_code pc.now; ssn = first_of ssn.0; title = title })))) }
+{
+    let (ssn, rest) = ssn_field(indicator, octets)?;
+    let title = title_of(alloc, kind_of(indicator), rest)?;
+    Ok(Address {
+        national: is_set(indicator, 8),
+        by_ssn: is_set(indicator, 7),
+        pc: pc_of(pc),
+        ssn: ssn_of(ssn),
+        title,
+    })
 }
 
 // The address, by the one definition of what reading gives; `read` says the same by what the octets are.
@@ -129,15 +246,7 @@ fn address(alloc: Global, octets: &[u8]) -> Result<Address, AddressFault>
         return Err(AddressFault::Empty);
     };
     let (pc, rest) = field_of(if is_set(*indicator, 1) { 2 } else { 0 }, rest)?;
-    let (ssn, rest) = field_of(if is_set(*indicator, 2) { 1 } else { 0 }, rest)?;
-    let title = title_of(alloc, (*indicator >> 2) & 0x0F, rest)?;
-    Ok(Address {
-        national: is_set(*indicator, 8),
-        by_ssn: is_set(*indicator, 7),
-        pc: pc_of(pc),
-        ssn: ssn.first().copied(),
-        title,
-    })
+    behind_pc(alloc, *indicator, pc, rest)
 }
 
 /// The address that the octets are, all of them (Q.713 section 3.4). Spare bits and the filler are ignored.

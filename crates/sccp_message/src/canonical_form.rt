@@ -35,7 +35,11 @@ fn is_canonical(alloc: Global, octets: &[u8]) -> Result<bool, OutOfMemory>
     ensures { IfOk result (λ is. is ≡ canonical_octets octets.now) }
 {
     match decode(alloc, octets) {
-        Ok(message) => canonical_as(alloc, &message, octets),
+        Ok(message) => {
+            let canonical = canonical_as(alloc, &message, octets);
+            drop(message);
+            canonical
+        }
         Err(DecodeFault::OutOfMemory) => Err(OutOfMemory),
         Err(_) => Ok(false),
     }

@@ -2,7 +2,7 @@ ghost use Rattle.std.specs.Prelude.{◌≡◌, ◌≤◌, ◌-◌, [], ◌∷◌
 ghost use Rattle.std.specs.List.{range_with_len};
 ghost use Rattle.sccp_base.specs.Answers.{all_ok};
 ghost use Rattle.sccp_layout.specs.Parts.{FitsLayout};
-ghost use Rattle.sccp_message.specs.Reading.{Gives, address_in, message_in, reading, first_fault};
+ghost use Rattle.sccp_message.specs.Reading.{Gives, address_in, fields_in, message_in, reading, first_fault};
 ghost use Rattle.sccp_message.specs.Kinds.{is_plain, is_extended, has_parameters, has_no_parameters, message_if_of};
 ghost use Rattle.sccp_message.specs.declared.message.Message.{Message};
 ghost use Rattle.sccp_message.specs.Reads.{Reads};
@@ -14,7 +14,7 @@ use crate::message::Message;
 use crate::params::{CALLED, CALLING, CREDIT, DATA, HOPS, IMPORTANCE, SEGMENTATION, tested};
 use sccp_address::Address;
 use sccp_base::{List, Octets};
-use sccp_layout::{Part, Parts, SplitFault, split};
+use sccp_layout::{Param, Part, Parts, SplitFault, split};
 use std::alloc::Global;
 
 // The value of one field: it stands at a place of the fixed part, it is a variable part, or it is the parameters, of
@@ -33,10 +33,10 @@ macro_rules! field {
         is_more($fixed[$place])
     };
     (($alloc:ident $fixed:ident $variable:ident $params:ident) address($i:literal)) => {
-        address($alloc, &$variable, $i)?
+        address($alloc, $variable, $i)?
     };
     (($alloc:ident $fixed:ident $variable:ident $params:ident) data()) => {
-        data($alloc, &$variable)?
+        data($alloc, $variable)?
     };
     (($alloc:ident $fixed:ident $variable:ident $params:ident) known($($name:ident),*)) => {
         tested($alloc, &[$($name),*], $params)?
@@ -45,50 +45,52 @@ macro_rules! field {
 
 // The message of a code: a line for each type of one kind, with its fields in the order in which they are tested.
 macro_rules! by_code {
-    ($parts:expr, $alloc:ident; $($value:literal $variant:ident { $($field:ident: $kind:ident $place:tt),* })*) => {{
-        let Parts {
-            code,
-            fixed,
-            variable,
-            params,
-        } = $parts;
-        let fixed = fixed.as_slice();
-        match code {
+    ($alloc:ident $code:ident $fixed:ident $variable:ident $params:ident; $($value:literal $variant:ident { $($field:ident: $kind:ident $place:tt),* })*) => {
+        match $code {
             $($value => Ok(Message::$variant {
-                $($field: field!(($alloc fixed variable params) $kind $place)),*
+                $($field: field!(($alloc $fixed $variable $params) $kind $place)),*
             }),)*
             _ => Err(DecodeFault::Split(SplitFault::UnknownType)),
         }
-    }};
+    };
 }
 
 // The same of the types that carry addresses and data: their fixed octets, and of some the tested parameters.
 macro_rules! connectionless {
-    ($parts:expr, $alloc:ident; $($value:literal $variant:ident { $($octet:ident: octet($place:literal)),* $(; known($($name:ident),*))? })*) => {{
-        let Parts {
-            code,
-            fixed,
-            variable,
-            params,
-        } = $parts;
-        let fixed = fixed.as_slice();
-        match code {
+    ($alloc:ident $code:ident $fixed:ident $variable:ident; $($value:literal $variant:ident { $($octet:ident: octet($place:literal)),* })*) => {
+        match $code {
             $($value => {
-                let Carried { called, calling, payload } = what_is_carried($alloc, &variable)?;
+                let Carried { called, calling, payload } = what_is_carried($alloc, $variable)?;
                 Ok(Message::$variant {
-                    $($octet: fixed[$place],)*
+                    $($octet: $fixed[$place],)*
                     called,
                     calling,
                     payload,
-                    $(params: tested($alloc, &[$($name),*], params)?,)?
                 })
             })*
             _ => Err(DecodeFault::Split(SplitFault::UnknownType)),
         }
-    }};
+    };
+    ($alloc:ident $code:ident $fixed:ident $variable:ident $params:ident; $($value:literal $variant:ident { $($octet:ident: octet($place:literal)),* })*) => {
+        match $code {
+            $($value => {
+                let carried = what_is_carried($alloc, $variable)?;
+                let (Carried { called, calling, payload }, params) = with_tested($alloc, carried, $params)?;
+                Ok(Message::$variant {
+                    $($octet: $fixed[$place],)*
+                    called,
+                    calling,
+                    payload,
+                    params,
+                })
+            })*
+            _ => Err(DecodeFault::Split(SplitFault::UnknownType)),
+        }
+    };
 }
 
 // What every connectionless message carries: its addresses are the first two variable parts, and its data are the last.
+#[derive(Drop)]
 struct Carried {
     called: Address,
     calling: Address,
@@ -110,6 +112,24 @@ fn what_is_carried(alloc: Global, variable: &List<Part<'_>>) -> Result<Carried, 
     })
 }
 
+// The same with its parameters, where those that are known to it are read.
+fn with_tested(
+    alloc: Global,
+    carried: Carried,
+    params: List<Param>,
+) -> Result<(Carried, List<Param>), DecodeFault>
+    ensures carried { IfOk result (λ both. both.0 ≡ carried) }
+    ensures params { Gives (λ both. both.1) result (fields_in (SEGMENTATION ∷ IMPORTANCE ∷ []) params) }
+{
+    match tested(alloc, &[SEGMENTATION, IMPORTANCE], params) {
+        Ok(params) => Ok((carried, params)),
+        Err(fault) => {
+            drop(carried);
+            Err(fault)
+        }
+    }
+}
+
 // Connectionless types without an optional part.
 fn plain_code(code: u8) -> bool
     ensures { result ≡ is_plain code }
@@ -118,11 +138,17 @@ fn plain_code(code: u8) -> bool
 }
 
 #[tactic(auto, unfolding(crate::specs::Reading::message_in))]
-fn plain(alloc: Global, parts: Parts<'_>) -> Result<Message, DecodeFault>
-    requires { FitsLayout parts }
-    ensures { Gives (λ m. m) result (message_if_of is_plain parts.entry) }
+fn plain(
+    alloc: Global,
+    code: u8,
+    fixed: &[u8],
+    variable: &List<Part<'_>>,
+    params: List<Param>,
+) -> Result<Message, DecodeFault>
+    requires { FitsLayout (record { code = code; fixed = fixed.now; variable = variable.now; params = params }) }
+    ensures { Gives (λ m. m) result (message_if_of is_plain (record { code = code; fixed = fixed.now; variable = variable.now; params = params })) }
 {
-    connectionless! { parts, alloc;
+    connectionless! { alloc code fixed variable;
         0x09 Udt { class: octet(0) }
         0x0A Udts { cause: octet(0) }
     }
@@ -136,15 +162,21 @@ fn extended_code(code: u8) -> bool
 }
 
 #[tactic(auto, unfolding(crate::specs::Reading::message_in))]
-fn extended(alloc: Global, parts: Parts<'_>) -> Result<Message, DecodeFault>
-    requires { FitsLayout parts }
-    ensures { Gives (λ m. m) result (message_if_of is_extended parts.entry) }
+fn extended(
+    alloc: Global,
+    code: u8,
+    fixed: &[u8],
+    variable: &List<Part<'_>>,
+    params: List<Param>,
+) -> Result<Message, DecodeFault>
+    requires { FitsLayout (record { code = code; fixed = fixed.now; variable = variable.now; params = params }) }
+    ensures { Gives (λ m. m) result (message_if_of is_extended (record { code = code; fixed = fixed.now; variable = variable.now; params = params })) }
 {
-    connectionless! { parts, alloc;
-        0x11 Xudt { class: octet(0), hops: octet(1); known(SEGMENTATION, IMPORTANCE) }
-        0x12 Xudts { cause: octet(0), hops: octet(1); known(SEGMENTATION, IMPORTANCE) }
-        0x13 Ludt { class: octet(0), hops: octet(1); known(SEGMENTATION, IMPORTANCE) }
-        0x14 Ludts { cause: octet(0), hops: octet(1); known(SEGMENTATION, IMPORTANCE) }
+    connectionless! { alloc code fixed variable params;
+        0x11 Xudt { class: octet(0), hops: octet(1) }
+        0x12 Xudts { cause: octet(0), hops: octet(1) }
+        0x13 Ludt { class: octet(0), hops: octet(1) }
+        0x14 Ludts { cause: octet(0), hops: octet(1) }
     }
 }
 
@@ -156,11 +188,17 @@ fn code_with_parameters(code: u8) -> bool
 }
 
 #[tactic(auto, unfolding(crate::specs::Reading::message_in))]
-fn with_parameters(alloc: Global, parts: Parts<'_>) -> Result<Message, DecodeFault>
-    requires { FitsLayout parts }
-    ensures { Gives (λ m. m) result (message_if_of has_parameters parts.entry) }
+fn with_parameters(
+    alloc: Global,
+    code: u8,
+    fixed: &[u8],
+    variable: &List<Part<'_>>,
+    params: List<Param>,
+) -> Result<Message, DecodeFault>
+    requires { FitsLayout (record { code = code; fixed = fixed.now; variable = variable.now; params = params }) }
+    ensures { Gives (λ m. m) result (message_if_of has_parameters (record { code = code; fixed = fixed.now; variable = variable.now; params = params })) }
 {
-    by_code! { parts, alloc;
+    by_code! { alloc code fixed variable params;
         0x01 Cr { slr: reference(0), class: octet(3), called: address(0), params: known(CREDIT, CALLING, DATA, HOPS, IMPORTANCE) }
         0x02 Cc { dlr: reference(0), slr: reference(3), class: octet(6), params: known(CREDIT, CALLED, DATA, IMPORTANCE) }
         0x03 Cref { dlr: reference(0), cause: octet(3), params: known(CALLED, DATA, IMPORTANCE) }
@@ -185,11 +223,17 @@ fn code_without_parameters(code: u8) -> bool
 }
 
 #[tactic(auto, unfolding(crate::specs::Reading::message_in))]
-fn without_parameters(alloc: Global, parts: Parts<'_>) -> Result<Message, DecodeFault>
-    requires { FitsLayout parts }
-    ensures { Gives (λ m. m) result (message_if_of has_no_parameters parts.entry) }
+fn without_parameters(
+    alloc: Global,
+    code: u8,
+    fixed: &[u8],
+    variable: &List<Part<'_>>,
+    params: List<Param>,
+) -> Result<Message, DecodeFault>
+    requires { FitsLayout (record { code = code; fixed = fixed.now; variable = variable.now; params = params }) }
+    ensures { Gives (λ m. m) result (message_if_of has_no_parameters (record { code = code; fixed = fixed.now; variable = variable.now; params = params })) }
 {
-    by_code! { parts, alloc;
+    by_code! { alloc code fixed variable params;
         0x05 Rlc { dlr: reference(0), slr: reference(3) }
         0x06 Dt1 { dlr: reference(0), more: more(3), payload: data() }
         0x07 Dt2 { dlr: reference(0), send: sequence(3), receive: sequence(4), more: more(4), payload: data() }
@@ -208,17 +252,24 @@ fn message(alloc: Global, parts: Parts<'_>) -> Result<Message, DecodeFault>
     requires { FitsLayout parts }
     ensures { Gives (λ m. m) result (message_in parts.entry) }
 {
-    if plain_code(parts.code) {
-        return plain(alloc, parts);
+    let Parts {
+        code,
+        fixed,
+        variable,
+        params,
+    } = parts;
+    let fixed = fixed.as_slice();
+    if plain_code(code) {
+        return plain(alloc, code, fixed, &variable, params);
     }
-    if extended_code(parts.code) {
-        return extended(alloc, parts);
+    if extended_code(code) {
+        return extended(alloc, code, fixed, &variable, params);
     }
-    if code_with_parameters(parts.code) {
-        return with_parameters(alloc, parts);
+    if code_with_parameters(code) {
+        return with_parameters(alloc, code, fixed, &variable, params);
     }
-    if code_without_parameters(parts.code) {
-        return without_parameters(alloc, parts);
+    if code_without_parameters(code) {
+        return without_parameters(alloc, code, fixed, &variable, params);
     }
     Err(DecodeFault::Split(SplitFault::UnknownType))
 }

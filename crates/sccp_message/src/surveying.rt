@@ -13,7 +13,10 @@ fn fault_of(alloc: Global, octets: &[u8]) -> Result<Option<DecodeFault>, OutOfMe
     ensures { IfOk result (λ fault. fault ≡ first_fault octets.now) }
 {
     match decode(alloc, octets) {
-        Ok(_) => Ok(None),
+        Ok(message) => {
+            drop(message);
+            Ok(None)
+        }
         Err(DecodeFault::OutOfMemory) => Err(OutOfMemory),
         Err(fault) => Ok(Some(fault)),
     }

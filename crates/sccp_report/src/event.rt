@@ -1,4 +1,4 @@
-ghost use Rattle.std.specs.Prelude.{◌≡◌, ◌++◌, IfOk, OnOk};
+ghost use Rattle.std.specs.Prelude.{◌≡◌, ◌++◌, codes, IfOk, OnOk};
 ghost use Rattle.std.specs.Option.{option_and_then, option_copied};
 ghost use Rattle.sccp_manage.specs.Statuses.{status_of};
 ghost use Rattle.sccp_message.specs.Reading.{reading};
@@ -119,15 +119,24 @@ fn put_message(text: &mut Text, message: &Message) -> Result<(), OutOfMemory>
     put_coupling(text, message)
 }
 
+/// Appends what is told of a message, to the end of the line.
+fn put_words_line(text: &mut Text, message: &Message) -> Result<(), OutOfMemory>
+    ensures { OnOk result (text.new ≡ text.old ++ codes " " ++ message_words message.now ++ codes "\n") }
+{
+    text.put(b" ")?;
+    put_message(text, message)?;
+    text.put(b"\n")
+}
+
 #[tactic(auto, unfolding(crate::specs::Events::message_line))]
 fn put_message_line(alloc: Global, text: &mut Text, octets: &[u8]) -> Result<(), OutOfMemory>
     ensures { OnOk result (text.new ≡ text.old ++ message_line (reading octets.now)) }
 {
     match decode(alloc, octets) {
         Ok(message) => {
-            text.put(b" ")?;
-            put_message(text, &message)?;
-            text.put(b"\n")
+            let told = put_words_line(text, &message);
+            drop(message);
+            told
         }
         Err(DecodeFault::OutOfMemory) => Err(OutOfMemory),
         Err(fault) => {

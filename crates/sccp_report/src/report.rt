@@ -1,11 +1,13 @@
-ghost use Rattle.std.specs.Prelude.{◌≡◌, ◌++◌, IfOk, OnOk};
-ghost use Rattle.sccp_report.specs.MessageText.{undecodable_line, canonical_line, message_text};
+ghost use Rattle.std.specs.Prelude.{◌≡◌, ◌++◌, Ok, IfOk, OnOk};
+ghost use Rattle.sccp_message.specs.Encoding.{canonical};
+ghost use Rattle.sccp_message.specs.Reading.{reading};
+ghost use Rattle.sccp_report.specs.MessageText.{message_lines, undecodable_line, canonical_line, message_text};
 
 use crate::fault::put_fault;
 use crate::message::put_message;
 use crate::text::Text;
 use sccp_base::{Octets, OutOfMemory};
-use sccp_message::{DecodeFault, canonical_as, decode};
+use sccp_message::{DecodeFault, Message, canonical_as, decode};
 use std::alloc::Global;
 
 /// Appends the line on octets that are no message.
@@ -16,6 +18,20 @@ pub fn put_undecodable(text: &mut Text, fault: DecodeFault) -> Result<(), OutOfM
     text.put(b"undecodable ")?;
     put_fault(text, fault)?;
     text.put(b"\n")
+}
+
+// The message that octets are, and whether they are those that are written of it.
+fn put_tested(
+    alloc: Global,
+    text: &mut Text,
+    message: &Message,
+    octets: &[u8],
+) -> Result<(), OutOfMemory>
+    requires { reading octets.now ≡ Ok message.now }
+    ensures { OnOk result (text.new ≡ text.old ++ message_lines message.now ++ canonical_line (canonical octets.now)) }
+{
+    put_message(text, message)?;
+    put_canonical(text, canonical_as(alloc, message, octets)?)
 }
 
 // Whether the octets are those that are written of the message.
@@ -38,8 +54,9 @@ pub fn message_text(alloc: Global, octets: &[u8]) -> Result<Octets, OutOfMemory>
     let mut text = Text::new(alloc);
     match decode(alloc, octets) {
         Ok(message) => {
-            put_message(&mut text, &message)?;
-            put_canonical(&mut text, canonical_as(alloc, &message, octets)?)?
+            let told = put_tested(alloc, &mut text, &message, octets);
+            drop(message);
+            told?
         }
         Err(DecodeFault::OutOfMemory) => return Err(OutOfMemory),
         Err(fault) => put_undecodable(&mut text, fault)?,

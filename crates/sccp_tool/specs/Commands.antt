@@ -15,6 +15,16 @@ use Rattle.sccp_tool.specs.ShowHex.{show_hex_words}
 use Rattle.sccp_tool.specs.Task.{Task}
 use Rattle.sccp_tool.specs.Verify.{verify_words}
 
+-- the commands behind the first six
+unfoldable pub further_command_of : List ℕ → List (List ℕ) → Option Task
+further_command_of name words =
+    if bytes_eq name (codes "cuts") then cuts_words words
+    else if bytes_eq name (codes "import") then import_words words
+    else if bytes_eq name (codes "change") then change_words words
+    else if bytes_eq name (codes "connect") then connect_words words
+    else if bytes_eq name (codes "send-on") then send_on_words words
+    else None
+
 -- the commands by their names
 unfoldable pub command_of : List ℕ → List (List ℕ) → Option Task
 command_of name words =
@@ -24,12 +34,7 @@ command_of name words =
     else if bytes_eq name (codes "route") then route_words words
     else if bytes_eq name (codes "replay") then replay_words words
     else if bytes_eq name (codes "load") then load_words words
-    else if bytes_eq name (codes "cuts") then cuts_words words
-    else if bytes_eq name (codes "import") then import_words words
-    else if bytes_eq name (codes "change") then change_words words
-    else if bytes_eq name (codes "connect") then connect_words words
-    else if bytes_eq name (codes "send-on") then send_on_words words
-    else None
+    else further_command_of name words
 
 -- none where the words have none of the shapes
 abbrev pub task_of : List (List ℕ) → Option Task

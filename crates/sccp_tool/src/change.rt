@@ -73,9 +73,19 @@ pub fn change<F: Files, K: Sink>(
         (moment F.contents F.sound F.faults K.taken K.faults files.new out.new) }
 {
     let first = with_accepted(alloc, OLD, old, files, out)?;
-    let second = with_accepted(alloc, NEW, new, files, out)?;
-    let answer = answer_on(alloc, &first, &second)?;
-    print_last(out, answer.text.as_slice(), answer.status)
+    match with_accepted(alloc, NEW, new, files, out) {
+        Ok(second) => {
+            let answer = answer_on(alloc, &first, &second);
+            drop(first);
+            drop(second);
+            let answer = answer?;
+            print_last(out, answer.text.as_slice(), answer.status)
+        }
+        Err(stop) => {
+            drop(first);
+            Err(stop)
+        }
+    }
 }
 
 /// The plan of a file, where it is accepted, which a line behind this word tells. What else comes of the file is told behind the
@@ -96,14 +106,20 @@ fn with_accepted<F: Files, K: Sink>(
         Ok(plan) => {
             let Judged { verdict, line } = verdict_behind(alloc, word, plan)?;
             match verdict {
-                Verdict::Accepted(accepted) => {
-                    put_all(out, line.as_slice())?;
-                    Ok(accepted)
-                }
-                Verdict::Refused(_, _) => {
+                Verdict::Accepted(accepted) => match put_all(out, line.as_slice()) {
+                    Ok(()) => Ok(accepted),
+                    Err(stop) => {
+                        drop(accepted);
+                        Err(stop)
+                    }
+                },
+                Verdict::Refused(plan, witness) => {
+                    drop(plan);
+                    drop(witness);
                     Err(early(print_last(out, line.as_slice(), Status::Refused)))
                 }
-                Verdict::TooWide(_) => {
+                Verdict::TooWide(plan) => {
+                    drop(plan);
                     Err(early(print_last(out, line.as_slice(), Status::TooWide)))
                 }
             }
@@ -130,9 +146,23 @@ fn verdict_behind(alloc: Global, word: &[u8], plan: Plan) -> Result<Judged, OutO
     ensures line { IfOk result (λ j. j.line ≡ word.now ++ plan_told plan j.verdict) }
 {
     let verdict = plan_verify::verify(alloc, plan)?;
-    let text = told(alloc, &verdict)?;
-    let line = behind(alloc, word, text.as_slice())?;
-    Ok(Judged { verdict, line })
+    match told_behind(alloc, word, &verdict) {
+        Ok(line) => Ok(Judged { verdict, line }),
+        Err(fault) => {
+            drop(verdict);
+            Err(fault)
+        }
+    }
+}
+
+/// What is told of a plan behind a word.
+fn told_behind(alloc: Global, word: &[u8], verdict: &Verdict) -> Result<Octets, OutOfMemory>
+    requires plan { IsPlan (plan_of verdict.now) }
+    requires lawful { IsLawful (plan_of verdict.now) verdict.now }
+    ensures { IfOk result (λ line. line ≡ word.now ++ plan_told (plan_of verdict.now) verdict.now) }
+{
+    let text = told(alloc, verdict)?;
+    behind(alloc, word, text.as_slice())
 }
 
 /// The line on a text that is no plan, behind a word.

@@ -1,6 +1,6 @@
 //! The words of the command line.
 ghost use Rattle.std.specs.Prelude.{◌≡◌, IfOk};
-ghost use Rattle.sccp_tool.specs.Commands.{command_of, task_of, texts};
+ghost use Rattle.sccp_tool.specs.Commands.{command_of, further_command_of, task_of, texts};
 ghost use Rattle.sccp_tool.specs.Parsed.{task_in};
 
 use crate::change::change_words;
@@ -77,7 +77,21 @@ fn command_of<'a>(
         Ok(replay_words(words))
     } else if name == "load" {
         Ok(load_words(words))
-    } else if name == "cuts" {
+    } else {
+        further_command_of(alloc, name, words)
+    }
+}
+
+/// The same, of the commands that stand behind those.
+#[tactic(auto, unfolding(crate::specs::Commands::further_command_of))]
+fn further_command_of<'a>(
+    alloc: Global,
+    name: &str,
+    words: &'a [String],
+) -> Result<Option<Command<'a>>, OutOfMemory>
+    ensures { IfOk result (λ command. task_in command ≡ further_command_of name.now (texts words.now)) }
+{
+    if name == "cuts" {
         cuts_words(alloc, words)
     } else if name == "import" {
         Ok(import_words(words))

@@ -157,12 +157,11 @@ fn connect_judged<K: Sink>(
         Verdict::Accepted(accepted) => {
             connect_accepted(alloc, accepted.into_plan(), calling, out)
         }
-        Verdict::Refused(plan, witness) => tell_verdict(
-            alloc,
-            &Verdict::Refused(plan, witness),
-            out,
-        ),
-        Verdict::TooWide(plan) => tell_verdict(alloc, &Verdict::TooWide(plan), out),
+        other => {
+            let told = tell_verdict(alloc, &other, out);
+            drop(other);
+            told
+        }
     }
 }
 
@@ -186,10 +185,14 @@ fn connect_text(alloc: Global, plan: Plan, calling: &Calling) -> Result<Octets, 
     ensures { IfOk result (λ text. text ≡ connect_text plan calling.now) }
 {
     let Some(node) = plan.node_named(&calling.start.node) else {
+        drop(plan);
         return Ok(Octets::from_vec(Vec::from_slice(alloc, UNKNOWN_NODE)?));
     };
     match plan.node_at(calling.from) {
-        Some(_) => Ok(Octets::from_vec(Vec::from_slice(alloc, END_IS_NODE)?)),
+        Some(_) => {
+            drop(plan);
+            Ok(Octets::from_vec(Vec::from_slice(alloc, END_IS_NODE)?))
+        }
         None => call_text(alloc, plan, node, calling),
     }
 }
@@ -199,9 +202,16 @@ fn call_text(alloc: Global, plan: Plan, node: u8, calling: &Calling) -> Result<O
     requires { node < length plan.nodes }
     ensures { IfOk result (λ text. text ≡ call_text plan node calling.now) }
 {
-    let call = call_of(alloc, &plan, node, calling)?;
-    let outcome = chain_call::connect(alloc, plan, &call)?;
-    outcome_text(alloc, &outcome)
+    match call_of(alloc, &plan, node, calling) {
+        Ok(call) => {
+            let outcome = chain_call::connect(alloc, plan, &call)?;
+            outcome_text(alloc, &outcome)
+        }
+        Err(fault) => {
+            drop(plan);
+            Err(fault)
+        }
+    }
 }
 
 /// The connection that is asked for.

@@ -83,7 +83,9 @@ pub fn load<R: Threads + Sync, K: Sink>(
 {
     let plan = load_plan(alloc, number)?;
     let verdict = plan_verify::verify(alloc, plan)?;
-    load_judged(rt, alloc, &verdict, number, size, workers, out)
+    let loaded = load_judged(rt, alloc, &verdict, number, size, workers, out);
+    drop(verdict);
+    loaded
 }
 
 /// What follows the verdict on the plan.

@@ -150,7 +150,11 @@ fn carry_out<R: Threads + Wait + Sync, G: Gate + Sync, F: Files, K: Sink>(
         (moment F.contents F.sound F.faults K.taken K.faults files.new out.new) }
 {
     match parse(alloc, words) {
-        Ok(Some(command)) => obey(rt, gate, alloc, &command, files, out),
+        Ok(Some(command)) => {
+            let obeyed = obey(rt, gate, alloc, &command, files, out);
+            drop(command);
+            obeyed
+        }
         Ok(None) => print_last(out, USAGE, Status::Usage),
         Err(OutOfMemory) => Err(Stop::Memory),
     }

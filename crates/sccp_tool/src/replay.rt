@@ -101,12 +101,11 @@ fn replay_judged<R: Threads + Wait + Sync, G: Gate + Sync, F: Files, K: Sink>(
         Verdict::Accepted(accepted) => replay_accepted(
             rt, gate, alloc, accepted, plan, trace, workers, files, out,
         ),
-        Verdict::Refused(plan, witness) => tell_verdict(
-            alloc,
-            &Verdict::Refused(plan, witness),
-            out,
-        ),
-        Verdict::TooWide(plan) => tell_verdict(alloc, &Verdict::TooWide(plan), out),
+        other => {
+            let told = tell_verdict(alloc, &other, out);
+            drop(other);
+            told
+        }
     }
 }
 

@@ -67,9 +67,19 @@ impl Replayer {
         requires { (1 ≤ workers) × (workers ≤ 16) }
         ensures { IfOk result (λ r. r ≡ start workers first.plan) }
     {
-        let net = Net::new(alloc, first.plan())?;
-        let by = Router::new(rt, alloc, first, workers)?;
-        Ok(Replayer { alloc, by, net })
+        match Net::new(alloc, first.plan()) {
+            Ok(net) => match Router::new(rt, alloc, first, workers) {
+                Ok(by) => Ok(Replayer { alloc, by, net }),
+                Err(fault) => {
+                    drop(net);
+                    Err(fault)
+                }
+            },
+            Err(fault) => {
+                drop(first);
+                Err(fault)
+            }
+        }
     }
 
     /// The first plan. Each later one has its nodes.

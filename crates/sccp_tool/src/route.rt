@@ -76,7 +76,9 @@ pub fn route<F: Files, K: Sink>(
         (moment F.contents F.sound F.faults K.taken K.faults files.new out.new) }
 {
     let plan = with_plan(alloc, name, files, out)?;
-    let text = route_text(alloc, &plan, start)?;
+    let text = route_text(alloc, &plan, start);
+    drop(plan);
+    let text = text?;
     print_last(out, text.as_slice(), Status::Done)
 }
 

@@ -138,7 +138,9 @@ pub fn send_on<F: Files, K: Sink>(
         (moment F.contents F.sound F.faults K.taken K.faults files.new out.new) }
 {
     let plan = with_plan(alloc, name, files, out)?;
-    let text = send_on_text(alloc, &plan, incoming)?;
+    let text = send_on_text(alloc, &plan, incoming);
+    drop(plan);
+    let text = text?;
     print_last(out, text.as_slice(), Status::Done)
 }
 
@@ -162,7 +164,9 @@ fn text_at(alloc: Global, plan: &Plan, node: u8, incoming: &Incoming) -> Result<
     let octets = incoming.octets.as_slice();
     let marking = Marking::new(alloc);
     let arrival = arrive(alloc, plan, node, &marking, incoming.origin, octets)?;
-    arrival_text(alloc, &arrival, octets, incoming.size)
+    let text = arrival_text(alloc, &arrival, octets, incoming.size);
+    drop(arrival);
+    text
 }
 
 /// The lines of an arrival of these octets.

@@ -47,9 +47,16 @@ fn accept_later(
     ensures at { OnOk result (ahead at.now coming.new ≡ record (ahead at.now coming.old) { later = (ahead at.now coming.old).later ++ plan.plan ∷ [] }) }
     ensures fits { IfOk result (ComesToNode at.now.first) }
 {
-    let text = accepted_plan_line(alloc, line, at.accepted(coming) + 1, name, &plan)?;
-    at.accept(coming, plan)?;
-    Ok(Settled::Prints(text))
+    match accepted_plan_line(alloc, line, at.accepted(coming) + 1, name, &plan) {
+        Ok(text) => {
+            at.accept(coming, plan)?;
+            Ok(Settled::Prints(text))
+        }
+        Err(fault) => {
+            drop(plan);
+            Err(fault)
+        }
+    }
 }
 
 /// A later plan wasn't accepted.
@@ -64,7 +71,9 @@ fn refuse_later(
     ensures text { IfOk result (λ s. settled_in s ≡ prints (refused_plan_head line name.now ++ verdict_text (plan_of verdict) verdict)) }
     ensures fits { IfOk result (λ s. (first : Network) → ComesToNode first s) }
 {
-    Ok(Settled::Prints(refused_plan_text(alloc, line, name, &verdict)?))
+    let text = refused_plan_text(alloc, line, name, &verdict);
+    drop(verdict);
+    Ok(Settled::Prints(text?))
 }
 
 /// The verdict on a later plan of the same relays.
@@ -114,6 +123,7 @@ fn read_later(
             if have_same_nodes(at.first(), &plan) {
                 judge_later(alloc, at, coming, line, name, plan)
             } else {
+                drop(plan);
                 Ok(Settled::Prints(other_nodes_line(alloc, line, name)?))
             }
         }

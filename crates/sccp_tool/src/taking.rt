@@ -1,9 +1,11 @@
 //! One line of a trace after the other.
-ghost use Rattle.std.specs.Prelude.{◌≡◌, [], All, IfOk, OnOk};
+ghost use Rattle.std.specs.Prelude.{◌≡◌, ◌++◌, [], All, IfOk, OnOk};
 ghost use Rattle.std.specs.Option.{option_map};
+ghost use Rattle.sccp_report.specs.Events.{event_text};
 ghost use Rattle.sccp_report.specs.Roles.{StandsIn, alone, as_due, role_of};
 ghost use Rattle.sccp_tool.specs.Gathering.{IsBegun, IsJoined, joining_role, lines_in};
 ghost use Rattle.sccp_tool.specs.Moment.{moment};
+ghost use Rattle.sccp_tool.specs.Replay.{done_alone};
 ghost use Rattle.sccp_tool.specs.Settling.{TakesLine, TakesLines, WritesBatch, Gathers, StandsAlone, IsPlaced};
 
 use crate::batch::batch_text;
@@ -13,9 +15,9 @@ use crate::replayer::Replayer;
 use crate::stop::Stop;
 use crate::writing::put_all;
 use live_plan::Gate;
-use sccp_base::{List, OutOfMemory};
+use sccp_base::{List, Octets, OutOfMemory};
 use sccp_io::{Files, Sink};
-use sccp_report::{Due, Role, put_event, role_of};
+use sccp_report::{Due, Role, Text, put_event, role_of};
 use std::alloc::Global;
 use std::sync::Wait;
 use std::thread::Threads;
@@ -72,6 +74,25 @@ fn gather<R: Threads + Wait + Sync, G: Gate + Sync, F: Files, K: Sink>(
     }
 }
 
+/// What a line does that stands alone is done, and is told behind the text of the batch before it.
+fn alone_text(
+    alloc: Global,
+    at: &mut Replayer,
+    mut text: Text,
+    line: &Numbered,
+    due: Option<Due>,
+) -> Result<Octets, OutOfMemory>
+    requires { StandsIn at.old.first (alone (option_map as_due due)) }
+    ensures at { OnOk result (at.new ≡ record at.old { states = (done_alone at.old (option_map as_due due)).states }) }
+    ensures text { IfOk result (λ whole. whole ≡ text ++ event_text at.old.first line.now (done_alone at.old (option_map as_due due)).outcomes) }
+{
+    let outcomes = at.apply_alone(due)?;
+    let told = put_event(alloc, &mut text, at.first(), line, &outcomes);
+    drop(outcomes);
+    told?;
+    Ok(text.into_octets())
+}
+
 /// A line stands alone: the batch before it is done, then what the line does, and both are written.
 #[tactic(auto, using(crate::proofs::TakeSteps::batch_stopped, crate::proofs::TakeSteps::batch_memory, crate::proofs::TakeSteps::alone_written))]
 fn stand_alone<R: Threads + Wait + Sync, G: Gate + Sync, F: Files, K: Sink>(
@@ -93,10 +114,16 @@ fn stand_alone<R: Threads + Wait + Sync, G: Gate + Sync, F: Files, K: Sink>(
     ensures none { OnOk result (batch.new ≡ []) }
     ensures left { F.left files.new ≡ F.left files.old }
 {
-    let mut text = batch_text(rt, gate, alloc, at, batch.take(alloc), files, out)?;
-    let outcomes = at.apply_alone(due)?;
-    put_event(alloc, &mut text, at.first(), line, &outcomes)?;
-    put_all(out, text.into_octets().as_slice())
+    match batch_text(rt, gate, alloc, at, batch.take(alloc), files, out) {
+        Ok(text) => {
+            let whole = alone_text(alloc, at, text, line, due)?;
+            put_all(out, whole.as_slice())
+        }
+        Err(stop) => {
+            drop(due);
+            Err(stop)
+        }
+    }
 }
 
 /// What a line of a trace is to the batch before it.

@@ -53,7 +53,9 @@ pub fn verify<F: Files, K: Sink>(
 {
     let plan = with_plan(alloc, name, files, out)?;
     let verdict = plan_verify::verify(alloc, plan)?;
-    tell_verdict(alloc, &verdict, out)
+    let told = tell_verdict(alloc, &verdict, out);
+    drop(verdict);
+    told
 }
 
 /// Prints a verdict, and answers as it says.

@@ -1,6 +1,6 @@
 //! Plans that are published while messages are routed by them: one relay, which sends titles of 49 to 2-0-1 under the first plan,
 //! and to 2-0-2 under the second.
-ghost use Rattle.std.specs.Prelude.{◌≡◌, ◌<◌, All, length, map, IfOk};
+ghost use Rattle.std.specs.Prelude.{◌≡◌, ◌<◌, [], All, length, map, IfOk, OnOk};
 ghost use Rattle.std.specs.Arc.{arc_value};
 ghost use Rattle.live_plan.specs.Plans.{HaveNodes, nodes_of};
 ghost use Rattle.live_plan.specs.Tellers.{plans_of};
@@ -44,7 +44,10 @@ fn accepted(alloc: Global, text: &str) -> Result<Accepted, Fail> {
     let plan = read(alloc, text.as_bytes())?;
     match verify(alloc, plan)? {
         Verdict::Accepted(accepted) => Ok(accepted),
-        _ => Err("a plan that is accepted")?,
+        other => {
+            drop(other);
+            Err("a plan that is accepted")?
+        }
     }
 }
 
@@ -54,6 +57,7 @@ fn one_relay(alloc: Global, text: &str) -> Result<Accepted, Fail>
 {
     let plan = accepted(alloc, text)?;
     if plan.plan().nodes().as_slice().len() != 1 {
+        drop(plan);
         return Err("one relay")?;
     }
     Ok(plan)
@@ -64,8 +68,11 @@ fn states(alloc: Global) -> Result<Net, Fail>
     ensures { IfOk result (λ net. length net ≡ 1) }
 {
     let plan = accepted(alloc, ONE_TARGET)?;
-    let net = Net::new(alloc, plan.plan())?;
+    let net = Net::new(alloc, plan.plan());
+    drop(plan);
+    let net = net?;
     if net.states().len() != 1 {
+        drop(net);
         return Err("one state")?;
     }
     Ok(net)
@@ -105,16 +112,38 @@ fn told(served: &Served) -> (u32, u16) {
     }
 }
 
+/// The plan of one relay, shared.
+fn shared(alloc: Global, text: &str) -> Result<Arc<Accepted>, Fail>
+    ensures { IfOk result (λ plan. nodes_of (arc_value plan) ≡ 1) }
+{
+    Ok(Arc::new(alloc, one_relay(alloc, text)?)?)
+}
+
+/// Appends three of them to an empty list.
+fn push_three(alloc: Global, plans: &mut List<Arc<Accepted>>) -> Result<(), Fail>
+    requires { plans.old ≡ [] }
+    ensures count { OnOk result (length plans.new ≡ 3) }
+    ensures nodes { OnOk result (HaveNodes 1 (map arc_value plans.new)) }
+{
+    plans.push(shared(alloc, ONE_TARGET)?)?;
+    plans.push(shared(alloc, ELSEWHERE)?)?;
+    plans.push(shared(alloc, ONE_TARGET)?)?;
+    Ok(())
+}
+
 /// The plans to 2-0-1, to 2-0-2, and to 2-0-1 again.
 fn three_plans(alloc: Global) -> Result<List<Arc<Accepted>>, Fail>
     ensures count { IfOk result (λ plans. length plans ≡ 3) }
     ensures nodes { IfOk result (λ plans. HaveNodes 1 (map arc_value plans)) }
 {
     let mut plans = List::new(alloc);
-    plans.push(Arc::new(alloc, one_relay(alloc, ONE_TARGET)?)?)?;
-    plans.push(Arc::new(alloc, one_relay(alloc, ELSEWHERE)?)?)?;
-    plans.push(Arc::new(alloc, one_relay(alloc, ONE_TARGET)?)?)?;
-    Ok(plans)
+    match push_three(alloc, &mut plans) {
+        Ok(()) => Ok(plans),
+        Err(fault) => {
+            drop(plans);
+            Err(fault)
+        }
+    }
 }
 
 /// A worker over them, of whose calls the second is refused.
@@ -155,12 +184,26 @@ fn serves(alloc: Global, worker: &mut Worker<ListPlace>) -> Result<(u32, u16), F
     serves_job(alloc, worker, net.states(), &job)
 }
 
+/// What is told of the next three jobs.
+fn serves_three(
+    alloc: Global,
+    worker: &mut Worker<ListPlace>,
+) -> Result<((u32, u16), (u32, u16), (u32, u16)), Fail> {
+    let first = serves(alloc, worker)?;
+    let second = serves(alloc, worker)?;
+    let third = serves(alloc, worker)?;
+    Ok((first, second, third))
+}
+
 #[test]
 fn a_refused_entry_keeps_the_plan(rt: HostRuntime) -> Result<(), Fail> {
     let mut worker = worker(rt.alloc())?;
-    assert_eq!(rt; serves(rt.alloc(), &mut worker)?, (2, 4098));
-    assert_eq!(rt; serves(rt.alloc(), &mut worker)?, (2, 4098));
-    assert_eq!(rt; serves(rt.alloc(), &mut worker)?, (3, 4097));
+    let told = serves_three(rt.alloc(), &mut worker);
+    drop(worker);
+    let (first, second, third) = told?;
+    assert_eq!(rt; first, (2, 4098));
+    assert_eq!(rt; second, (2, 4098));
+    assert_eq!(rt; third, (3, 4097));
     Ok(())
 }
 
@@ -214,7 +257,9 @@ fn meet<R: Threads + Wait + Sync>(
     let plans = second(alloc)?;
     let states = net.states();
     let answers = run_batch(rt, alloc, teller, workers, states, &jobs, plans, gate)?;
-    Ok(are_met(answers.as_slice()))
+    let met = are_met(answers.as_slice());
+    drop(answers);
+    Ok(met)
 }
 
 #[test]
@@ -226,8 +271,11 @@ fn publisher_and_workers_run_beside_each_other(rt: HostRuntime) -> Result<(), Fa
     let met = meet(&rt, alloc, &mut teller, &mut workers, &gate);
     let number = teller.number();
     teller.end(&rt);
+    drop(workers);
+    let kept = gate.was_kept();
+    drop(gate);
     let met = met?;
-    assert!(rt; gate.was_kept());
+    assert!(rt; kept);
     assert_eq!(rt; number, 2);
     assert!(rt; met);
     Ok(())

@@ -15,25 +15,61 @@ fn files(alloc: Global) -> Result<Vec<(String, Vec<u8>)>, AllocError> {
     Ok(files)
 }
 
+/// Whether nothing is open at first, an absent name fails, and both places are begun, of which the first one gives octets.
+fn begins_both<F: Files>(files: &mut F, buffer: &mut [u8; 3], absent: &str, name: &str) -> bool {
+    files.take(buffer) == Ok(0)
+        && files.begin(absent) == Err(IoFault::Failed)
+        && files.begin(name) == Ok(())
+        && files.begin_beside(name) == Ok(())
+        && files.take(buffer) == Ok(3)
+        && buffer.as_slice() == b"123".as_slice()
+}
+
+/// Whether the first place gives the octets that are left and then none, and the second one its first octets.
+fn takes_both<F: Files>(files: &mut F, buffer: &mut [u8; 3]) -> bool {
+    files.take(buffer) == Ok(2)
+        && buffer.as_slice() == b"453".as_slice()
+        && files.take(buffer) == Ok(0)
+        && files.take_beside(buffer) == Ok(3)
+        && buffer.as_slice() == b"123".as_slice()
+}
+
+/// Whether a name that is absent changes nothing between the two, and an empty file is begun beside and has no octets.
+fn keeps_both(files: &mut SoundFiles, buffer: &mut [u8; 3]) -> bool {
+    begins_both(files, buffer, "c", "a")
+        && files.begin("c") == Err(IoFault::Failed)
+        && takes_both(files, buffer)
+        && files.begin_beside("b") == Ok(())
+        && files.take_beside(buffer) == Ok(0)
+}
+
 #[test]
 fn sound_files_keep_two_places(rt: HostRuntime) -> Result<(), Fail> {
     let mut files = SoundFiles::new(files(rt.alloc())?);
-    let mut buffer = [0u8; 3];
-    assert_eq!(rt; files.take(&mut buffer), Ok(0), "nothing is open");
-    assert_eq!(rt; files.begin("c"), Err(IoFault::Failed));
-    assert_eq!(rt; files.begin("a"), Ok(()));
-    assert_eq!(rt; files.begin_beside("a"), Ok(()));
-    assert_eq!(rt; files.take(&mut buffer), Ok(3));
-    assert_eq!(rt; buffer.as_slice(), b"123".as_slice());
-    assert_eq!(rt; files.begin("c"), Err(IoFault::Failed));
-    assert_eq!(rt; files.take(&mut buffer), Ok(2));
-    assert_eq!(rt; buffer.as_slice(), b"453".as_slice());
-    assert_eq!(rt; files.take(&mut buffer), Ok(0));
-    assert_eq!(rt; files.take_beside(&mut buffer), Ok(3));
-    assert_eq!(rt; buffer.as_slice(), b"123".as_slice());
-    assert_eq!(rt; files.begin_beside("b"), Ok(()));
-    assert_eq!(rt; files.take_beside(&mut buffer), Ok(0));
+    let kept = keeps_both(&mut files, &mut [0u8; 3]);
+    drop(files);
+    assert!(rt; kept, "each place is kept");
     Ok(())
+}
+
+/// Whether calls 0 and 2 fail, and calls 1 and 3 don't.
+fn fails_at_first(files: &mut MemoryFiles, buffer: &mut [u8; 4]) -> bool {
+    files.begin("a") == Err(IoFault::Failed)
+        && files.begin("a") == Ok(())
+        && files.take(buffer) == Err(IoFault::Failed)
+        && files.take(buffer) == Ok(4)
+        && buffer.as_slice() == b"1234".as_slice()
+}
+
+/// Whether calls 4, 5 and 7 fail, and calls 6, 8 and 9 don't.
+fn fails_beside(files: &mut MemoryFiles, buffer: &mut [u8; 4]) -> bool {
+    files.begin_beside("c") == Err(IoFault::Failed)
+        && files.begin_beside("a") == Err(IoFault::Failed)
+        && files.begin_beside("a") == Ok(())
+        && files.take_beside(buffer) == Err(IoFault::Failed)
+        && files.take_beside(buffer) == Ok(4)
+        && files.take(buffer) == Ok(1)
+        && buffer.as_slice() == b"5234".as_slice()
 }
 
 #[test]
@@ -41,43 +77,44 @@ fn listed_calls_on_files_fail(rt: HostRuntime) -> Result<(), Fail> {
     let failing = vec![in rt.alloc(); 0, 2, 5, 7]?;
     let mut files = MemoryFiles::new(files(rt.alloc())?, failing);
     let mut buffer = [0u8; 4];
-    assert_eq!(rt; files.begin("a"), Err(IoFault::Failed), "call 0");
-    assert_eq!(rt; files.begin("a"), Ok(()), "call 1");
-    assert_eq!(rt; files.take(&mut buffer), Err(IoFault::Failed), "call 2");
-    assert_eq!(rt; files.take(&mut buffer), Ok(4), "call 3");
-    assert_eq!(rt; buffer.as_slice(), b"1234".as_slice());
-    assert_eq!(rt; files.begin_beside("c"), Err(IoFault::Failed), "call 4");
-    assert_eq!(rt; files.begin_beside("a"), Err(IoFault::Failed), "call 5");
-    assert_eq!(rt; files.begin_beside("a"), Ok(()), "call 6");
-    assert_eq!(rt;
-        files.take_beside(&mut buffer),
-        Err(IoFault::Failed),
-        "call 7"
-    );
-    assert_eq!(rt; files.take_beside(&mut buffer), Ok(4), "call 8");
-    assert_eq!(rt; files.take(&mut buffer), Ok(1), "call 9");
-    assert_eq!(rt; buffer.as_slice(), b"5234".as_slice());
+    let first = fails_at_first(&mut files, &mut buffer);
+    let beside = fails_beside(&mut files, &mut buffer);
+    drop(files);
+    assert!(rt; first, "calls 0 to 3");
+    assert!(rt; beside, "calls 4 to 9");
     Ok(())
+}
+
+/// Whether calls 0 and 2 fail and leave what was taken, and calls 1 and 3 don't.
+fn fails_in_turn(sink: &mut MemorySink) -> bool {
+    sink.put(b"ab") == Err(IoFault::Failed)
+        && sink.taken() == b"".as_slice()
+        && sink.put(b"ab") == Ok(2)
+        && sink.put(b"cd") == Err(IoFault::Failed)
+        && sink.put(b"ef") == Ok(2)
+        && sink.taken() == b"abef".as_slice()
 }
 
 #[test]
 fn listed_calls_on_a_sink_fail(rt: HostRuntime) -> Result<(), Fail> {
     let mut sink = MemorySink::new(rt.alloc(), vec![in rt.alloc(); 0, 2]?);
-    assert_eq!(rt; sink.put(b"ab"), Err(IoFault::Failed), "call 0");
-    assert_eq!(rt; sink.taken(), b"".as_slice());
-    assert_eq!(rt; sink.put(b"ab"), Ok(2), "call 1");
-    assert_eq!(rt; sink.put(b"cd"), Err(IoFault::Failed), "call 2");
-    assert_eq!(rt; sink.put(b"ef"), Ok(2), "call 3");
-    assert_eq!(rt; sink.taken(), b"abef".as_slice());
+    let failed = fails_in_turn(&mut sink);
+    drop(sink);
+    assert!(rt; failed, "calls 0 to 3");
     Ok(())
+}
+
+/// Whether two pieces are taken whole, one behind the other.
+fn takes_all(sink: &mut SoundSink) -> bool {
+    sink.put(b"ab") == Ok(2) && sink.put(b"c") == Ok(1) && sink.taken() == b"abc".as_slice()
 }
 
 #[test]
 fn a_sound_sink_takes_all(rt: HostRuntime) {
     let mut sink = SoundSink::new(rt.alloc());
-    assert_eq!(rt; sink.put(b"ab"), Ok(2));
-    assert_eq!(rt; sink.put(b"c"), Ok(1));
-    assert_eq!(rt; sink.taken(), b"abc".as_slice());
+    let taken = takes_all(&mut sink);
+    drop(sink);
+    assert!(rt; taken, "abc");
 }
 
 /// What a real file holds is no matter of proof.
@@ -86,17 +123,11 @@ fn real_files_are_read(rt: HostRuntime) -> Result<(), Fail> {
     fs::write(&rt, "octets.txt", "12345")?;
     let mut files = RealFiles::new(&rt);
     let mut buffer = [0u8; 3];
-    assert_eq!(rt; files.take(&mut buffer), Ok(0), "nothing is open");
-    assert_eq!(rt; files.begin("absent.txt"), Err(IoFault::Failed));
-    assert_eq!(rt; files.begin("octets.txt"), Ok(()));
-    assert_eq!(rt; files.begin_beside("octets.txt"), Ok(()));
-    assert_eq!(rt; files.take(&mut buffer), Ok(3));
-    assert_eq!(rt; buffer.as_slice(), b"123".as_slice());
-    assert_eq!(rt; files.take(&mut buffer), Ok(2));
-    assert_eq!(rt; buffer.as_slice(), b"453".as_slice());
-    assert_eq!(rt; files.take(&mut buffer), Ok(0));
-    assert_eq!(rt; files.take_beside(&mut buffer), Ok(3));
-    assert_eq!(rt; buffer.as_slice(), b"123".as_slice());
+    let begun = begins_both(&mut files, &mut buffer, "absent.txt", "octets.txt");
+    let taken = takes_both(&mut files, &mut buffer);
+    drop(files);
+    assert!(rt; begun, "nothing is open, and two places are begun");
+    assert!(rt; taken, "each place is read by itself");
     Ok(())
 }
 

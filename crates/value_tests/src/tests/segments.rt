@@ -63,16 +63,31 @@ fn is_whole(taken: Result<Taken, PoolFault>, octets: &[u8]) -> bool {
     }
 }
 
+/// Whether each segment is as wanted: whether it is the first, how many follow, and its octets.
+fn are_cut(segments: &[Segment], cut: &[(bool, u8, &[u8])]) -> bool {
+    for (segment, (first, remaining, payload)) in segments.iter().zip(cut.iter()) {
+        if segment.first != *first {
+            return false;
+        }
+        if segment.remaining != *remaining {
+            return false;
+        }
+        if segment.payload.as_slice() != *payload {
+            return false;
+        }
+    }
+    true
+}
+
 #[test]
 fn data_is_cut(rt: HostRuntime) -> Result<(), Fail> {
-    let segments = split_data(rt.alloc(), &[1, 2, 3, 4, 5], 2, reference(9)?, true)?;
-    assert_eq!(rt; segments.as_slice().len(), 3);
     let cut: [(bool, u8, &[u8]); 3] = [(true, 2, &[1, 2]), (false, 1, &[3, 4]), (false, 0, &[5])];
-    for (segment, (first, remaining, payload)) in segments.as_slice().iter().zip(cut.iter()) {
-        assert_eq!(rt; segment.first, *first);
-        assert_eq!(rt; segment.remaining, *remaining);
-        assert_eq!(rt; segment.payload.as_slice(), *payload);
-    }
+    let segments = split_data(rt.alloc(), &[1, 2, 3, 4, 5], 2, reference(9)?, true)?;
+    let count = segments.as_slice().len();
+    let same = are_cut(segments.as_slice(), &cut);
+    drop(segments);
+    assert_eq!(rt; count, 3);
+    assert!(rt; same);
     Ok(())
 }
 
@@ -117,16 +132,32 @@ fn becomes_whole(alloc: Global, pool: &mut Pool, octets: &[u8]) -> Result<bool, 
     Ok(is_whole(pool.take(key(1)?, segment(alloc, false, 0, 0)?), octets))
 }
 
+/// What is told of two messages: the segments before the first is whole, its last one, and those of the second when it began
+/// anew.
+fn told_of_two(
+    alloc: Global,
+    pool: &mut Pool,
+) -> Result<(Option<usize>, bool, Option<usize>), Fail> {
+    let begun = [(1, true, 2, 0), (2, true, 1, 0), (1, false, 1, 0)];
+    let begun = first_other(alloc, pool, &begun)?;
+    let whole = becomes_whole(alloc, pool, &[2, 1, 0])?;
+    let dropped = [(2, true, 1, 4), (2, false, 1, 3), (2, false, 0, 2)];
+    let dropped = first_other(alloc, pool, &dropped)?;
+    Ok((begun, whole, dropped))
+}
+
 #[test]
 fn segments_become_whole(rt: HostRuntime) -> Result<(), Fail> {
     let alloc = rt.alloc();
     let mut pool = Pool::new(alloc);
-    let begun = [(1, true, 2, 0), (2, true, 1, 0), (1, false, 1, 0)];
-    assert_eq!(rt; first_other(alloc, &mut pool, &begun)?, None);
-    assert!(rt; becomes_whole(alloc, &mut pool, &[2, 1, 0])?);
-    let dropped = [(2, true, 1, 4), (2, false, 1, 3), (2, false, 0, 2)];
-    assert_eq!(rt; first_other(alloc, &mut pool, &dropped)?, None);
-    assert_eq!(rt; pool.len(), 0);
+    let told = told_of_two(alloc, &mut pool);
+    let count = pool.len();
+    drop(pool);
+    let (begun, whole, dropped) = told?;
+    assert_eq!(rt; begun, None);
+    assert!(rt; whole);
+    assert_eq!(rt; dropped, None);
+    assert_eq!(rt; count, 0);
     Ok(())
 }
 

@@ -134,18 +134,29 @@ fn each_form_is_read(rt: HostRuntime) -> Result<(), Fail> {
     Ok(())
 }
 
+/// How many lines a piece gives, and the fault behind them.
+fn fed(reader: &mut Reader, piece: &[u8]) -> Result<(usize, Option<LineFault>), Fail> {
+    let told = reader.feed(piece)?;
+    Ok((told.lines.as_slice().len(), told.fault))
+}
+
+/// How many lines the end gives, and the fault behind them.
+fn finished(reader: &mut Reader) -> Result<(usize, Option<LineFault>), Fail> {
+    let told = reader.finish()?;
+    Ok((told.lines.as_slice().len(), told.fault))
+}
+
 #[test]
 fn a_fault_stands_from_its_octet_on(rt: HostRuntime) -> Result<(), Fail> {
     let mut reader = Reader::new(rt.alloc());
-    let first = reader.feed(b"fence\nfence\nwhat")?;
-    assert!(rt; first.lines.as_slice().len() == 2 && first.fault.is_none());
-    let second = reader.feed(b"\nfence\n")?;
+    assert!(rt; fed(&mut reader, b"fence\nfence\nwhat")? == (2, None));
     let fault = Some(LineFault {
         number: 3,
         kind: LineKind::NotALine,
     });
-    assert!(rt; second.lines.as_slice().is_empty() && second.fault == fault);
-    assert!(rt; reader.feed(b"fence\n")?.fault == fault && reader.finish()?.fault == fault);
+    assert!(rt; fed(&mut reader, b"\nfence\n")? == (0, fault));
+    assert!(rt; fed(&mut reader, b"fence\n")?.1 == fault);
+    assert!(rt; finished(&mut reader)?.1 == fault);
     Ok(())
 }
 
@@ -153,14 +164,15 @@ fn a_fault_stands_from_its_octet_on(rt: HostRuntime) -> Result<(), Fail> {
 fn limits_stand_at_their_octet(rt: HostRuntime) -> Result<(), Fail> {
     let line = vec![in rt.alloc(); b'#'; 8192]?;
     let mut reader = Reader::new(rt.alloc());
-    assert!(rt; reader.feed(&line)?.fault.is_none());
-    assert!(rt; reader.feed(b"\n")?.lines.as_slice().len() == 1);
-    assert!(rt; reader.feed(&line)?.fault.is_none());
+    assert!(rt; fed(&mut reader, &line)?.1.is_none());
+    assert!(rt; fed(&mut reader, b"\n")?.0 == 1);
+    assert!(rt; fed(&mut reader, &line)?.1.is_none());
     let fault = Some(LineFault {
         number: 2,
         kind: LineKind::TooLong,
     });
-    assert!(rt; reader.feed(b"\r")?.fault == fault && reader.finish()?.fault == fault);
+    assert!(rt; fed(&mut reader, b"\r")?.1 == fault);
+    assert!(rt; finished(&mut reader)?.1 == fault);
     Ok(())
 }
 
@@ -168,23 +180,22 @@ fn limits_stand_at_their_octet(rt: HostRuntime) -> Result<(), Fail> {
 fn the_line_past_the_last_is_refused(rt: HostRuntime) -> Result<(), Fail> {
     let feeds = vec![in rt.alloc(); b'\n'; 1_000_000]?;
     let mut reader = Reader::new(rt.alloc());
-    assert!(rt; reader.feed(&feeds)?.lines.as_slice().len() == 1_000_000);
-    assert!(rt; reader.feed(b"")?.fault.is_none());
+    assert!(rt; fed(&mut reader, &feeds)?.0 == 1_000_000);
+    assert!(rt; fed(&mut reader, b"")?.1.is_none());
     let fault = Some(LineFault {
         number: 1_000_001,
         kind: LineKind::TooMany,
     });
-    assert!(rt; reader.feed(b"f")?.fault == fault);
+    assert!(rt; fed(&mut reader, b"f")?.1 == fault);
     Ok(())
 }
 
 #[test]
 fn nothing_comes_after_the_end(rt: HostRuntime) -> Result<(), Fail> {
     let mut reader = Reader::new(rt.alloc());
-    assert!(rt; reader.feed(b"fence")?.lines.as_slice().is_empty());
-    assert!(rt; reader.finish()?.lines.as_slice().len() == 1);
-    let after = reader.feed(b"fence\n")?;
-    assert!(rt; after.lines.as_slice().is_empty() && after.fault.is_none());
-    assert!(rt; reader.finish()?.lines.as_slice().is_empty());
+    assert!(rt; fed(&mut reader, b"fence")?.0 == 0);
+    assert!(rt; finished(&mut reader)?.0 == 1);
+    assert!(rt; fed(&mut reader, b"fence\n")? == (0, None));
+    assert!(rt; finished(&mut reader)?.0 == 0);
     Ok(())
 }

@@ -1,21 +1,37 @@
 //! The values at the bottom, each call that takes memory once.
 use sccp_base::{Digits, DigitsFault, List, Mark, Marking, Octets, PointCode};
+use std::alloc::Global;
 use std::test::Fail;
+
+/// Whether two octets that are appended and turned round stand in the second order, and those of a copy made before in the
+/// first.
+fn octets_grow(alloc: Global, octets: &mut Octets) -> Result<(bool, bool), Fail> {
+    octets.push(0xAB)?;
+    octets.push(0x01)?;
+    let copy = octets.try_clone(alloc)?;
+    octets.as_mut_slice().reverse();
+    Ok((
+        octets.as_slice() == [0x01, 0xAB].as_slice(),
+        copy.into_vec().as_slice() == [0xAB, 0x01].as_slice(),
+    ))
+}
+
+/// Whether none, which is appended behind a point code, stands first where both are turned round.
+fn list_grows(list: &mut List<Option<PointCode>>) -> Result<bool, Fail> {
+    list.push(PointCode::new(2050))?;
+    list.push(PointCode::new(16384))?;
+    list.as_mut_slice().reverse();
+    Ok(list.as_slice()[0].is_none())
+}
 
 #[test]
 fn octets_and_lists_grow(rt: HostRuntime) -> Result<(), Fail> {
     let mut octets = Octets::new(rt.alloc());
-    octets.push(0xAB)?;
-    octets.push(0x01)?;
-    let copy = octets.try_clone(rt.alloc())?;
-    octets.as_mut_slice().reverse();
-    assert_eq!(rt; octets.as_slice(), [0x01, 0xAB].as_slice());
-    assert_eq!(rt; copy.into_vec().as_slice(), [0xAB, 0x01].as_slice());
+    let grown = octets_grow(rt.alloc(), &mut octets);
+    drop(octets);
+    assert_eq!(rt; grown?, (true, true));
     let mut list = List::new(rt.alloc());
-    list.push(PointCode::new(2050))?;
-    list.push(PointCode::new(16384))?;
-    list.as_mut_slice().reverse();
-    assert!(rt; list.as_slice()[0].is_none());
+    assert!(rt; list_grows(&mut list)?);
     assert_eq!(rt; List::from_vec(list.into_vec()).as_slice().len(), 2);
     Ok(())
 }
@@ -35,11 +51,33 @@ fn digits_are_packed(rt: HostRuntime) -> Result<(), Fail> {
     Ok(())
 }
 
+/// Whether marks that are prohibited out of their order stand in it, and then whether the third and the fourth are held where
+/// the third is allowed and a mark that isn't held, and how many a copy has.
+fn told(
+    alloc: Global,
+    marking: &mut Marking,
+    order: &[Mark; 5],
+    other: Mark,
+) -> Result<(bool, bool, bool, usize), Fail> {
+    for i in [4, 2, 0, 3, 1, 2] {
+        marking.prohibit(order[i])?;
+    }
+    let in_order = marking.marks() == order.as_slice();
+    marking.allow(order[2]);
+    marking.allow(other);
+    let copy = marking.try_clone(alloc)?;
+    Ok((
+        in_order,
+        marking.holds(order[2]),
+        marking.holds(order[3]),
+        copy.marks().len(),
+    ))
+}
+
 #[test]
 fn markings_are_ascending_sets(rt: HostRuntime) -> Result<(), Fail> {
     let low = PointCode::new(2049).ok_or("a point code")?;
     let high = PointCode::new(4097).ok_or("a point code")?;
-    let mut marking = Marking::new(rt.alloc());
     let order = [
         Mark::PointCode(low),
         Mark::Sccp(low),
@@ -47,14 +85,13 @@ fn markings_are_ascending_sets(rt: HostRuntime) -> Result<(), Fail> {
         Mark::Subsystem(low, 8),
         Mark::PointCode(high),
     ];
-    for i in [4, 2, 0, 3, 1, 2] {
-        marking.prohibit(order[i])?;
-    }
-    assert_eq!(rt; marking.marks(), order.as_slice());
-    marking.allow(Mark::Subsystem(low, 6));
-    marking.allow(Mark::Sccp(high));
-    assert!(rt; !marking.holds(Mark::Subsystem(low, 6)));
-    assert!(rt; marking.holds(Mark::Subsystem(low, 8)));
-    assert_eq!(rt; marking.try_clone(rt.alloc())?.marks().len(), 4);
+    let mut marking = Marking::new(rt.alloc());
+    let told = told(rt.alloc(), &mut marking, &order, Mark::Sccp(high));
+    drop(marking);
+    let (in_order, six, eight, count) = told?;
+    assert!(rt; in_order);
+    assert!(rt; !six);
+    assert!(rt; eight);
+    assert_eq!(rt; count, 4);
     Ok(())
 }

@@ -1,15 +1,37 @@
-use Rattle.std.proofs.Common.{◌≡◌, ◌+◌, ◌++◌, ◌∷◌, [], List, length, slice_get, Some, sym, ◌∙◌, subst, arith}
+use Rattle.std.proofs.Common.{◌≡◌, ◌+◌, ◌<◌, ◌++◌, ◌∷◌, [], List, length, get_or, slice_get, Some, sym, ◌∙◌, subst, arith}
 use Rattle.std.proofs.Math.Nat.{mod-lt}
 use Rattle.relay_net.specs.declared.job.Job.{Job}
 use Rattle.relay_net.specs.declared.served.Served.{Served}
 use Rattle.live_plan.specs.Batches.{IsServed, IsShare}
-use Rattle.live_plan.specs.Tellers.{plans_of}
-use Rattle.live_plan.proofs.Passed.{get_here}
+use Rattle.live_plan.specs.Plans.{nodes_of}
+use Rattle.live_plan.specs.Tellers.{told_by, plans_of, due_of}
+use Rattle.live_plan.proofs.Passed.{get_here, has_more, has_nodes, take_begins}
 use Rattle.live_plan.proofs.Batched.{here_more, here_served}
 use Rattle.live_plan.proofs.here.serve_here.Goals as goal
 
 pub overflow_cast-i : goal.overflow_cast-i
 overflow_cast-i g c = let lt = mod-lt c.loop-i.i c.requires.workers.0 in let few = c.requires.workers.1 in omega (arith, lt, few)
+
+pub route-requires-clause-states : goal.route-requires-clause-states
+route-requires-clause-states g c =
+    let teller = c.args.teller.now in
+    let plan = c.latest.result.now in
+    let n = length (plans_of teller) in
+    let due = has_more (plans_of teller) (due_of teller) n plan (take_begins (due_of teller) (told_by teller).number) c.latest.ensures in
+    let nodes : nodes_of plan ≡ teller.nodes = has_nodes teller.nodes (due_of teller) n plan teller.telling.alike due in
+    c.requires.states ∙ sym nodes
+
+pub route-requires-clause-entry : goal.route-requires-clause-entry
+route-requires-clause-entry g c =
+    let teller = c.args.teller.now in
+    let plan = c.latest.result.now in
+    let n = length (plans_of teller) in
+    let due = has_more (plans_of teller) (due_of teller) n plan (take_begins (due_of teller) (told_by teller).number) c.latest.ensures in
+    let nodes : nodes_of plan ≡ teller.nodes = has_nodes teller.nodes (due_of teller) n plan teller.telling.alike due in
+    let jobs = c.args.jobs.now in
+    let job : Job = c.index-jobs-i.result in
+    let entry : (get_or jobs c.loop-i.i job).entry < teller.nodes = c.requires.entries c.loop-i.i job c.loop-i-test.true in
+    subst (λ (j : Job). j.entry < nodes_of plan) (sym c.index-jobs-i.is) (subst (λ m. (get_or jobs c.loop-i.i job).entry < m) (sym nodes) entry)
 
 pub loop-i-preserved : goal.loop-i-preserved
 loop-i-preserved g c =

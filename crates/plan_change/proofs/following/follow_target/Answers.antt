@@ -1,12 +1,28 @@
-use Rattle.std.proofs.Common.{ℕ, ◌⊎◌, sym, subst}
+use Rattle.std.proofs.Common.{sym, subst}
 use Rattle.plan_model.specs.Network.{Network}
 use Rattle.plan_classes.specs.Classes.{HasImage}
-use Rattle.plan_mixed.specs.Pairs.{old_of, new_of}
-use Rattle.plan_change.specs.Ways.{Forbids}
 use Rattle.plan_change.specs.Stops.{IsPutFor, ComesFrom}
 use Rattle.plan_change.proofs.Growing.{grows_weaker}
-use Rattle.plan_change.proofs.Onward.{reached_some, put_comes, image_well, ends_bad}
+use Rattle.plan_change.proofs.Onward.{held_decided, node_of_both, reached_some, put_comes, image_well}
 use Rattle.plan_change.proofs.following.follow_target.Goals as goal
+
+pub image_by-requires-clause-decided : goal.image_by-requires-clause-decided
+image_by-requires-clause-decided c = held_decided c.args.plans.now.old.now c.args.plans.now.new.now c.held-plan.result.now c.args.origin.which c.args.class.now c.held-plan.ensures c.requires.decided
+
+pub ended-requires-clause-decided : goal.ended-requires-clause-decided
+ended-requires-clause-decided c = held_decided c.args.plans.now.old.now c.args.plans.now.new.now c.held-plan.result.now c.args.origin.which c.args.class.now c.held-plan.ensures c.requires.decided
+
+pub unequipped-requires-clause-decided : goal.unequipped-requires-clause-decided
+unequipped-requires-clause-decided c = held_decided c.args.plans.now.old.now c.args.plans.now.new.now c.held-plan.result.now c.args.origin.which c.args.class.now c.held-plan.ensures c.requires.decided
+
+pub overgrown-requires-clause-decided : goal.overgrown-requires-clause-decided
+overgrown-requires-clause-decided c = held_decided c.args.plans.now.old.now c.args.plans.now.new.now c.held-plan.result.now c.args.origin.which c.args.class.now c.held-plan.ensures c.requires.decided
+
+pub enter-requires-clause-old : goal.enter-requires-clause-old
+enter-requires-clause-old c = (node_of_both c.args.plans.now.old.now c.args.plans.now.new.now c.held-plan.result.now c.args.origin.which c.in-Next.next.node c.held-plan.ensures c.requires.same c.in-Next.ensures.stays.0).0
+
+pub enter-requires-clause-new : goal.enter-requires-clause-new
+enter-requires-clause-new c = (node_of_both c.args.plans.now.old.now c.args.plans.now.new.now c.held-plan.result.now c.args.origin.which c.in-Next.next.node c.held-plan.ensures c.requires.same c.in-Next.ensures.stays.0).1
 
 pub enter-requires-clause-reached : goal.enter-requires-clause-reached
 enter-requires-clause-reached c =
@@ -23,7 +39,7 @@ returns-in_ok-enter-in-Next-clause-well c = λ _ image reached has.
     image_well c.args.plans.now.old.now c.args.plans.now.new.now c.held-plan.result.now c.args.class.now c.args.origin.target c.enter.new.hop.stops _ c.in-Next.ensures.image c.in_ok-enter-in-Next.ensures.among image
     (subst (λ (plan : Network). HasImage plan c.args.class.now c.args.origin.target image) (sym c.held-plan.ensures) has)
 
-pub returns-in_ok-through-in-Ends-clause-bad : goal.returns-in_ok-through-in-Ends-clause-bad
-returns-in_ok-through-in-Ends-clause-bad c =
-    ends_bad _ _ c.held-plan.result.now c.args.origin.which c.args.class.now c.args.origin.target _ _ c.sample.result _ c.held-plan.ensures c.in_ok-through-in-Ends.ensures.spot c.sample.ensures.member c.in_ok-through-in-Ends.ensures.takes c.in-Ends.ensures.exact
-    (subst (λ (n : ℕ). Forbids c.args.plans.now.old.now (old_of n) c.in-Ends.pc c.in-Ends.ssn ⊎ Forbids c.args.plans.now.new.now (new_of n) c.in-Ends.pc c.in-Ends.ssn) c.cover.ensures.value (c.both_allow.ensures.no c.if-both_allow.false))
+pub returns-in_ok-ended-in-Ends-clause-well : goal.returns-in_ok-ended-in-Ends-clause-well
+returns-in_ok-ended-in-Ends-clause-well c = λ none image reached has.
+    image_well c.args.plans.now.old.now c.args.plans.now.new.now c.held-plan.result.now c.args.class.now c.args.origin.target c.args.hop.now.stops _ c.in-Ends.ensures.image (c.in_ok-ended-in-Ends.ensures.well none) image
+    (subst (λ (plan : Network). HasImage plan c.args.class.now c.args.origin.target image) (sym c.held-plan.ensures) has)

@@ -1,19 +1,27 @@
-use Rattle.std.proofs.Common.{◌≡◌, ◌<◌, ◌∙◌, Bor, Option, IsSome, refl, sym, ap, subst, arith, rules, length}
+use Rattle.std.proofs.Common.{◌≡◌, ◌+◌, ◌<◌, ◌∙◌, Bor, Option, IsSome, refl, sym, ap, subst, arith, rules, length}
 use Rattle.std.specs.Option.{option_copied}
+use Rattle.std.proofs.lemmas.Bool.{false≢true}
 use Rattle.plan_rules.specs.Rule.{Rule}
 use Rattle.plan_classes.proofs.Taking.{row_targets}
 use Rattle.plan_classes.specs.Titles.{IsPart}
 use Rattle.plan_verify.specs.declared.found.Found.{Found}
 use Rattle.plan_verify.specs.Searching.{IsFound, IsLed}
+use Rattle.plan_verify.specs.Traces.{IsTrace}
 use Rattle.plan_verify.proofs.Keeping.{keeps_more}
 use Rattle.plan_classes.proofs.Parting.{part_of}
-use Rattle.plan_verify.proofs.Ranking.{parts_ranked, parts_attained, open_borne, part_reached, targets_led, targets_high, image_reached, decided_borne}
-use Rattle.plan_verify.proofs.Tracing.{fifteenth, without_row}
+use Rattle.plan_verify.proofs.Ranking.{parts_ranked, parts_attained, open_borne, part_reached, targets_led, targets_high, image_reached, decided_borne, led_never, led_next_rank}
+use Rattle.plan_verify.proofs.Tracing.{fifteenth, without_row, trace_of_part, trace_before}
 use Rattle.plan_verify.proofs.search.+search.Goals as goal
 
 pub explore-returns-then-depth-eq14-clause-found : goal.explore-returns-then-depth-eq14-clause-found
 explore-returns-then-depth-eq14-clause-found t c =
     fifteenth c.args.plan.now c.args.class.now c.args.depth c.in_ok-least_title.field-0 c.in_ok-least_title.ensures.member c.in_ok-least_title.ensures.markings (omega (arith, c.if-depth-eq14.true))
+
+pub explore-returns-in_err-found-clause-keeps : goal.explore-returns-in_err-found-clause-keeps
+explore-returns-in_err-found-clause-keeps t c = c.follow.ensures.keeps
+
+pub explore-returns-clause-keeps : goal.explore-returns-clause-keeps
+explore-returns-clause-keeps t c = keeps_more _ _ _ c.follow.ensures.keeps c.settle.ensures.keeps
 
 pub explore_parts-explore-requires : goal.explore_parts-explore-requires
 explore_parts-explore-requires t c =
@@ -46,6 +54,23 @@ explore_parts-loop-part-preserved t c =
       some = rw c.max-rank.ensures (parts_attained _ _ _ c.loop-part.part-index c.loop-part.rank c.in-Rank.other _ c.loop-part-test.true c.part-item.is c.explore.ensures.keeps found.0 c.loop-part.invariant.some);
     }
 
+pub explore_parts-returns-in_err-other-clause-keeps : goal.explore_parts-returns-in_err-other-clause-keeps
+explore_parts-returns-in_err-other-clause-keeps t c = keeps_more _ _ _ c.loop-part.invariant.keeps c.explore.ensures.keeps
+
+pub explore_parts-returns-in-Bad-clause-keeps : goal.explore_parts-returns-in-Bad-clause-keeps
+explore_parts-returns-in-Bad-clause-keeps t c = keeps_more _ _ _ c.loop-part.invariant.keeps c.explore.ensures.keeps
+
+pub explore_parts-returns-in-Wide-clause-keeps : goal.explore_parts-returns-in-Wide-clause-keeps
+explore_parts-returns-in-Wide-clause-keeps t c = keeps_more _ _ _ c.loop-part.invariant.keeps c.explore.ensures.keeps
+
+pub explore_parts-returns-in-Bad-clause-found : goal.explore_parts-returns-in-Bad-clause-found
+explore_parts-returns-in-Bad-clause-found t c =
+    let part : IsPart c.args.class.now c.part-item.result = part_of c.args.class.now _ _ c.loop-part.part-index _ c.in_ok-parts.ensures.splits c.as_slice-part-items.ensures c.loop-part-test.true c.part-item.is in
+    trace_of_part c.args.plan.now c.args.class.now c.part-item.result c.args.depth c.in-Bad.trace part (subst (λ (f : Found). IsFound c.args.plan.now c.part-item.result c.args.depth c.explore.new.ranks f) c.in-Bad.is c.in_ok-other.ensures.found)
+
+pub explore_parts-returns-in-Wide-clause-found : goal.explore_parts-returns-in-Wide-clause-found
+explore_parts-returns-in-Wide-clause-found t c = subst (λ (f : Found). IsFound c.args.plan.now c.part-item.result c.args.depth c.explore.new.ranks f) c.in-Wide.is c.in_ok-other.ensures.found
+
 pub explore_parts-returns-clause-found : goal.explore_parts-returns-clause-found
 explore_parts-returns-clause-found t c = (
   open_borne _ _ _ c.as_slice-part-items.result.now c.loop-part.rank c.loop-part.part-index (c.as_slice-part-items.ensures ∙ c.in_ok-parts.ensures.value) c.loop-part-test.false c.parts.ensures.class c.requires.node c.requires.cover c.requires.undecided c.requires.more c.loop-part.invariant.low (omega (arith, c.loop-part.invariant.few)) c.loop-part.invariant.below c.loop-part.invariant.some,
@@ -72,6 +97,36 @@ explore_target-explore-requires t c =
       ),
     )
 
+pub explore_target-returns-then-not-reaches_by-clause-found : goal.explore_target-returns-then-not-reaches_by-clause-found
+explore_target-returns-then-not-reaches_by-clause-found t c = (led_never c.args.plan.now c.args.ranks.now c.args.class.now c.args.place (λ r. false≢true (sym c.if-not-reaches_by.true ∙ c.reaches_by.ensures.1 r)), omega (arith, c.requires.depth))
+
+pub explore_target-carry-requires-clause-next : goal.explore_target-carry-requires-clause-next
+explore_target-carry-requires-clause-next t c =
+    let trace : IsTrace c.args.plan.now c.in-Next.next (c.args.depth + 1) c.in-Bad.trace = subst (λ (f : Found). IsFound c.args.plan.now c.in-Next.next (c.args.depth + 1) c.explore.new.ranks f) c.in-Bad.is c.in_ok-other-in-Next.ensures.found in
+    (c.in-Next.next, c.in-Next.ensures.image, trace.member)
+
+pub explore_target-returns-in-Rank-clause-found : goal.explore_target-returns-in-Rank-clause-found
+explore_target-returns-in-Rank-clause-found t c =
+    let found = subst (λ (f : Found). IsFound c.args.plan.now c.in-Next.next (c.args.depth + 1) c.explore.new.ranks f) c.in-Rank.is c.in_ok-other-in-Next.ensures.found in (
+      led_next_rank c.args.plan.now c.explore.new.ranks c.args.class.now c.in-Next.next c.args.place c.in-Rank.other c.in-Next.ensures.image (c.reaches_by.ensures.0 c.if-not-reaches_by.false) found.0,
+      omega (arith, found.1),
+    )
+
+pub explore_target-returns-in_ok-carry-in-Bad-clause-found : goal.explore_target-returns-in_ok-carry-in-Bad-clause-found
+explore_target-returns-in_ok-carry-in-Bad-clause-found t c =
+    let trace : IsTrace c.args.plan.now c.in-Next.next (c.args.depth + 1) c.in-Bad.trace = subst (λ (f : Found). IsFound c.args.plan.now c.in-Next.next (c.args.depth + 1) c.explore.new.ranks f) c.in-Bad.is c.in_ok-other-in-Next.ensures.found in
+    let cover : c.in-Next.next.cover ≡ c.args.class.now.cover = c.in-Next.ensures.stays.1 in
+    trace_before c.args.plan.now c.args.class.now c.in-Next.next c.args.place c.args.depth c.in-Bad.trace c.in_ok-carry-in-Bad.field-0 c.in-Next.ensures.image cover trace c.in_ok-carry-in-Bad.ensures
+
+pub explore_target-returns-in-Wide-clause-found : goal.explore_target-returns-in-Wide-clause-found
+explore_target-returns-in-Wide-clause-found t c = subst (λ (f : Found). IsFound c.args.plan.now c.in-Next.next (c.args.depth + 1) c.explore.new.ranks f) c.in-Wide.is c.in_ok-other-in-Next.ensures.found
+
+pub explore_target-returns-in_ok-without_subsystem-in-NotEquipped-clause-found : goal.explore_target-returns-in_ok-without_subsystem-in-NotEquipped-clause-found
+explore_target-returns-in_ok-without_subsystem-in-NotEquipped-clause-found t c = c.in_ok-without_subsystem-in-NotEquipped.ensures c.args.depth c.requires.depth
+
+pub explore_target-returns-in_ok-overgrown-in-TooLong-clause-found : goal.explore_target-returns-in_ok-overgrown-in-TooLong-clause-found
+explore_target-returns-in_ok-overgrown-in-TooLong-clause-found t c = c.in_ok-overgrown-in-TooLong.ensures c.args.depth c.requires.depth
+
 pub explore_targets-returns-in_ok-least_title-in-None-clause-found : goal.explore_targets-returns-in_ok-least_title-in-None-clause-found
 explore_targets-returns-in_ok-least_title-in-None-clause-found t c =
     without_row c.args.plan.now c.args.class.now c.args.depth c.in_ok-least_title-in-None.field-0 c.in_ok-least_title-in-None.ensures.member c.in_ok-least_title-in-None.ensures.digits c.in_ok-least_title-in-None.ensures.markings c.requires.depth (sym c.class_row.ensures.value ∙ ap (λ (o : Option (Bor Rule)). option_copied o) c.in-None.is)
@@ -87,6 +142,21 @@ explore_row-loop-place-preserved t c =
       leads = rw c.max-rank.ensures (targets_led c.args.plan.now _ _ c.args.class.now c.loop-place.place c.loop-place.rank c.in-Rank.other c.explore_target.ensures.keeps found.0.well c.loop-place.invariant.leads);
       some = rw c.max-rank.ensures (targets_high c.args.plan.now _ _ c.args.class.now c.loop-place.rank c.in-Rank.other c.explore_target.ensures.keeps found.0.high c.loop-place.invariant.some);
     }
+
+pub explore_row-returns-in_err-other-clause-keeps : goal.explore_row-returns-in_err-other-clause-keeps
+explore_row-returns-in_err-other-clause-keeps t c = keeps_more _ _ _ c.loop-place.invariant.keeps c.explore_target.ensures.keeps
+
+pub explore_row-returns-in-Bad-clause-keeps : goal.explore_row-returns-in-Bad-clause-keeps
+explore_row-returns-in-Bad-clause-keeps t c = keeps_more _ _ _ c.loop-place.invariant.keeps c.explore_target.ensures.keeps
+
+pub explore_row-returns-in-Wide-clause-keeps : goal.explore_row-returns-in-Wide-clause-keeps
+explore_row-returns-in-Wide-clause-keeps t c = keeps_more _ _ _ c.loop-place.invariant.keeps c.explore_target.ensures.keeps
+
+pub explore_row-returns-in-Bad-clause-found : goal.explore_row-returns-in-Bad-clause-found
+explore_row-returns-in-Bad-clause-found t c = subst (λ (f : Found). IsLed c.args.plan.now c.args.class.now c.args.depth c.loop-place.place c.explore_target.new.ranks f) c.in-Bad.is c.in_ok-other.ensures.found
+
+pub explore_row-returns-in-Wide-clause-found : goal.explore_row-returns-in-Wide-clause-found
+explore_row-returns-in-Wide-clause-found t c = subst (λ (f : Found). IsLed c.args.plan.now c.args.class.now c.args.depth c.loop-place.place c.explore_target.new.ranks f) c.in-Wide.is c.in_ok-other.ensures.found
 
 pub explore_row-returns-clause-found : goal.explore_row-returns-clause-found
 explore_row-returns-clause-found t c = (

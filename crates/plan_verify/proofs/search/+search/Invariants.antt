@@ -10,10 +10,13 @@ use Rattle.plan_verify.proofs.search.+search.Given as goal
 
 -- a part has fewer open digits, and what a target leads to as many and one rewriting more behind it
 abbrev pub decreases-explore : goal.decreases-explore
-decreases-explore l = 4 * ((14 - l.depth) + l.class.now.most) + 3
+decreases-explore l = 5 * ((14 - l.depth) + l.class.now.most) + 4
+
+abbrev pub decreases-follow : goal.decreases-follow
+decreases-follow l = 5 * ((14 - l.depth) + l.class.now.most) + 3
 
 abbrev pub decreases-explore_parts : goal.decreases-explore_parts
-decreases-explore_parts l = 4 * ((14 - l.depth) + l.class.now.most) + 2
+decreases-explore_parts l = 5 * ((14 - l.depth) + l.class.now.most) + 2
 
 -- the parts so far rank up to the greatest, and one of them has it
 abbrev pub invariant-explore_parts-loop-part : goal.invariant-explore_parts-loop-part
@@ -27,13 +30,13 @@ invariant-explore_parts-loop-part l = record {
 }
 
 abbrev pub decreases-explore_targets : goal.decreases-explore_targets
-decreases-explore_targets l = 4 * ((14 - l.depth) + l.class.now.most) + 2
+decreases-explore_targets l = 5 * ((14 - l.depth) + l.class.now.most) + 2
 
 abbrev pub decreases-explore_row : goal.decreases-explore_row
-decreases-explore_row l = 4 * ((14 - l.depth) + l.class.now.most) + 1
+decreases-explore_row l = 5 * ((14 - l.depth) + l.class.now.most) + 1
 
 abbrev pub decreases-explore_target : goal.decreases-explore_target
-decreases-explore_target l = 4 * ((14 - l.depth) + l.class.now.most)
+decreases-explore_target l = 5 * ((14 - l.depth) + l.class.now.most)
 
 -- the targets so far lead well, and one of them as high as can be
 abbrev pub invariant-explore_row-loop-place : goal.invariant-explore_row-loop-place

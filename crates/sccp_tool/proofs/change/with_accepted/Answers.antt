@@ -21,16 +21,17 @@ returns-in_err-verdict-in-Ok g c =
     let m : Moment = moment g.F.Files.contents g.F.Files.sound g.F.Files.faults g.K.Sink.taken g.K.Sink.faults c.within_limit.new.files c.within_limit.new.out in
     rw (p.1, p.2) (λ next. c.in_ok-text.ensures.whole (λ octets. read_on_plan c.args.word.now next (plan_of octets)) (Err Memory) m (Works-memory (read_on_plan c.args.word.now next (plan_of c.in_ok-text.text.items)) m))
 
-pub returns-in_err-put_all-in-Accepted : goal.returns-in_err-put_all-in-Accepted
-returns-in_err-put_all-in-Accepted g c =
-    let p = err_from_is_err_and c.from_residual-in_err-put_all-in-Accepted.result c.from_residual-in_err-put_all-in-Accepted.ensures.1 in
+pub returns-in-Ok-put_all : goal.returns-in-Ok-put_all
+returns-in-Ok-put_all g c =
     let m : Moment = moment g.F.Files.contents g.F.Files.sound g.F.Files.faults g.K.Sink.taken g.K.Sink.faults c.within_limit.new.files c.within_limit.new.out in
     let n : Moment = moment g.F.Files.contents g.F.Files.sound g.F.Files.faults g.K.Sink.taken g.K.Sink.faults c.within_limit.new.files c.put_all.new.out in
     let e = c.in_ok-verdict-in-Ok.ensures in
     let v = c.in_ok-verdict-in-Ok.field-0.verdict in
     let is = ap plan_of (sym c.deref.ensures.value) ∙ c.in-Ok.ensures.plan in
-    rw (p.1, p.2) (λ next. c.in_ok-text.ensures.whole (λ octets. read_on_plan c.args.word.now next (plan_of octets)) (Err c.in_err-put_all-in-Accepted.field-0.0) n
-    (Works-untold c.args.word.now next c.in_ok-text.text.items c.in-Ok.plan v is (c.in-Ok.ensures.sound, e.lawful) c.in-Accepted.accepted c.as_slice.result.now c.in_err-put_all-in-Accepted.field-0.0 m n c.in-Accepted.is (c.as_slice.ensures ∙ e.line) c.in_err-put_all-in-Accepted.ensures refl refl refl))
+    λ next result after w.
+    c.in_ok-text.ensures.whole (λ octets. read_on_plan c.args.word.now next (plan_of octets)) result after
+    (Works-accepted c.args.word.now next c.in_ok-text.text.items c.in-Ok.plan v is (c.in-Ok.ensures.sound, e.lawful) c.in-Accepted.accepted c.as_slice.result.now (Ok c.in-Ok-put_all.field-0) c.in-Ok-put_all.field-0 result m n after c.in-Accepted.is (c.as_slice.ensures ∙ e.line) c.in-Ok-put_all.ensures refl refl refl refl
+    (subst (λ (p : Network). Works (next p) result n after) (sym (ap judged_plan c.in-Accepted.is) ∙ e.same) w))
 
 pub returns-in-Accepted : goal.returns-in-Accepted
 returns-in-Accepted g c =
@@ -39,10 +40,8 @@ returns-in-Accepted g c =
     let e = c.in_ok-verdict-in-Ok.ensures in
     let v = c.in_ok-verdict-in-Ok.field-0.verdict in
     let is = ap plan_of (sym c.deref.ensures.value) ∙ c.in-Ok.ensures.plan in
-    λ next result after w.
-    c.in_ok-text.ensures.whole (λ octets. read_on_plan c.args.word.now next (plan_of octets)) result after
-    (Works-accepted c.args.word.now next c.in_ok-text.text.items c.in-Ok.plan v is (c.in-Ok.ensures.sound, e.lawful) c.in-Accepted.accepted c.as_slice.result.now (Ok c.in_ok-put_all-in-Accepted.field-0) c.in_ok-put_all-in-Accepted.field-0 result m n after c.in-Accepted.is (c.as_slice.ensures ∙ e.line) c.in_ok-put_all-in-Accepted.ensures refl refl refl refl
-    (subst (λ (p : Network). Works (next p) result n after) (sym (ap judged_plan c.in-Accepted.is) ∙ e.same) w))
+    λ next. c.in_ok-text.ensures.whole (λ octets. read_on_plan c.args.word.now next (plan_of octets)) (Err c.in-Err-put_all.stop) n
+    (Works-untold c.args.word.now next c.in_ok-text.text.items c.in-Ok.plan v is (c.in-Ok.ensures.sound, e.lawful) c.in-Accepted.accepted c.as_slice.result.now c.in-Err-put_all.stop m n c.in-Accepted.is (c.as_slice.ensures ∙ e.line) c.in-Err-put_all.ensures refl refl refl)
 
 pub returns-in-Refused : goal.returns-in-Refused
 returns-in-Refused g c =

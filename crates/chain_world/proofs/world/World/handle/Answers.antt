@@ -14,7 +14,7 @@ invariant_of-self-in-Ok c =
     (subst (λ (k : Kept). oldest_of ((world_of k).waiting c.args.from c.args.to) ≡ Some c.args.message.now) (sym c.self.view_is) c.requires.oldest) in
     let found : position (has_point c.args.to) c.self.inside.plan.nodes ≡ Some c.from-place.result =
     subst (λ (k : Kept). position (has_point c.args.to) k.plan.nodes ≡ Some c.from-place.result) (sym c.self.view_is) (c.requires.node ∙ ap (λ (n : ℕ). Some n) (sym c.from-place.ensures)) in
-    subst (IsWorld c.self.inside.plan _ c.pass.new.links.items) (sym c.in_ok-push.ensures.items)
+    subst (IsWorld c.self.inside.plan _ c.pass.new.links.items) (sym c.in_ok-note.ensures.ok)
     (handles c.self.inside.plan c.self.inside.relays.items c.self.inside.links.items c.pass.new.links.items c.self.inside.history.items c.args.from c.args.to c.from-place.result c.args.message.now t.0 c.index_mut.result.now c.take_in.new.relay
     c.self.invariant t.1 (node_there c.self.inside.plan c.args.to c.from-place.result found) (at_place c.self.inside.plan c.args.to c.from-place.result found) c.index_mut.ensures.value c.in-Ok.ensures.relay
     (λ a b. c.pass.ensures.octets a b ∙ c.in-Ok.ensures.octets a b)

@@ -8,7 +8,7 @@ use Rattle.live_plan.specs.Published.{advanced}
 use Rattle.live_plan.specs.Seats.{IsTelling, known_by}
 use Rattle.live_plan.specs.Tellers.{told_by, shown_by}
 use Rattle.live_plan.proofs.Turning.{advances}
-use Rattle.live_plan.proofs.Telling.{last_shown, both_match, next_telling}
+use Rattle.live_plan.proofs.Telling.{last_shown, both_match, both_ok, next_telling}
 use Rattle.live_plan.proofs.teller.steps.with_next.Goals as goal
 
 pub publish_as-writer-requires : goal.publish_as-writer-requires
@@ -48,3 +48,15 @@ invariant_of-teller-2 g c =
           let k : known_by now.desk.place ≡ told_by teller = q ∙ told in
           subst (λ (v : Known). IsTelling teller.nodes (arc_value now.desk.shown.value.shown) v) (sym k) (subst (λ (s : Shown). IsTelling teller.nodes s (told_by teller)) (sym s) teller.telling));
     }
+
+pub returns-clause-ok : goal.returns-clause-ok
+returns-clause-ok g c =
+    let y : Shown = arc_value c.args.given.1.shown in
+    let teller = c.args.teller in
+    let now = c.publish_as-writer.result.0 in
+    let told : known_by c.append.new.self.desk.place ≡ told_by teller = ap (λ d. known_by d.place) c.in-Ok.ensures.desk in
+    let r = c.publish_as-writer.result.1 in
+    both_ok r _ _ _ _ c.publish_as-writer.ensures.values c.publish_as-writer.ensures.rule
+    (λ x p q.
+    let e : arc_value now.desk.shown.value.shown ≡ y = last_shown _ _ _ _ c.args.given.1 p.0 c.in-Ok.ensures.pending in
+    q ∙ (ap (λ s. advanced (known_by c.append.new.self.desk.place) s) e ∙ ap (λ v. advanced v y) told))
