@@ -12,7 +12,8 @@ of workers, so that all that several workers cost counts as serving. Without val
 
 The same is told in instructions, which don't hang on the host: how many of them serving takes the caller's thread, which makes
 the others, serves its shares and collects all answers, and how many it takes all threads. What a thread waits for, a processor
-or memory that another one wrote, isn't in that count.
+or memory that another one wrote, isn't in that count. Of batches of one message all instructions are told: no thread is made
+for them.
 
 What a machine gives to several threads isn't told by the number of its processors, of which two may be one core: so it is
 measured how much more is done in a time by two and by four replays with one worker, at once.
@@ -78,8 +79,9 @@ def together(folder, count):
     return time.monotonic() - start
 
 
-def instructions(folder, trace, flags=()):
-    words = ["valgrind", "--tool=callgrind", "--callgrind-out-file=/dev/null", *flags, PROGRAM, "replay", "plan", trace, "1"]
+def instructions(folder, trace, flags=(), workers=1):
+    count = ["--tool=callgrind", "--callgrind-out-file=/dev/null", *flags]
+    words = ["valgrind", *count, PROGRAM, "replay", "plan", trace, str(workers)]
     done = subprocess.run(words, cwd=folder, capture_output=True, text=True)
     found = re.search(r"Collected : (\d+)", done.stderr)
     return int(found.group(1)) if found else 0
@@ -116,6 +118,11 @@ def tell_instructions(folder, below):
         mine = caller - alone
         print(f"batches, {workers} workers, in instructions: serving takes one worker {below / mine:.2f} times as many as the "
               f"caller's thread, and all threads {(mine + sum(others)) / below:.2f} times as many as one worker")
+    empty = instructions(folder, "empty")
+    one = instructions(folder, "alone") - empty
+    for workers in WORKERS[1:]:
+        some = instructions(folder, "alone", workers=workers) - empty
+        print(f"single, {workers} workers, in instructions: {some / one:.3f} times as many as one")
 
 
 def keep_awake():
@@ -146,7 +153,7 @@ def main():
 def measure():
     with tempfile.TemporaryDirectory() as folder:
         traces = {"batches": (MESSAGE + "\n") * 100_000, "single": (MESSAGE + "\nfence\n") * 50_000}
-        others = {"empty": "", "counted": (MESSAGE + "\n") * COUNTED}
+        others = {"empty": "", "counted": (MESSAGE + "\n") * COUNTED, "alone": (MESSAGE + "\nfence\n") * COUNTED}
         for name, text in {"plan": plan(), **traces, **others}.items():
             with open(os.path.join(folder, name), "w") as made:
                 made.write(text)

@@ -90,8 +90,7 @@ fn role_of_message(
     match called(&message) {
         Some(address) => {
             if is_for_management(address) {
-                let role =
-                    management_role(alloc, plan, entry, origin, management_data(&message));
+                let role = management_role(alloc, plan, entry, origin, management_data(&message));
                 drop(message);
                 return role;
             }

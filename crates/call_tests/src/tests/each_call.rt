@@ -59,18 +59,6 @@ fn are_first_lines(text: &[u8], lines: usize) -> bool {
         && text.iter().filter(|octet| **octet == b'\n').count() == lines
 }
 
-/// The status of these words over these files.
-fn status_of<R: Threads + Wait + Sync, F: Files, K: Sink>(
-    rt: &R,
-    alloc: Global,
-    line: &str,
-    files: &mut F,
-    out: &mut K,
-) -> Result<Status, Fail> {
-    let words = words_of(alloc, line)?;
-    Ok(run(rt, alloc, &words, files, out))
-}
-
 /// Whether the replay ends with a read fault where this call on its files fails, and with these lines before the fault's own.
 /// The next call fails too, and it has to be the first that is made here: so none was made after the failing one.
 fn ends_at_reading<R: Threads + Wait + Sync>(
@@ -80,10 +68,11 @@ fn ends_at_reading<R: Threads + Wait + Sync>(
     call: u8,
     lines: usize,
 ) -> Result<bool, Fail> {
+    let words = words_of(alloc, line)?;
     let failing = vec![in alloc; u64::from(call), u64::from(call) + 1]?;
     let mut files = MemoryFiles::new(files(alloc)?, failing);
     let mut out = SoundSink::new(alloc);
-    let status = status_of(rt, alloc, line, &mut files, &mut out)?;
+    let status = run(rt, alloc, &words, &mut files, &mut out);
     let next = files.begin("f");
     let told = match out.taken().strip_suffix(b"read fault\n") {
         Some(front) => are_first_lines(front, lines),
@@ -126,10 +115,11 @@ fn ends_at_writing<R: Threads + Wait + Sync>(
     call: u8,
     lines: usize,
 ) -> Result<bool, Fail> {
-    let failing = vec![in alloc; u64::from(call), u64::from(call) + 1]?;
+    let words = words_of(alloc, line)?;
     let mut files = SoundFiles::new(files(alloc)?);
+    let failing = vec![in alloc; u64::from(call), u64::from(call) + 1]?;
     let mut out = MemorySink::new(alloc, failing);
-    let status = status_of(rt, alloc, line, &mut files, &mut out)?;
+    let status = run(rt, alloc, &words, &mut files, &mut out);
     let told = are_first_lines(out.taken(), lines);
     Ok(status == Status::WriteFault && told && out.put(b"x") == Err(IoFault::Failed))
 }
@@ -152,13 +142,10 @@ fn each_call_on_the_sink_may_fail(rt: HostRuntime) -> Result<(), Fail> {
 #[test]
 fn no_further_call_is_made(rt: HostRuntime) -> Result<(), Fail> {
     let alloc = rt.alloc();
-    let mut out = MemorySink::new(alloc, vec![in alloc; 4]?);
+    let words = words_of(alloc, "replay f g 1")?;
     let mut files = MemoryFiles::new(files(alloc)?, vec![in alloc; 9]?);
-    let status = status_of(&rt, alloc, "replay f g 1", &mut files, &mut out);
-    drop(files);
-    let same = out.taken() == TOLD.as_bytes();
-    drop(out);
-    assert_eq!(rt; status?, Status::Done);
-    assert!(rt; same, "all is printed");
+    let mut out = MemorySink::new(alloc, vec![in alloc; 4]?);
+    assert_eq!(rt; run(&rt, alloc, &words, &mut files, &mut out), Status::Done);
+    assert_eq!(rt; out.taken(), TOLD.as_bytes());
     Ok(())
 }

@@ -4,9 +4,7 @@ ghost use Rattle.std.specs.Prelude.{◌<◌};
 use super::calls::answer;
 use sccp_tool::Status;
 use std::alloc::Global;
-use std::sync::Wait;
 use std::test::Fail;
-use std::thread::Threads;
 
 /// Appends a number of two digits.
 fn push_two(text: &mut Vec<u8>, number: u8) -> Result<(), Fail>
@@ -72,32 +70,23 @@ fn wide_plan(alloc: Global, covers: usize) -> Result<Vec<u8>, Fail> {
     Ok(text)
 }
 
-/// The status of such a plan's verification, whether the text is this one, and whether it begins with it.
-fn verified<R: Threads + Wait + Sync>(
-    rt: &R,
-    alloc: Global,
-    covers: usize,
-    want: &[u8],
-) -> Result<(Status, bool, bool), Fail> {
-    let octets = wide_plan(alloc, covers)?;
-    let (status, text) = answer(rt, alloc, "verify f", &octets)?;
-    let text = text.as_slice();
-    Ok((status, text == want, text.starts_with(want)))
-}
-
 #[test]
 fn a_plan_of_361216_classes_is_too_wide(rt: HostRuntime) -> Result<(), Fail> {
-    let (status, same, _) = verified(&rt, rt.alloc(), 256, b"too wide\n")?;
+    let alloc = rt.alloc();
+    let (status, text) = answer(&rt, alloc, "verify f", &wide_plan(alloc, 256)?)?;
     assert_eq!(rt; status, Status::TooWide);
-    assert!(rt; same, "too wide");
+    assert_eq!(rt; text.as_slice(), b"too wide\n".as_slice());
     Ok(())
 }
 
 #[test]
 fn a_plan_of_261035_classes_is_accepted(rt: HostRuntime) -> Result<(), Fail> {
-    let front = b"accepted bound 14\nat a 4:0:1:4 6 ";
-    let (status, _, begins) = verified(&rt, rt.alloc(), 185, front)?;
+    let alloc = rt.alloc();
+    let (status, text) = answer(&rt, alloc, "verify f", &wide_plan(alloc, 185)?)?;
     assert_eq!(rt; status, Status::Done);
-    assert!(rt; begins, "accepted bound 14");
+    assert!(rt;
+        text.as_slice()
+            .starts_with(b"accepted bound 14\nat a 4:0:1:4 6 ")
+    );
     Ok(())
 }

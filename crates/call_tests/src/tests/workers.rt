@@ -87,29 +87,16 @@ msg a 1-0-1 0980030E120B1206001204947101000021044301080802AABB
 msg a 1-0-1 0980030E120B1206001204947101000021044301080802AABB
 ";
 
-/// The status of their replay by two workers behind this gate.
-fn meet<R: Threads + Wait + Sync>(
-    rt: &R,
-    alloc: Global,
-    out: &mut SoundSink,
-    gate: &Meeting,
-) -> Result<Status, Fail> {
-    let words = words_of(alloc, "replay f g 2")?;
-    let mut files = with_trace(alloc, MEETING.as_bytes())?;
-    Ok(run_gated(rt, alloc, &words, &mut files, out, gate))
-}
-
 /// No body on one thread gets through, in whatever order it takes its work.
 #[test]
 fn workers_and_publisher_run_beside_each_other(rt: HostRuntime) -> Result<(), Fail> {
     let alloc = rt.alloc();
+    let words = words_of(alloc, "replay f g 2")?;
+    let mut files = with_trace(alloc, MEETING.as_bytes())?;
     let mut out = SoundSink::new(alloc);
     let gate = Meeting::new();
-    let status = meet(&rt, alloc, &mut out, &gate);
-    let kept = gate.was_kept();
-    drop(gate);
-    let status = status?;
-    assert!(rt; kept);
+    let status = run_gated(&rt, alloc, &words, &mut files, &mut out, &gate);
+    assert!(rt; gate.was_kept());
     assert_eq!(rt; status, Status::Done);
     let text = std::str::from_utf8(out.taken())?;
     assert!(rt; text.contains("\n4 by 2 via a ended "), "{text}");
@@ -134,19 +121,6 @@ const FENCED_TOLD: &str = "plan 1 f accepted bound 1
 end 6
 ";
 
-/// The status of a trace's replay by the workers of these words.
-fn replayed<R: Threads + Wait + Sync>(
-    rt: &R,
-    alloc: Global,
-    line: &str,
-    trace: &[u8],
-    out: &mut SoundSink,
-) -> Result<Status, Fail> {
-    let words = words_of(alloc, line)?;
-    let mut files = with_trace(alloc, trace)?;
-    Ok(run(rt, alloc, &words, &mut files, out))
-}
-
 /// Whether a trace, replayed by the workers of these words, prints this.
 fn is_told<R: Threads + Wait + Sync>(
     rt: &R,
@@ -155,8 +129,10 @@ fn is_told<R: Threads + Wait + Sync>(
     trace: &[u8],
     told: &[u8],
 ) -> Result<bool, Fail> {
+    let words = words_of(alloc, line)?;
+    let mut files = with_trace(alloc, trace)?;
     let mut out = SoundSink::new(alloc);
-    let status = replayed(rt, alloc, line, trace, &mut out)?;
+    let status = run(rt, alloc, &words, &mut files, &mut out);
     Ok(status == Status::Done && out.taken() == told)
 }
 
@@ -208,9 +184,11 @@ fn are_lawful(text: &str) -> bool {
 #[test]
 fn numbers_never_fall_in_a_share(rt: HostRuntime) -> Result<(), Fail> {
     let alloc = rt.alloc();
+    let words = words_of(alloc, "replay f g 2")?;
     for _ in 0..10 {
+        let mut files = with_trace(alloc, MEETING.as_bytes())?;
         let mut out = SoundSink::new(alloc);
-        let status = replayed(&rt, alloc, "replay f g 2", MEETING.as_bytes(), &mut out)?;
+        let status = run(&rt, alloc, &words, &mut files, &mut out);
         assert_eq!(rt; status, Status::Done);
         let text = std::str::from_utf8(out.taken())?;
         assert!(rt; are_lawful(text), "{text}");
@@ -218,40 +196,22 @@ fn numbers_never_fall_in_a_share(rt: HostRuntime) -> Result<(), Fail> {
     Ok(())
 }
 
-/// Appends a number.
-fn push_number(text: &mut Vec<u8>, alloc: Global, number: u32) -> Result<(), Fail> {
-    text.extend_from_slice(number.to_string(alloc)?.as_bytes())?;
-    Ok(())
-}
-
-/// Appends so many messages, and what is printed of them.
-fn push_many(
-    alloc: Global,
-    count: u32,
-    trace: &mut Vec<u8>,
-    told: &mut Vec<u8>,
-) -> Result<(), Fail> {
-    told.extend_from_slice(b"plan 1 f accepted bound 1\n")?;
+/// So many messages, and what is printed of them.
+fn many(alloc: Global, count: u32) -> Result<(Vec<u8>, Vec<u8>), Fail> {
+    let mut trace = Vec::new(alloc);
+    let mut told = b"plan 1 f accepted bound 1\n".to_vec(alloc)?;
     for line in 0..count {
         trace.extend_from_slice(
             b"msg a 1-0-1 0980030E120B1206001204947101000021044301080802AABB\n",
         )?;
-        push_number(told, alloc, line + 1)?;
+        told.extend_from_slice((line + 1).to_string(alloc)?.as_bytes())?;
         told.extend_from_slice(
             b" by 1 via a ended 2-0-1/6 0980030E120B5206001204947101000021044301080802AABB\n",
         )?;
     }
     told.extend_from_slice(b"end ")?;
-    push_number(told, alloc, count)?;
+    told.extend_from_slice(count.to_string(alloc)?.as_bytes())?;
     told.extend_from_slice(b"\n")?;
-    Ok(())
-}
-
-/// So many messages, and what is printed of them.
-fn many(alloc: Global, count: u32) -> Result<(Vec<u8>, Vec<u8>), Fail> {
-    let mut trace = Vec::new(alloc);
-    let mut told = Vec::new(alloc);
-    push_many(alloc, count, &mut trace, &mut told)?;
     Ok((trace, told))
 }
 
