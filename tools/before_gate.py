@@ -1,0 +1,56 @@
+#!/usr/bin/env python3
+"""Looks, in seconds, for what the gate would tell of only after an hour: run it before `rt ci`.
+
+It lays out the files of every crate (`rt fmt`) and names those that weren't, and looks whether each old text of each edit in
+must-fail/ stands just once in its file, where those before it were applied. It proves nothing. Status 1 says that a file was
+laid out anew, or that an edit fits no more.
+
+Run it from anywhere: tools/before_gate.py. Nothing else may write in crates/ meanwhile.
+"""
+import os
+import subprocess
+import sys
+
+TOP = os.path.dirname(os.path.dirname(os.path.abspath(__file__)))
+CRATES = os.path.join(TOP, "crates")
+
+
+def laid_out(crate):
+    """What `rt fmt` says of the files that it changed."""
+    done = subprocess.run(["rt", "fmt"], cwd=os.path.join(CRATES, crate), capture_output=True, text=True)
+    if done.returncode:
+        return [f"{crate}: {line}" for line in (done.stdout + done.stderr).splitlines()]
+    return [f"{crate}: {line}" for line in done.stdout.splitlines() if line.startswith("rt: formatted")]
+
+
+def misfits(crate):
+    """The old texts of a crate's edits that don't stand just once."""
+    folder = os.path.join(CRATES, crate, "must-fail")
+    if not os.path.isdir(folder):
+        return []
+    found = []
+    for name in sorted(os.listdir(folder)):
+        text = old = ""
+        with open(os.path.join(folder, name), encoding="utf-8") as edit:
+            for line in edit:
+                word, _, rest = line.rstrip("\n").partition(": ")
+                if word == "file":
+                    with open(os.path.join(CRATES, crate, rest), encoding="utf-8") as source:
+                        text = source.read()
+                elif word == "old":
+                    old = rest
+                    if text.count(old) != 1:
+                        found.append(f"{crate}/must-fail/{name}: its old text stands {text.count(old)} times: {old}")
+                elif word == "new":
+                    text = text.replace(old, rest)
+    return found
+
+
+def main():
+    told = [line for crate in sorted(os.listdir(CRATES)) for line in laid_out(crate) + misfits(crate)]
+    print("\n".join(told) if told else "all files are laid out, and all edits fit")
+    return 1 if told else 0
+
+
+if __name__ == "__main__":
+    sys.exit(main())
