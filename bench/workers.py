@@ -141,13 +141,17 @@ def keep_awake():
     return loops
 
 
+def stop(loops):
+    for loop in loops:
+        os.kill(loop, signal.SIGKILL)
+
+
 def main():
     loops = keep_awake() if AWAKE else []
     try:
         measure()
     finally:
-        for loop in loops:
-            os.kill(loop, signal.SIGKILL)
+        stop(loops)
 
 
 def measure():
