@@ -1,12 +1,13 @@
 #!/usr/bin/env python3
 """Measures how long a replay takes to serve each batch of 1,024 messages over six relays, by 1, 2, 4 and 16 workers.
 
-The kernel notes the time (uprobes) when the function that serves a batch begins, and when it first puts text behind that. In
-between are the copies of the messages, their journeys, for several workers the making of threads, what they wait for and the
-collecting of their answers: all that serving a batch costs, and neither the reading of the trace nor the printing. So each
-run gives a time for each of its 97 whole batches, where bench/workers.py has one for all, and those that the host disturbs
-don't hide the others. Told are the time in the middle of all batches and the quartiles, and how many times as fast as one
-worker that is, middle by middle and quartile by quartile. Replays with one worker and with several are made in turn.
+The kernel notes the time (uprobes) when the function that serves a batch begins, and when the octets of its first message are
+put into the output. In between are the copies of the messages, their journeys, for several workers the making of threads, what
+they wait for and the collecting of their answers: all that serving a batch costs, and neither the reading of the trace nor the
+printing but for a line. So each run gives a time for each of its 97 whole batches, where bench/workers.py has one for all, and
+those that the host disturbs don't hide the others. Told are the time in the middle of all batches and the quartiles, and how
+many times as fast as one worker that is, middle by middle and quartile by quartile. Replays with one worker and with several
+are made in turn.
 
 Run it as root from anywhere: bench/batches.py [--awake] [PROGRAM]. It wants tracefs and nm, and builds nothing: run ./sccp
 once before. `--awake` is that of bench/workers.py: a processor of a shared host that sleeps is woken by the host, which may
@@ -25,7 +26,7 @@ import workers
 
 TRACING = "/sys/kernel/tracing"
 TURNS = 5
-PROBES = {"batch_begins": r"sccp_tool::batch::batch_text\b", "text_is_put": r"sccp_report::text::Text::put$"}
+PROBES = {"batch_begins": r"sccp_tool::batch::batch_text\b", "octets_are_put": r"sccp_report::text::Text::put_hexadecimal$"}
 
 
 def write(name, text, flag=os.O_TRUNC):
