@@ -1,17 +1,19 @@
 #!/usr/bin/env python3
 """Measures how long a replay takes to serve each batch of 1,024 messages over six relays, by 1, 2, 4 and 16 workers.
 
-The kernel notes the time (uprobes) when the function that serves a batch begins, and when the octets of its first message are
-put into the output. In between are the copies of the messages, their journeys, for several workers the making of threads, what
-they wait for and the collecting of their answers: all that serving a batch costs, and neither the reading of the trace nor the
-printing but for a line. So each run gives a time for each of its 97 whole batches, where bench/workers.py has one for all, and
-those that the host disturbs don't hide the others. Told are the time in the middle of all batches and the quartiles, and how
-many times as fast as one worker that is, middle by middle and quartile by quartile. Replays with one worker and with several
-are made in turn.
+The kernel notes the times (uprobes) at functions of the program. Several workers serve a batch from where they are briefed until
+the octets of its first message are put into the output: their threads are made, the messages take their journeys, and the
+answers are collected. One worker serves it from its first journey until the same. A probe there would take longer than some
+journeys, so that time is the one from where the batch is taken up, less the middle of what comes before the first journey,
+which other runs tell. Neither the reading of the trace nor the copying of messages is in it, and of the printing one line.
 
-Run it as root from anywhere: bench/batches.py [--awake] [PROGRAM]. It wants tracefs and nm, and builds nothing: run ./sccp
-once before. `--awake` is that of bench/workers.py: a processor of a shared host that sleeps is woken by the host, which may
-take longer than a batch.
+So each run gives a time for each of its 97 whole batches, where bench/workers.py has one for all, and those that the host
+disturbs don't hide the others. Told are the time in the middle of all batches and the quartiles, and how many times as fast as
+one worker that is, middle by middle and quartile by quartile. Replays with one worker and with several are made in turn.
+
+Run it as root from anywhere: bench/batches.py [--awake] [PROGRAM]. It wants tracefs and nm, and builds nothing: run ./sccp once
+before. `--awake` is that of bench/workers.py: a processor of a shared host that sleeps is woken by the host, which may take
+longer than a batch.
 """
 import os
 import re
@@ -26,7 +28,12 @@ import workers
 
 TRACING = "/sys/kernel/tracing"
 TURNS = 5
-PROBES = {"batch_begins": r"sccp_tool::batch::batch_text\b", "octets_are_put": r"sccp_report::text::Text::put_hexadecimal$"}
+PROBES = {
+    "taken_up": r"sccp_tool::batch::batch_text\b",
+    "briefed": r"live_plan::briefing::brief_all$",
+    "journey_begins": r"relay_net::travelling::journey\b",
+    "octets_are_put": r"sccp_report::text::Text::put_hexadecimal$",
+}
 
 
 def write(name, text, flag=os.O_TRUNC):
@@ -54,10 +61,11 @@ def places(program):
     return found
 
 
-def times(program, folder, count):
-    """The microseconds of each batch but the last of a replay by so many workers."""
+def times(program, folder, count, begin, end):
+    """The microseconds of each whole batch from one probe to the first hit of the other, in a replay by so many workers."""
     write("trace", "")
-    write("events/uprobes/enable", "1")
+    for probe in (begin, end):
+        write(f"events/uprobes/{probe}/enable", "1")
     words = [program, "replay", "plan", "batches", str(count)]
     subprocess.run(words, cwd=folder, stdout=subprocess.DEVNULL, check=True)
     write("events/uprobes/enable", "0")
@@ -65,7 +73,7 @@ def times(program, folder, count):
     with open(os.path.join(TRACING, "trace")) as told:
         for line in told:
             event = re.search(r" (\d+\.\d+): (\w+): ", line)
-            if event and event[2] == "batch_begins":
+            if event and event[2] == begin:
                 begun = float(event[1])
             elif event and begun is not None:
                 found.append((float(event[1]) - begun) * 1e6)
@@ -75,15 +83,19 @@ def times(program, folder, count):
 
 def measure(program, folder):
     found = {count: [] for count in workers.WORKERS}
+    before = []
     for _ in range(TURNS):
+        before += times(program, folder, 1, "taken_up", "journey_begins")
         for count in workers.WORKERS[1:]:
-            found[1] += times(program, folder, 1)
-            found[count] += times(program, folder, count)
+            found[1] += times(program, folder, 1, "taken_up", "octets_are_put")
+            found[count] += times(program, folder, count, "briefed", "octets_are_put")
+    found[1] = [time - statistics.median(before) for time in found[1]]
     one = statistics.quantiles(found[1], n=4)
     for count, all_of_them in found.items():
         some = statistics.quantiles(all_of_them, n=4)
         print(f"{count} workers: {len(all_of_them)} batches, middle {some[1]:.0f} us (quartiles {some[0]:.0f} and {some[2]:.0f}), "
               f"{one[1] / some[1]:.2f} times as fast as one (quartiles {one[0] / some[0]:.2f} and {one[2] / some[2]:.2f})")
+    print(f"with one worker {statistics.median(before):.0f} us come before a batch's first journey")
 
 
 def main():
