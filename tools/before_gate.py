@@ -2,7 +2,8 @@
 """Looks, in seconds, for what the gate would tell of only after an hour: run it before `rt ci`.
 
 It lays out the files of every crate (`rt fmt`) and names those that weren't, and looks whether each old text of each edit in
-must-fail/ stands just once in its file, where those before it were applied. It proves nothing. Status 1 says that a file was
+must-fail/ and of each wrong body in wrong_bodies/ stands just once in its file, where those before it were applied. It proves
+nothing. Status 1 says that a file was
 laid out anew, or that an edit fits no more.
 
 Run it from anywhere: tools/before_gate.py. Nothing else may write in crates/ meanwhile.
@@ -24,8 +25,13 @@ def laid_out(crate):
 
 
 def misfits(crate):
-    """The old texts of a crate's edits that don't stand just once."""
-    folder = os.path.join(CRATES, crate, "must-fail")
+    """The old texts of a crate's edits and wrong bodies that don't stand just once."""
+    return misfits_in(crate, f"crates/{crate}/must-fail") + misfits_in(crate, f"wrong_bodies/{crate}")
+
+
+def misfits_in(crate, place):
+    """Those of one folder."""
+    folder = os.path.join(TOP, place)
     if not os.path.isdir(folder):
         return []
     found = []
@@ -40,7 +46,7 @@ def misfits(crate):
                 elif word == "old":
                     old = rest
                     if text.count(old) != 1:
-                        found.append(f"{crate}/must-fail/{name}: its old text stands {text.count(old)} times: {old}")
+                        found.append(f"{place}/{name}: its old text stands {text.count(old)} times: {old}")
                 elif word == "new":
                     text = text.replace(old, rest)
     return found

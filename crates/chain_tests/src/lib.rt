@@ -1,4 +1,5 @@
-//! Tests of running chains of relays: what ends are handed, and the lines of connections.
+//! Tests of coupled relays: how many connection sections one relay has after each message, which no command tells, and of
+//! running chains what ends are handed and the lines of connections.
 //!
 //! Plans are given as texts, messages as octets.
 #![tactic(auto)]

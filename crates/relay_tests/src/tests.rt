@@ -1,2 +1,0 @@
-//! What a relay couples.
-mod couplings;
