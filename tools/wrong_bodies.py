@@ -1,7 +1,7 @@
 #!/usr/bin/env python3
 """Tries the wrong bodies of wrong_bodies/: the prover must refuse each.
 
-The gate tries those of crates/CRATE/must-fail/, the few of each crate that a reader would fear most: each costs it a load of all
+The gate tries those of crates/CRATE/must-fail/, the one to five of each crate that a reader would fear most: each costs it a load of all
 that was proved, whatever line it turns. The others stand in wrong_bodies/CRATE/, in the same form, and are tried when their
 crate or its contracts change.
 

@@ -69,15 +69,21 @@ fn cover_of(alloc: Global, nodes: &[Value], i: usize, cover: &Value) -> Result<C
     ensures value { Answers is_memory (λ cover. cover) result (cover_of (map view nodes.now) i (view cover.now)) }
     ensures few { IfOk result HasFewDigits }
 {
-    let bad = |key| PlanFault::BadValue(Place::Cover(i, key));
-    let node = Name::parse(text_at(cover, "node").as_bytes()).ok_or(bad(Key::Node))?;
-    let selector = Selector::parse(text_at(cover, "selector").as_bytes()).ok_or(bad(
-        Key::Selector,
+    let node = Name::parse(text_at(cover, "node").as_bytes()).ok_or(PlanFault::BadValue(
+        Place::Cover(i, Key::Node),
     ))?;
-    let ssn = number_at(255, "ssn", cover).ok_or(bad(Key::Ssn))?;
-    let prefix = digits_up_to(32, text_at(cover, "prefix").as_bytes()).ok_or(bad(Key::Prefix))?;
-    let least = number_at(32, "least", cover).ok_or(bad(Key::Least))?;
-    let most = number_at(32, "most", cover).ok_or(bad(Key::Most))?;
+    let selector = Selector::parse(text_at(cover, "selector").as_bytes()).ok_or(PlanFault::BadValue(
+        Place::Cover(i, Key::Selector),
+    ))?;
+    let ssn = number_at(255, "ssn", cover).ok_or(PlanFault::BadValue(Place::Cover(i, Key::Ssn)))?;
+    let prefix = digits_up_to(32, text_at(cover, "prefix").as_bytes()).ok_or(PlanFault::BadValue(
+        Place::Cover(i, Key::Prefix),
+    ))?;
+    let least = number_at(32, "least", cover).ok_or(PlanFault::BadValue(Place::Cover(
+        i,
+        Key::Least,
+    )))?;
+    let most = number_at(32, "most", cover).ok_or(PlanFault::BadValue(Place::Cover(i, Key::Most)))?;
     let allowed = allowed_of(alloc, i, elements_at(cover, "allowed"))?;
     Ok(Cover {
         node: node_place(nodes, node.as_slice()),
