@@ -1,5 +1,5 @@
 -- The answers of all shares as those of the batch.
-use Rattle.std.proofs.Common.{◌≡◌, ℕ, ◌+◌, ◌*◌, ◌/◌, ◌%◌, ◌<◌, ◌≤◌, List, [], ◌∷◌, ◌++◌, length, take, drop, get_or, slice_get, Option, Some, None, Result, Ok, Err, inl, inr, ⊎_elim, refl, sym, ap, ◌∙◌, subst, le_refl, le_trans, length-append, arith}
+use Rattle.std.proofs.Common.{◌≡◌, ℕ, ◌+◌, ◌*◌, ◌/◌, ◌%◌, ◌<◌, ◌≤◌, List, [], ◌∷◌, ◌++◌, length, take, drop, get_or, slice_get, Option, Some, None, Result, Ok, Err, inl, inr, ⊎_elim, refl, sym, ap, ◌∙◌, subst, le_trans, arith}
 use Rattle.std.specs.Prelude.{IfSome, IsSomeAnd, IfOk}
 use Rattle.std.proofs.Math.Nat.{mod-lt, div-mul-le_self}
 use Rattle.std.proofs.lemmas.Nat.{div-add-mod', le-div}
@@ -10,8 +10,8 @@ use Rattle.relay_net.specs.States.{State}
 use Rattle.relay_net.specs.declared.served.Served.{Served}
 use Rattle.live_plan.specs.declared.place.Place.{Ghosts}
 use Rattle.live_plan.specs.declared.worker.Worker.{Worker}
-use Rattle.live_plan.specs.Batches.{AreServed, IsServed, IsShare, Follows, Lasts, Counted, KeepsAll, HasServed}
-use Rattle.live_plan.proofs.Shares.{rose_less, goes_same, lasts_trans, counted_same, share_more}
+use Rattle.live_plan.specs.Batches.{AreServed, Follows, Lasts, Counted, KeepsAll, HasServed}
+use Rattle.live_plan.proofs.Shares.{rose_less, goes_same, lasts_trans, counted_same}
 
 pub first_item : {A : Type 0} (xs : List A) → 0 < length xs → A
 first_item [] lt = absurd (omega arith)
@@ -89,19 +89,3 @@ module _ {P : Type 0} {g : Ghosts P} where
 pub both_ok : {A E : Type 0} (P Q : A → Type 0) (r : Result A E) → IfOk r P → IfOk r Q → IfOk r (λ x. P x × Q x)
 both_ok P Q (Ok x) p q = (p, q)
 both_ok P Q (Err e) p q = tt
-
--- one more answer of those that one thread gives under one plan
-pub here_more : (plans : List Verified) (states : List State) (jobs : List Job) (n i : ℕ) (answers : List Served) (s : Served) (job : Job) → length answers ≡ i → IsShare plans states jobs 1 0 n n answers → s.number ≡ n → slice_get jobs i ≡ Some job → IsServed plans states job s
-    → (length (answers ++ s ∷ []) ≡ i + 1) × IsShare plans states jobs 1 0 n n (answers ++ s ∷ [])
-here_more plans states jobs n i answers s job long h number at served =
-    let place : length answers * 1 + 0 ≡ i = omega (arith, long) in
-    let more = share_more plans states jobs 1 0 n n answers s job h (le_refl n) (subst (λ k. n ≤ k) (sym number) (le_refl n)) (subst (λ k. slice_get jobs k ≡ Some job) (sym place) at) served in
-    (omega (arith, long, length-append answers (s ∷ [])), subst (λ k. IsShare plans states jobs 1 0 n k (answers ++ s ∷ [])) number more)
-
--- these are lawful for any number of shares
-pub here_served : (plans : List Verified) (states : List State) (jobs : List Job) (count n : ℕ) (answers : List Served) → length answers ≡ length jobs → IsShare plans states jobs 1 0 n n answers → AreServed plans states jobs count n answers
-here_served plans states jobs count n answers long h = record {
-  long = long;
-  each = λ i job s there at. let back : i * 1 + 0 ≡ i = omega arith in (h.each i job s (subst (λ k. slice_get jobs k ≡ Some job) (sym back) there) at, (h.within i s at).0);
-  rising = λ i j s t le same at_i at_j. h.rising i j s t le at_i at_j;
-}

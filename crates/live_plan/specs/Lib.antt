@@ -6,5 +6,6 @@ pub mod Published
 pub mod Seats
 pub mod Tellers
 pub mod Batches
+pub mod Blocks
 pub mod Publishing
 pub mod ByPlace

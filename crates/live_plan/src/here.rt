@@ -1,15 +1,16 @@
-//! Few jobs, on the thread of the caller.
+//! A batch in which no plan comes, under the last plan.
 ghost use Rattle.std.specs.Prelude.{◌≡◌, ◌+◌, ◌^◌, ◌<◌, ◌≤◌, ◌++◌, All, length, IfOk, OnOk};
 ghost use mathlib.Core.List.{IsPrefix};
 ghost use Rattle.live_plan.specs.Batches.{AllPairs, AreServed, Lasts};
 ghost use Rattle.live_plan.specs.Plans.{HaveNodes};
-ghost use Rattle.live_plan.specs.Tellers.{plans_of};
+ghost use Rattle.live_plan.specs.Tellers.{told_by, plans_of};
 
 use crate::batch::run_batch;
+use crate::blocks::serve_blocks;
 use crate::gate::Gate;
 use crate::live_place::LivePlace;
 use crate::teller::Teller;
-use crate::worker::{Worker, route};
+use crate::worker::Worker;
 use plan_check::Accepted;
 use relay_net::{Job, NodeState, Served};
 use sccp_base::{List, OutOfMemory};
@@ -17,12 +18,26 @@ use std::alloc::Global;
 use std::sync::Wait;
 use std::thread::Threads;
 
-// Fewer jobs than so many are served sooner by one thread than by two.
-const FEW: usize = 32;
+// So many jobs are worth a thread.
+const WORTHWHILE: usize = 16;
 
-// All jobs under the publisher's last plan. The gate is passed for each as by the worker of its share.
-fn serve_here<G: Gate>(
+// As many threads as the jobs are worth, and no more than shares or processors.
+fn threads_for<R: Threads>(rt: &R, teller: &mut Teller, shares: usize, jobs: usize) -> usize
+    ensures told { told_by teller.new ≡ told_by teller.old }
+    ensures nodes { teller.new.nodes ≡ teller.old.nodes }
+{
+    let worth = (jobs / WORTHWHILE).min(shares);
+    if worth < 2 {
+        return 1;
+    }
+    worth.min(teller.processors(rt))
+}
+
+// All jobs under the publisher's last plan. Nothing can be published meanwhile, so no worker need look.
+fn serve_latest<R: Threads + Sync, G: Gate + Sync>(
+    rt: &R,
     alloc: Global,
+    threads: usize,
     teller: &Teller,
     workers: usize,
     states: &[NodeState],
@@ -34,18 +49,22 @@ fn serve_here<G: Gate>(
     requires entries { All (λ job. job.entry < teller.now.nodes) jobs.now }
     ensures { IfOk result (AreServed (plans_of teller.now) states.now jobs.now workers (length (plans_of teller.now))) }
 {
-    let mut answers = List::from_vec(Vec::with_capacity(alloc, jobs.len())?);
-    for i in 0..jobs.len() {
-        let job = &jobs[i];
-        gate.pass((i % workers) as u32, job.index);
-        let served = route(alloc, teller.number(), teller.latest(), states, job)?;
-        answers.push(served)?;
-    }
-    Ok(answers)
+    let (number, plan) = (teller.number(), teller.latest());
+    serve_blocks(
+        rt,
+        alloc,
+        threads,
+        number,
+        plan,
+        states,
+        jobs,
+        workers as u32,
+        gate,
+    )
 }
 
-/// Serves a batch of jobs as `run_batch` does, or sooner: where no plan comes and there are few jobs, all of them on the thread
-/// of the caller, under the last plan, while the workers rest.
+/// Serves a batch of jobs as `run_batch` does, or sooner: where no plan comes, all of them go under the last plan, each
+/// thread takes the next few when it has served some, and the workers rest.
 pub fn serve_jobs<R: Threads + Wait + Sync, G: Gate + Sync>(
     rt: &R,
     alloc: Global,
@@ -69,9 +88,11 @@ pub fn serve_jobs<R: Threads + Wait + Sync, G: Gate + Sync>(
     ensures within { IsPrefix (plans_of teller.new) (plans_of teller.old ++ plans) }
     ensures nodes { teller.new.nodes ≡ teller.old.nodes }
 {
-    if plans.as_slice().is_empty() && jobs.as_slice().len() < FEW {
+    if plans.as_slice().is_empty() {
+        let jobs = jobs.as_slice();
         let shares = workers.as_slice().len();
-        return serve_here(alloc, teller, shares, states, jobs.as_slice(), gate);
+        let threads = threads_for(rt, teller, shares, jobs.len());
+        return serve_latest(rt, alloc, threads, teller, shares, states, jobs, gate);
     }
     run_batch(rt, alloc, teller, workers, states, jobs, plans, gate)
 }

@@ -10,6 +10,7 @@
 #![tactic(auto)]
 
 mod batch;
+mod blocks;
 mod briefing;
 mod collecting;
 mod gate;

@@ -1,0 +1,16 @@
+-- Jobs that all go under one plan, and the answers of blocks of them.
+use Rattle.std.specs.Prelude.{◌≡◌, ℕ, List, drop, length, map, take}
+use Rattle.plan_check.specs.Verified.{Verified}
+use Rattle.relay_net.specs.declared.job.Job.{Job}
+use Rattle.relay_net.specs.declared.served.Served.{Served}
+use Rattle.relay_net.specs.States.{State}
+use Rattle.live_plan.specs.Routed.{journey_under}
+use Rattle.live_plan.specs.declared.blocks.Block.{Block}
+
+-- the answer of a job under the plan of a number
+abbrev pub answer_under : ℕ → Verified → List State → Job → Served
+answer_under number plan states job = record { number = number; journey = journey_under plan states job }
+
+-- a block has the answers of the jobs that follow one another from its place on
+abbrev pub HasAnswers : (Job → Served) → List Job → Block → Type 0
+HasAnswers answer jobs block = block.answers ≡ map answer (take (length block.answers) (drop block.from jobs))

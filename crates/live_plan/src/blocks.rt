@@ -1,0 +1,199 @@
+//! Jobs that all go under one plan, in blocks. Each thread takes the next block when it has served one, so a processor that
+//! is slower than the others, or begins later, serves fewer.
+ghost use Rattle.std.specs.Prelude.{◌≡◌, ◌<◌, List, All, length, map, nat_eq, position, take, IfOk, IfSome};
+ghost use Rattle.relay_net.specs.declared.job.Job.{Job};
+ghost use Rattle.relay_net.specs.declared.served.Served.{Served};
+ghost use Rattle.live_plan.specs.Blocks.{HasAnswers, answer_under};
+ghost use Rattle.live_plan.specs.Plans.{nodes_of};
+
+use crate::gate::Gate;
+use crate::worker::route;
+use plan_check::Accepted;
+use relay_net::{Job, NodeState, Served};
+use sccp_base::{List, OutOfMemory};
+use std::alloc::{AllocError, Global};
+use std::sync::atomic::{AtomicUsize, Ordering};
+use std::thread;
+use std::thread::Threads;
+
+// How many jobs a thread takes at once: some tens of microseconds of work.
+const BLOCK: usize = 16;
+
+/// The answers of jobs that follow one another, of which the first has this place.
+#[derive(Drop)]
+pub(crate) struct Block {
+    from: usize,
+    answers: List<Served>,
+}
+
+// The answers of these jobs. The gate is passed for each as by the worker of its share.
+fn serve_each<G: Gate>(
+    alloc: Global,
+    number: u32,
+    plan: &Accepted,
+    states: &[NodeState],
+    jobs: &[Job],
+    workers: u32,
+    gate: &G,
+) -> Result<List<Served>, OutOfMemory>
+    requires workers { 0 < workers }
+    requires states { length states.now ≡ nodes_of plan.now }
+    requires entries { All (λ job. job.entry < nodes_of plan.now) jobs.now }
+    ensures { IfOk result (λ answers. answers ≡ map (answer_under number plan.now states.now) jobs.now) }
+{
+    let mut answers = List::from_vec(Vec::with_capacity(alloc, jobs.len())?);
+    for job in jobs {
+        gate.pass(job.index % workers, job.index);
+        let served = route(alloc, number, plan, states, job)?;
+        answers.push(served)?;
+    }
+    Ok(answers)
+}
+
+// Serves the next block, unless all are taken or memory is wanting.
+fn next_block<G: Gate>(
+    alloc: Global,
+    number: u32,
+    plan: &Accepted,
+    states: &[NodeState],
+    jobs: &[Job],
+    workers: u32,
+    gate: &G,
+    next: &AtomicUsize,
+) -> Option<Block>
+    requires workers { 0 < workers }
+    requires states { length states.now ≡ nodes_of plan.now }
+    requires entries { All (λ job. job.entry < nodes_of plan.now) jobs.now }
+    ensures { IfSome result (HasAnswers (answer_under number plan.now states.now) jobs.now) }
+{
+    let from = next.fetch_add(BLOCK, Ordering::SeqCst);
+    if jobs.len() <= from {
+        return None;
+    }
+    let (_, left) = jobs.split_at(from);
+    let (block, _) = left.split_at(BLOCK.min(left.len()));
+    match serve_each(alloc, number, plan, states, block, workers, gate) {
+        Ok(answers) => Some(Block { from, answers }),
+        Err(_) => None,
+    }
+}
+
+// Serves block after block.
+fn serve_lane<G: Gate>(
+    alloc: Global,
+    number: u32,
+    plan: &Accepted,
+    states: &[NodeState],
+    jobs: &[Job],
+    workers: u32,
+    gate: &G,
+    next: &AtomicUsize,
+) -> List<Block>
+    requires workers { 0 < workers }
+    requires states { length states.now ≡ nodes_of plan.now }
+    requires entries { All (λ job. job.entry < nodes_of plan.now) jobs.now }
+    ensures { All (HasAnswers (answer_under number plan.now states.now) jobs.now) result }
+{
+    let mut blocks = List::new(alloc);
+    for _ in 0..jobs.len() {
+        let Some(block) = next_block(alloc, number, plan, states, jobs, workers, gate, next) else {
+            break;
+        };
+        if blocks.push(block).is_err() {
+            break;
+        }
+    }
+    blocks
+}
+
+// What so many threads serve, the caller's among them.
+fn serve_lanes<R: Threads + Sync, G: Gate + Sync>(
+    rt: &R,
+    alloc: Global,
+    threads: usize,
+    number: u32,
+    plan: &Accepted,
+    states: &[NodeState],
+    jobs: &[Job],
+    workers: u32,
+    gate: &G,
+) -> Result<Vec<List<Block>>, AllocError>
+    requires workers { 0 < workers }
+    requires states { length states.now ≡ nodes_of plan.now }
+    requires entries { All (λ job. job.entry < nodes_of plan.now) jobs.now }
+    ensures { IfOk result (λ lanes. All (λ lane. All (HasAnswers (answer_under number plan.now states.now) jobs.now) lane) lanes.items) }
+{
+    let next = AtomicUsize::new(0);
+    let shared = &next;
+    thread::map_indices(
+        rt,
+        alloc,
+        threads,
+        &|_lane: usize| -> List<Block>
+            requires { (0 < workers) × (length states.now ≡ nodes_of plan.now) × All (λ job. job.entry < nodes_of plan.now) jobs.now }
+            ensures { All (HasAnswers (answer_under number plan.entry.now states.entry.now) jobs.entry.now) result }
+        { serve_lane(alloc, number, plan, states, jobs, workers, gate, shared) },
+    )
+}
+
+// The blocks of all threads.
+fn all_blocks(alloc: Global, lanes: Vec<List<Block>>) -> Result<Vec<Block>, AllocError>
+    ensures { (answer : Job → Served) (jobs : List Job) → All (λ lane. All (HasAnswers answer jobs) lane) lanes.items → IfOk result (λ blocks. All (HasAnswers answer jobs) blocks.items) }
+{
+    let mut left = lanes;
+    let mut blocks = Vec::new(alloc);
+    while let Some(lane) = left.pop() {
+        blocks.append(&mut lane.into_vec())?;
+    }
+    Ok(blocks)
+}
+
+fn place_of(blocks: &[Block], from: usize) -> Option<usize>
+    ensures { result ≡ position (λ block. nat_eq block.from from) blocks.now }
+{
+    blocks.iter().position(|block| block.from == from)
+}
+
+// The answers of the blocks, as far as these follow one another.
+fn in_order(alloc: Global, jobs: usize, blocks: Vec<Block>) -> Result<Vec<Served>, AllocError>
+    ensures { (answer : Job → Served) (jobs : List Job) → All (HasAnswers answer jobs) blocks.items → IfOk result (λ answers. answers.items ≡ map answer (take (length answers.items) jobs)) }
+{
+    let mut left = blocks;
+    let mut answers = Vec::with_capacity(alloc, jobs)?;
+    while let Some(place) = place_of(left.as_slice(), answers.len()) {
+        let block = left.remove(place);
+        answers.append(&mut block.answers.into_vec())?;
+    }
+    Ok(answers)
+}
+
+/// Answers each job under this plan, which has this number, in the order of the jobs, by so many threads. What a thread had no
+/// memory for is served behind the others.
+pub(crate) fn serve_blocks<R: Threads + Sync, G: Gate + Sync>(
+    rt: &R,
+    alloc: Global,
+    threads: usize,
+    number: u32,
+    plan: &Accepted,
+    states: &[NodeState],
+    jobs: &[Job],
+    workers: u32,
+    gate: &G,
+) -> Result<List<Served>, OutOfMemory>
+    requires workers { 0 < workers }
+    requires states { length states.now ≡ nodes_of plan.now }
+    requires entries { All (λ job. job.entry < nodes_of plan.now) jobs.now }
+    ensures { IfOk result (λ answers. answers ≡ map (answer_under number plan.now states.now) jobs.now) }
+{
+    if threads < 2 {
+        return serve_each(alloc, number, plan, states, jobs, workers, gate);
+    }
+    let lanes = serve_lanes(
+        rt, alloc, threads, number, plan, states, jobs, workers, gate,
+    )?;
+    let mut answers = in_order(alloc, jobs.len(), all_blocks(alloc, lanes)?)?;
+    let (_, left) = jobs.split_at(answers.len());
+    let rest = serve_each(alloc, number, plan, states, left, workers, gate)?;
+    answers.append(&mut rest.into_vec())?;
+    Ok(List::from_vec(answers))
+}
