@@ -1,11 +1,12 @@
 #!/usr/bin/env python3
 """Measures how long a replay takes to serve each batch of 1,024 messages over six relays, by 1, 2, 4 and 16 workers.
 
-The kernel notes the times (uprobes) at functions of the program. Several workers serve a batch from where they are briefed until
-the octets of its first message are put into the output: their threads are made, the messages take their journeys, and the
-answers are collected. One worker serves it from its first journey until the same. A probe there would take longer than some
-journeys, so that time is the one from where the batch is taken up, less the middle of what comes before the first journey,
-which other runs tell. Neither the reading of the trace nor the copying of messages is in it, and of the printing one line.
+The kernel notes the times (uprobes) at functions of the program. Several workers serve a batch from where it is told how many
+threads there may be until the octets of its first message are put into the output: the threads are made, the messages take
+their journeys, and the answers are put in order. One worker serves it from its first journey until the same. A probe there
+would take longer than some journeys, so that time is the one from where the batch is taken up, less the middle of what comes
+before the first journey, which other runs tell. Neither the reading of the trace nor the copying of messages is in it, and of
+the printing one line.
 
 So each run gives a time for each of its 97 whole batches, where bench/workers.py has one for all, and those that the host
 disturbs don't hide the others. Told are the time in the middle of all batches and the quartiles, and how many times as fast as
@@ -30,7 +31,7 @@ TRACING = "/sys/kernel/tracing"
 TURNS = 5
 PROBES = {
     "taken_up": r"sccp_tool::batch::batch_text\b",
-    "briefed": r"live_plan::briefing::brief_all$",
+    "threads_told": r"live_plan::teller::Teller::processors\b",
     "journey_begins": r"relay_net::travelling::journey\b",
     "octets_are_put": r"sccp_report::text::Text::put_hexadecimal$",
 }
@@ -88,7 +89,7 @@ def measure(program, folder):
         before += times(program, folder, 1, "taken_up", "journey_begins")
         for count in workers.WORKERS[1:]:
             found[1] += times(program, folder, 1, "taken_up", "octets_are_put")
-            found[count] += times(program, folder, count, "briefed", "octets_are_put")
+            found[count] += times(program, folder, count, "threads_told", "octets_are_put")
     found[1] = [time - statistics.median(before) for time in found[1]]
     one = statistics.quantiles(found[1], n=4)
     for count, all_of_them in found.items():

@@ -5,8 +5,9 @@ The gate tries those of crates/CRATE/must-fail/, the one to five of each crate t
 that was proved, whatever line it turns. The others stand in wrong_bodies/CRATE/, in the same form, and are tried when their
 crate or its contracts change.
 
-Run it from anywhere: tools/wrong_bodies.py CRATE .., or without a name for all. It works in a copy of the crates, and first
-proves them there, over what `rt check` kept. Status 1 says that one wasn't refused, or couldn't be tried.
+Run it from anywhere: tools/wrong_bodies.py CRATE .., or without a name for all. It works in a copy of the crates, over the
+libraries that `rt check` and the launcher left in out/, and first proves there what they left out. Status 1 says that one
+wasn't refused, or couldn't be tried.
 """
 import os
 import shutil
@@ -18,11 +19,16 @@ TOP = os.path.dirname(os.path.dirname(os.path.abspath(__file__)))
 BODIES = os.path.join(TOP, "wrong_bodies")
 
 
+def left_out(folder, names):
+    """What isn't copied: the gate's own edits, and of what was made all but the libraries."""
+    return set(names) - {"rlib"} if os.path.basename(folder) == "out" else set(names) & {"must-fail"}
+
+
 def copy(folder, names):
     """A copy of the repository in which these crates have the wrong bodies of wrong_bodies/ as their edits."""
     for name in ("crates.txt", "HANDLES"):
         shutil.copy(os.path.join(TOP, name), folder)
-    shutil.copytree(os.path.join(TOP, "crates"), os.path.join(folder, "crates"), ignore=shutil.ignore_patterns("out", "must-fail"))
+    shutil.copytree(os.path.join(TOP, "crates"), os.path.join(folder, "crates"), ignore=left_out)
     for name in names:
         shutil.copytree(os.path.join(BODIES, name), os.path.join(folder, "crates", name, "must-fail"))
 
