@@ -1,4 +1,4 @@
-//! Connections over two relays at 1-0-2 and 1-0-3, from an end at 1-0-1 to one at 2-0-1.
+//! Connections over two relays at 1-0-2 and 1-0-3, from an end at 1-0-1 to one at 2-0-1, and the sections of one relay.
 mod chain_of_sixteen;
 mod connecting;
 mod couplings;

@@ -1,6 +1,6 @@
 -- The answers of blocks, put together again.
-use Rattle.std.proofs.Common.{◌≡◌, ℕ, zero, suc, ◌+◌, ◌<◌, ◌≤◌, min, List, [], ◌∷◌, ◌++◌, length, map, take, drop, get_or, slice_get, Some, refl, sym, ap, ◌∙◌, subst, le_refl, arith}
-use Rattle.std.proofs.lemmas.List.{append_assoc, drop-take, drop_more, length-append, length-map, length-take, map-append, take-append-drop, take-take, take_min}
+use Rattle.std.proofs.Common.{◌≡◌, ℕ, zero, suc, ◌+◌, ◌≤◌, min, List, [], ◌∷◌, ◌++◌, length, map, take, drop, slice_get, Some, refl, sym, ap, ◌∙◌, le_refl, arith}
+use Rattle.std.proofs.lemmas.List.{drop-take, length-append, length-map, length-take, map-append, take-append-drop, take-take}
 use Rattle.std.specs.List.{All, remove}
 use Rattle.std.proofs.lemmas.List.Elements.{All-append, All-drop, All-take}
 use Rattle.plan_check.specs.Verified.{Verified}
@@ -10,19 +10,12 @@ use Rattle.relay_net.specs.declared.served.Served.{Served}
 use Rattle.live_plan.specs.Batches.{AreServed}
 use Rattle.live_plan.specs.Blocks.{answer_under}
 use Rattle.live_plan.specs.Plans.{HasPlan}
-use Rattle.live_plan.specs.Routed.{journey_under}
 use Rattle.live_plan.proofs.Passed.{get_map}
 
 pub All-remove : {A : Type 0} (P : A → Type 0) (xs : List A) (i : ℕ) → All P xs → All P (remove xs i)
 All-remove P xs i all = All-append P (take i xs) (drop (suc i) xs) (All-take P i xs all) (All-drop P (suc i) xs all)
 
 module _ {A B : Type 0} (f : A → B) where
-  -- one more, of those that are left
-  pub one_more : (xs : List A) (i : ℕ) (x : A) (y : B) (ys : List B) → i < length xs → x ≡ get_or xs i x → y ≡ f x → (ys ++ y ∷ []) ++ map f (drop (i + 1) xs) ≡ ys ++ map f (drop i xs)
-  one_more xs i x y ys lt is y_is =
-      let left : drop i xs ≡ x ∷ drop (i + 1) xs = drop_more xs i x lt ∙ ap (λ z. z ∷ drop (i + 1) xs) (sym is) in
-      append_assoc ys (y ∷ []) (map f (drop (i + 1) xs)) ∙ ap (λ z. ys ++ z ∷ map f (drop (i + 1) xs)) y_is ∙ ap (λ l. ys ++ map f l) (sym left)
-
   -- so many of the first, and those that are left
   pub all_of_them : (xs : List A) (ys : List B) → ys ≡ map f (take (length ys) xs) → ys ++ map f (drop (length ys) xs) ≡ map f xs
   all_of_them xs ys is = ap (λ l. l ++ map f (drop (length ys) xs)) is ∙ sym (map-append f (take (length ys) xs) (drop (length ys) xs)) ∙ ap (map f) (take-append-drop (length ys) xs)
@@ -40,15 +33,6 @@ module _ {A B : Type 0} (f : A → B) where
       let front : take n (take (n + m) xs) ≡ take n xs = take-take n (n + m) xs (omega arith) in
       let parts : take n xs ++ take m (drop n xs) ≡ take (n + m) xs = ap (λ l. l ++ take m (drop n xs)) (sym front) ∙ ap (λ l. take n (take (n + m) xs) ++ l) (sym (drop-take n m xs)) ∙ take-append-drop n (take (n + m) xs) in
       ap (λ l. l ++ zs) first ∙ ap (λ l. map f (take n xs) ++ l) then ∙ sym (map-append f (take n xs) (take m (drop n xs))) ∙ ap (map f) parts ∙ ap (λ k. map f (take k xs)) (sym (length-append ys zs))
-
-  -- as many as were asked for and are there
-  pub so_many : (xs : List A) (m : ℕ) (ys : List B) → ys ≡ map f (take m xs) → ys ≡ map f (take (length ys) xs)
-  so_many xs m ys is =
-      let long : length ys ≡ min m (length xs) = ap length is ∙ length-map (take m xs) f ∙ length-take m xs in
-      is ∙ ap (map f) (sym (take_min m xs) ∙ ap (λ k. take k xs) (sym long))
-
-pub is_answer : (number : ℕ) (plan : Verified) (states : List State) (job : Job) (s : Served) → s.number ≡ number → s.journey ≡ journey_under plan states job → s ≡ answer_under number plan states job
-is_answer number plan states job s n j = subst (λ m. s ≡ record { number = m; journey = journey_under plan states job }) n (subst (λ k. s ≡ record { number = s.number; journey = k }) j refl)
 
 -- what each item gives alike
 alike : {A B : Type 0} (f : A → B) (g : B → ℕ) (n : ℕ) → ((x : A) → g (f x) ≡ n) → (xs : List A) (i : ℕ) (y : B) → slice_get (map f xs) i ≡ Some y → g y ≡ n

@@ -7,13 +7,6 @@ use Rattle.std.proofs.lemmas.List.{get_or_append_left, get_or-append-add, get_or
 use Rattle.std.proofs.lemmas.Bool.{cases_lt}
 
 module _ {X : Type 0} where
-  -- the items in front
-  pub each_first : (P : ℕ → X → Type 0) (base : ℕ) (all xs ys : List X) → all ≡ xs ++ ys
-      → ((k : ℕ) (d : X) → k < length all → P (base + k) (slice_index_or all k d))
-      → (k : ℕ) (d : X) → k < length xs → P (base + k) (slice_index_or xs k d)
-  each_first P base all xs ys e h k d l =
-      subst (P (base + k)) (ap (λ it. get_or it k d) e ∙ get_or_append_left xs ys d k l) (h k d (omega (arith, ap length e, length-append xs ys)))
-
   -- the items behind them
   pub each_behind : (P : ℕ → X → Type 0) (base n : ℕ) (all xs ys : List X) → all ≡ xs ++ ys → length xs ≡ n
       → ((k : ℕ) (d : X) → k < length all → P (base + k) (slice_index_or all k d))

@@ -38,13 +38,6 @@ module _ {P : Type 0} {g : Ghosts P} where
     };
   }
 
-  pub goes_self : (w : Worker P g) → GoesOn w w
-  goes_self w = record {
-    lasts = λ n. record { index = refl; nodes = refl; entries = le_refl _; refusals = le_refl _; number = λ le. le_refl _ };
-    rises = le_refl _;
-    follows = λ l f. f;
-  }
-
   pub lasts_trans : (n : ℕ) (u v w : Worker P g) → Lasts n u v → GoesOn v w → Lasts n u w
   lasts_trans n u v w p q =
       let r = q.lasts n in record {
@@ -81,13 +74,6 @@ share_more plans states jobs count share from upto answers s job h some more at 
       (λ (b_last : (r ≡ length answers) × (s ≡ b)). ⊎_elim (λ a_old. subst (λ (u : Served). a.number ≤ u.number) b_last.1 (le_trans (h.within q a a_old).1 more))
       (λ (a_last : (q ≡ length answers) × (s ≡ a)). subst (λ (u : Served). a.number ≤ u.number) b_last.1 (subst (λ (u : Served). u.number ≤ s.number) a_last.1 (le_refl _))) (get_snoc answers s q a x))
       (get_snoc answers s r b y);
-}
-
-pub share_none : (plans : List Verified) (states : List State) (jobs : List Job) (count share from upto : ℕ) → IsShare plans states jobs count share from upto []
-share_none plans states jobs count share from upto = record {
-  each = λ r job s there e. absurd cc;
-  within = λ r s e. absurd cc;
-  rising = λ q r a b le x y. absurd cc;
 }
 
 pub next_at : (answers : List Served) (s : Served) (count share : ℕ) → length (answers ++ s ∷ []) * count + share ≡ length answers * count + share + count

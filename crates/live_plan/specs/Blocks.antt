@@ -7,7 +7,7 @@ use Rattle.relay_net.specs.States.{State}
 use Rattle.live_plan.specs.Routed.{journey_under}
 use Rattle.live_plan.specs.declared.blocks.Block.{Block}
 
--- the answer of a job under the plan of a number
+-- the answer of a job under this plan, which has this number
 abbrev pub answer_under : ℕ → Verified → List State → Job → Served
 answer_under number plan states job = record { number = number; journey = journey_under plan states job }
 

@@ -167,8 +167,8 @@ fn in_order(alloc: Global, jobs: usize, blocks: Vec<Block>) -> Result<Vec<Served
     Ok(answers)
 }
 
-/// Answers each job under this plan, which has this number, in the order of the jobs, by so many threads. What a thread had no
-/// memory for is served behind the others.
+/// Answers each job under this plan, which has this number, in the order of the jobs, by so many threads. Where a thread had no
+/// memory for a block, the jobs from there on are served again by this one.
 pub(crate) fn serve_blocks<R: Threads + Sync, G: Gate + Sync>(
     rt: &R,
     alloc: Global,

@@ -1,8 +1,9 @@
 //! A plan that is replaced while workers route by it.
 //!
 //! A `Teller` publishes accepted plans one after the other, each under the next number, and `Worker`s look at the published
-//! plans beside it. A message goes over all its relays (ITU-T Q.714 section 2) under the one plan that its worker had when
-//! it began. `run_batch` serves a batch of messages by up to sixteen workers, while further plans are published.
+//! plans beside it. A message goes over all its relays (ITU-T Q.714 section 2) under one plan: the one that its worker had when
+//! it began. `run_batch` serves a batch of messages by up to sixteen workers, while further plans are published. `serve_jobs`
+//! does so too where plans come; where none comes, it serves the batch under the last one, in blocks, and the workers rest.
 //!
 //! The crates above may rely on this: each message is routed wholly under one published plan, which its answer names by
 //! number; that is the last plan of before the batch, or one that was published in it; no worker goes back to an earlier plan;
