@@ -3,8 +3,7 @@
 
 It lays out the files of every crate (`rt fmt`) and names those that weren't, and looks whether each old text of each edit in
 must-fail/ and of each wrong body in wrong_bodies/ stands just once in its file, where those before it were applied. It proves
-nothing. Status 1 says that a file was
-laid out anew, or that an edit fits no more.
+nothing. Status 1 says that a file was laid out anew, that an edit fits no more, or that wrong bodies have lost their crate.
 
 Run it from anywhere: tools/before_gate.py. Nothing else may write in crates/ meanwhile.
 """
@@ -14,6 +13,7 @@ import sys
 
 TOP = os.path.dirname(os.path.dirname(os.path.abspath(__file__)))
 CRATES = os.path.join(TOP, "crates")
+BODIES = os.path.join(TOP, "wrong_bodies")
 
 
 def laid_out(crate):
@@ -53,7 +53,9 @@ def misfits_in(crate, place):
 
 
 def main():
-    told = [line for crate in sorted(os.listdir(CRATES)) for line in laid_out(crate) + misfits(crate)]
+    crates = sorted(os.listdir(CRATES))
+    told = [f"wrong_bodies/{name}: there is no such crate" for name in sorted(os.listdir(BODIES)) if name not in crates]
+    told += [line for crate in crates for line in laid_out(crate) + misfits(crate)]
     print("\n".join(told) if told else "all files are laid out, and all edits fit")
     return 1 if told else 0
 
