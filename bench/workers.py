@@ -10,10 +10,10 @@ Reading, settling and printing are one thread's work. Which share of one worker'
 messages, is reckoned by the instructions that callgrind counts below them; what is left is taken from the time of each number
 of workers, so that all that several workers cost counts as serving. Without valgrind the whole command alone is told.
 
-The same is told in instructions, which don't hang on the host: how many of them serving takes the caller's thread, which makes
-the others, serves its shares and collects all answers, and how many it takes all threads. What a thread waits for, a processor
-or memory that another one wrote, isn't in that count. Of batches of one message all instructions are told: no thread is made
-for them.
+The same is told in instructions, which don't hang on the host: how many times as many of them serving takes all threads
+together as it takes one worker. What a thread waits for, a processor or memory that another one wrote, isn't in that count, nor
+how the threads share the work: valgrind runs one at a time. Of batches of one message all instructions are told: no thread is
+made for them.
 
 What a machine gives to several threads isn't told by the number of its processors, of which two may be one core: so it is
 measured how much more is done in a time by two and by four replays with one worker, at once.
@@ -96,28 +96,12 @@ def serving(folder):
     return (all_of_it, below) if below and all_of_it > below else None
 
 
-def by_thread(folder, workers):
-    """How many instructions each thread takes, all its batches together: the caller's first."""
-    counts = os.path.join(folder, f"counts{workers}")
-    flags = ["--separate-threads=yes", f"--callgrind-out-file={counts}"]
-    words = ["valgrind", "--tool=callgrind", *flags, PROGRAM, "replay", "plan", "counted", str(workers)]
-    subprocess.run(words, cwd=folder, capture_output=True)
-    found = []
-    for name in sorted(os.listdir(folder)):
-        if name.startswith(f"counts{workers}-"):
-            with open(os.path.join(folder, name)) as written:
-                found.append(int(re.search(r"^totals: (\d+)", written.read(), re.M).group(1)))
-    return found
-
-
 def tell_instructions(folder, below):
-    """Tells serving by each number of workers in instructions, of the caller's thread and of all threads."""
-    alone = by_thread(folder, 1)[0] - below
+    """Tells serving by each number of workers in instructions, of all threads."""
+    rest = instructions(folder, "counted") - below
     for workers in WORKERS[1:]:
-        caller, *others = by_thread(folder, workers)
-        mine = caller - alone
-        print(f"batches, {workers} workers, in instructions: serving takes one worker {below / mine:.2f} times as many as the "
-              f"caller's thread, and all threads {(mine + sum(others)) / below:.2f} times as many as one worker")
+        some = instructions(folder, "counted", workers=workers) - rest
+        print(f"batches, {workers} workers, in instructions: serving takes {some / below:.3f} times as many as by one")
     empty = instructions(folder, "empty")
     one = instructions(folder, "alone") - empty
     for workers in WORKERS[1:]:
