@@ -6,12 +6,14 @@ the program makes and answers none at the one whose number it is told. First the
 the sound answer. Then it is run once for each call. What may come is the sound answer, or status 71 (want of memory) with a
 front of its text. Anything else is printed, and the status is 1.
 
-Run it from anywhere: tools/fail_alloc.py [-- WORD ..]. Without words it makes four calls: the verdict on a plan of two
-relays, a replay in which later plans come between fences, by one worker and by four, and one with every kind of line. It
-builds nothing: run ./sccp once before. The last line counts the runs.
+Run it from anywhere: tools/fail_alloc.py [-- WORD ..]. Without words it makes five calls: the verdict on a plan of two relays,
+a replay in which later plans come between fences, by one worker and by four, one with every kind of line, and one of 64
+messages by four workers, of which a thread may find no memory for a block that the caller then serves. It builds nothing: run
+./sccp once before. The last line counts the runs.
 """
 import collections
 import os
+import shutil
 import subprocess
 import sys
 import tempfile
@@ -91,6 +93,12 @@ void *realloc(void *old, size_t size) {
 """
 
 
+def sixty_four():
+    """A trace of so many messages for relay a of examples/roaming.toml, each for another title."""
+    lines = (f"msg a 1-0-1 0980030E120B12060012049471010000{i % 10}{i // 10}044301080802AABB" for i in range(64))
+    return "\n".join(lines) + "\n"
+
+
 def call(shim, words, folder, failing, counted=None):
     """The status and the text of one run in a folder, in which the call of this number fails; 0 is none."""
     names = {"LD_PRELOAD": shim, "FAIL_AT": str(failing), "PATH": "/usr/bin:/bin"}
@@ -101,7 +109,12 @@ def call(shim, words, folder, failing, counted=None):
 
 
 def main():
-    given = sys.argv[1:]
+    with tempfile.TemporaryDirectory() as room:
+        look(room, sys.argv[1:])
+
+
+def look(room, given):
+    """Makes the calls, with what they want in this folder, and tells what comes."""
     if given[:1] == ["--"] and given[1:]:
         calls = [(os.getcwd(), given[1:])]
     elif not given:
@@ -110,31 +123,34 @@ def main():
             (CASES, ["replay", "plans/p.toml", "traces/later_plan_between_fences.txt", "1"]),
             (CASES, ["replay", "plans/p.toml", "traces/later_plan_between_fences.txt", "4"]),
             (TOP, ["replay", "examples/roaming.toml", "examples/every_line.txt", "1"]),
+            (room, ["replay", "plan", "trace", "4"]),
         ]
+        shutil.copy(os.path.join(TOP, "examples/roaming.toml"), os.path.join(room, "plan"))
+        with open(os.path.join(room, "trace"), "w", encoding="utf-8") as file:
+            file.write(sixty_four())
     else:
         sys.exit(__doc__)
     if not os.access(PROGRAM, os.X_OK):
         sys.exit("the program isn't built: run ./sccp once")
     runs, strange = collections.Counter(), 0
-    with tempfile.TemporaryDirectory() as room:
-        source, shim, counted = (os.path.join(room, name) for name in ("fail.c", "fail.so", "count"))
-        with open(source, "w", encoding="utf-8") as file:
-            file.write(SHIM)
-        subprocess.run(["cc", "-O1", "-shared", "-fPIC", "-o", shim, source, "-ldl"], check=True)
-        for folder, words in calls:
-            status, text = call(shim, words, folder, 0, counted)
-            with open(counted, "rb") as file:
-                number = int.from_bytes(file.read(), sys.byteorder)
-            for failing in range(1, number + 1):
-                now, said = call(shim, words, folder, failing)
-                if (now, said) == (status, text):
-                    runs["sound"] += 1
-                elif now == NO_MEMORY and text.startswith(said):
-                    runs["no memory"] += 1
-                else:
-                    strange += 1
-                    print(f"{' '.join(words)}: allocation {failing} of {number}: status {now}, text {said[-200:]!r}")
-            print(f"{' '.join(words)}: status {status}, {number} allocations")
+    source, shim, counted = (os.path.join(room, name) for name in ("fail.c", "fail.so", "count"))
+    with open(source, "w", encoding="utf-8") as file:
+        file.write(SHIM)
+    subprocess.run(["cc", "-O1", "-shared", "-fPIC", "-o", shim, source, "-ldl"], check=True)
+    for folder, words in calls:
+        status, text = call(shim, words, folder, 0, counted)
+        with open(counted, "rb") as file:
+            number = int.from_bytes(file.read(), sys.byteorder)
+        for failing in range(1, number + 1):
+            now, said = call(shim, words, folder, failing)
+            if (now, said) == (status, text):
+                runs["sound"] += 1
+            elif now == NO_MEMORY and text.startswith(said):
+                runs["no memory"] += 1
+            else:
+                strange += 1
+                print(f"{' '.join(words)}: allocation {failing} of {number}: status {now}, text {said[-200:]!r}")
+        print(f"{' '.join(words)}: status {status}, {number} allocations")
     print(f"{sum(runs.values()) + strange} runs: {runs['no memory']} answered want of memory, {runs['sound']} the sound answer, {strange} anything else")
     sys.exit(1 if strange else 0)
 
