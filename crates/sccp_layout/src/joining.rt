@@ -1,4 +1,4 @@
-ghost use Rattle.std.specs.Prelude.{◌≡◌, ◌≢◌, ◌<◌, ◌≤◌, ◌+◌, ◌&&◌, ◌==◌, ◌++◌, [], length, IsTrue, Some, None, IfOk, OnOk};
+ghost use Rattle.std.specs.Prelude.{◌≡◌, ◌≢◌, ◌<◌, ◌≤◌, ◌+◌, ◌&&◌, ◌==◌, ◌++◌, [], ◌∷◌, length, IsTrue, Some, None, IfOk, OnOk};
 ghost use Rattle.std.specs.List.{flat_map, AllByRecursion};
 ghost use Rattle.sccp_layout.specs.Table.{layout_of};
 ghost use Rattle.sccp_layout.specs.Places.{after_pointers};
@@ -192,6 +192,16 @@ fn room_for(layout: &Layout, variable: &[Part<'_>], params: &[Param]) -> usize
     })
 }
 
+// The type and the fixed part, in a buffer with room for so many octets.
+fn started(alloc: Global, room: usize, code: u8, fixed: &[u8]) -> Result<Vec<u8>, AllocError>
+    ensures { IfOk result (λ octets. octets.items ≡ code ∷ fixed.now) }
+{
+    let mut octets = Vec::with_capacity(alloc, room)?;
+    octets.push(code)?;
+    octets.extend_from_slice(fixed)?;
+    Ok(octets)
+}
+
 // The message of a layout that the parts fit, where no part is too long.
 fn short_joined(
     alloc: Global,
@@ -207,9 +217,7 @@ fn short_joined(
     ensures exact { Gives (λ octets. octets) result (joining layout.now (parts_made code fixed.now variable.now params.now)) }
     ensures named { OnOk result (AllByRecursion (λ p. p.name ≢ 0) params.now) }
 {
-    let mut start = Vec::with_capacity(alloc, room_for(layout, variable, params))?;
-    start.push(code)?;
-    start.extend_from_slice(fixed)?;
+    let start = started(alloc, room_for(layout, variable, params), code, fixed)?;
     let mut octets = with_pointers(start, layout, variable, params)?;
     push_parts(&mut octets, layout, variable)?;
     push_list(&mut octets, params)?;

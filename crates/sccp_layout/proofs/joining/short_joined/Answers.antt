@@ -1,4 +1,4 @@
-use Rattle.std.proofs.Common.{◌≡◌, ℕ, List, ◌∷◌, ◌++◌, rules, ap, ◌∙◌}
+use Rattle.std.proofs.Common.{ℕ, List, ◌++◌, ap, ◌∙◌}
 use Rattle.std.proofs.lemmas.Result.{err_from_is_err_and}
 use Rattle.sccp_layout.specs.Parts.{parts_made}
 use Rattle.sccp_layout.specs.Joining.{is_memory, spelled_list}
@@ -17,14 +17,12 @@ push_list-requires c = (none_long c.args.layout.now 0 c.args.variable.now c.args
 pub returns-in_err-octets-clause-exact : goal.returns-in_err-octets-clause-exact
 returns-in_err-octets-clause-exact c =
     let made = parts_made c.args.code c.args.fixed.now c.args.variable.now c.args.params.now in
-    let start : c.extend_from_slice.new.self.items ≡ c.args.code ∷ c.args.fixed.now = search rules in
     let p = err_from_is_err_and c.from_residual-in_err-octets.result c.from_residual-in_err-octets.ensures.1 in
-    let far = rw start at c.in_err-octets.ensures in
+    let far = rw c.in_ok-start.ensures at c.in_err-octets.ensures in
     rw (p.1, p.2) (join_far (is_memory c.in_err-octets.field-0.0) c.args.layout.now made c.in_err-octets.field-0.0 c.requires.short far)
 
 pub returns-clause-exact : goal.returns-clause-exact
 returns-clause-exact c =
     let made = parts_made c.args.code c.args.fixed.now c.args.variable.now c.args.params.now in
-    let start : c.extend_from_slice.new.self.items ≡ c.args.code ∷ c.args.fixed.now = search rules in
-    let near = rw start at c.in_ok-octets.ensures in
+    let near = rw c.in_ok-start.ensures at c.in_ok-octets.ensures in
     join_ok c.args.layout.now made c.in_ok-octets.octets.items c.from_vec.result c.requires.short c.requires.fits near (c.from_vec.ensures ∙ c.in_ok-push_list.ensures.spelled ∙ ap (λ (x : List ℕ). x ++ spelled_list c.args.params.now) c.in_ok-push_parts.ensures)

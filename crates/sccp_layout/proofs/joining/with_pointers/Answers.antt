@@ -1,8 +1,9 @@
-use Rattle.std.proofs.Common.{List, ◌≡◌, ◌+◌, ◌-◌, ◌++◌, ◌∷◌, ◌&&◌, ℕ, eqb, cond, [], length, get_or, drop, refl, sym, ap, ◌∙◌, arith}
+use Rattle.std.proofs.Common.{List, ◌≡◌, ◌+◌, ◌-◌, ◌++◌, ◌∷◌, ◌&&◌, ℕ, eqb, cond, [], length, get_or, drop, refl, sym, ap, ◌∙◌, subst, arith}
+use Rattle.std.proofs.lemmas.List.{drop_all}
 use Rattle.std.proofs.lemmas.Result.{err_from_is_err_and}
 use Rattle.sccp_base.proofs.Halves.{bool_byte_is}
 use Rattle.sccp_layout.specs.Places.{width, pointer_place, after_pointers}
-use Rattle.sccp_layout.specs.Joining.{spelled_parts, optional_pieces, pointers_to, with_numbers, is_memory}
+use Rattle.sccp_layout.specs.Joining.{spelled_parts, optional_pieces, pointers_to, with_numbers, is_memory, Gives}
 use Rattle.sccp_layout.proofs.Pieces.{at_place, short_here, most_small, width_small, pointers_to-part, numbers_go_on, numbers_end}
 use Rattle.sccp_layout.proofs.joining.with_pointers.Goals as goal
 
@@ -45,3 +46,12 @@ loop-i-preserved c =
       near = omega (arith, short.here, next_is, most_small (l.long && eqb i 2), width_small (l.long && eqb i 2));
       pointed = numbers_go_on l i pointer c.loop-i.octets.items c.in_ok-octets.octets.items (pointers_to l (i + 1) next (spelled_parts l (i + 1) (drop (i + 1) xs) ++ opt)) all total split c.in_ok-octets.ensures c.loop-i.invariant.pointed;
     }
+
+pub returns : goal.returns
+returns c =
+    let l = c.args.layout.now in
+    let end : c.loop-i.i ≡ l.variable = omega arith in
+    let none : drop l.variable c.args.variable.now ≡ [] = drop_all l.variable c.args.variable.now (omega (arith, c.requires.count)) in
+    let pointed = rw end at c.loop-i.invariant.pointed in
+    let all = rw none at pointed in
+    subst (Gives (λ v. v.items) c.with_optional_pointer.result) all c.with_optional_pointer.ensures
