@@ -25,6 +25,9 @@ use std::sync::Wait;
 use std::thread;
 use std::thread::Threads;
 
+/// So many jobs are worth a thread.
+pub(crate) const WORTHWHILE: usize = 16;
+
 // Each worker serves its share.
 fn serve_all<R: Threads + Sync, G: Gate + Sync>(
     rt: &R,
@@ -91,8 +94,7 @@ fn serve_beside<R: Threads + Wait + Sync, G: Gate + Sync>(
     published
 }
 
-// Few jobs are served sooner than a thread is made: there is one for sixteen of them, a second one from four jobs on, and no
-// more than shares or processors.
+// As many threads as the jobs are worth, but a second one from four jobs on, and no more than shares or processors.
 fn threads_for<R: Threads>(rt: &R, teller: &mut Teller, shares: usize, jobs: usize) -> usize
     ensures some { 0 < result }
     ensures told { told_by teller.new ≡ told_by teller.old }
@@ -101,7 +103,7 @@ fn threads_for<R: Threads>(rt: &R, teller: &mut Teller, shares: usize, jobs: usi
     if jobs < 4 {
         return 1;
     }
-    let worth = (jobs / 16).min(shares);
+    let worth = (jobs / WORTHWHILE).min(shares);
     if worth < 3 {
         2
     } else {

@@ -1,15 +1,14 @@
 //! Jobs that all go under one plan, in blocks. Each thread takes the next block when it has served one, so a processor that
 //! is slower than the others, or begins later, serves fewer.
-ghost use Rattle.std.specs.Prelude.{◌≡◌, ◌<◌, List, All, length, map, nat_eq, position, take, IfOk, IfSome};
+ghost use Rattle.std.specs.Prelude.{◌≡◌, List, All, length, map, nat_eq, position, take, IfOk, IfSome};
 ghost use Rattle.relay_net.specs.declared.job.Job.{Job};
 ghost use Rattle.relay_net.specs.declared.served.Served.{Served};
-ghost use Rattle.live_plan.specs.Blocks.{HasAnswers, answer_under};
-ghost use Rattle.live_plan.specs.Plans.{nodes_of};
+ghost use Rattle.live_plan.specs.Blocks.{EnterIn, HasAnswers, answer_in};
 
 use crate::gate::Gate;
+use crate::setting::Setting;
 use crate::worker::route;
-use plan_check::Accepted;
-use relay_net::{Job, NodeState, Served};
+use relay_net::{Job, Served};
 use sccp_base::{List, OutOfMemory};
 use std::alloc::{AllocError, Global};
 use std::sync::atomic::{AtomicUsize, Ordering};
@@ -26,25 +25,20 @@ pub(crate) struct Block {
     answers: List<Served>,
 }
 
-// The answers of these jobs. The gate is passed for each as by the worker of its share.
+// The answers of these jobs.
 fn serve_each<G: Gate>(
     alloc: Global,
-    number: u32,
-    plan: &Accepted,
-    states: &[NodeState],
+    setting: &Setting<'_>,
     jobs: &[Job],
-    workers: u32,
     gate: &G,
 ) -> Result<List<Served>, OutOfMemory>
-    requires workers { 0 < workers }
-    requires states { length states.now ≡ nodes_of plan.now }
-    requires entries { All (λ job. job.entry < nodes_of plan.now) jobs.now }
-    ensures { IfOk result (λ answers. answers ≡ map (answer_under number plan.now states.now) jobs.now) }
+    requires { EnterIn setting.now jobs.now }
+    ensures { IfOk result (λ answers. answers ≡ map (answer_in setting.now) jobs.now) }
 {
     let mut answers = List::from_vec(Vec::with_capacity(alloc, jobs.len())?);
     for job in jobs {
-        gate.pass(job.index % workers, job.index);
-        let served = route(alloc, number, plan, states, job)?;
+        gate.pass(job.index % setting.workers, job.index);
+        let served = route(alloc, setting.number, setting.plan, setting.states, job)?;
         answers.push(served)?;
     }
     Ok(answers)
@@ -53,18 +47,13 @@ fn serve_each<G: Gate>(
 // Serves the next block, unless all are taken or memory is wanting.
 fn next_block<G: Gate>(
     alloc: Global,
-    number: u32,
-    plan: &Accepted,
-    states: &[NodeState],
+    setting: &Setting<'_>,
     jobs: &[Job],
-    workers: u32,
     gate: &G,
     next: &AtomicUsize,
 ) -> Option<Block>
-    requires workers { 0 < workers }
-    requires states { length states.now ≡ nodes_of plan.now }
-    requires entries { All (λ job. job.entry < nodes_of plan.now) jobs.now }
-    ensures { IfSome result (HasAnswers (answer_under number plan.now states.now) jobs.now) }
+    requires { EnterIn setting.now jobs.now }
+    ensures { IfSome result (HasAnswers (answer_in setting.now) jobs.now) }
 {
     let from = next.fetch_add(BLOCK, Ordering::SeqCst);
     if jobs.len() <= from {
@@ -72,7 +61,7 @@ fn next_block<G: Gate>(
     }
     let (_, left) = jobs.split_at(from);
     let (block, _) = left.split_at(BLOCK.min(left.len()));
-    match serve_each(alloc, number, plan, states, block, workers, gate) {
+    match serve_each(alloc, setting, block, gate) {
         Ok(answers) => Some(Block { from, answers }),
         Err(_) => None,
     }
@@ -81,22 +70,17 @@ fn next_block<G: Gate>(
 // Serves block after block.
 fn serve_lane<G: Gate>(
     alloc: Global,
-    number: u32,
-    plan: &Accepted,
-    states: &[NodeState],
+    setting: &Setting<'_>,
     jobs: &[Job],
-    workers: u32,
     gate: &G,
     next: &AtomicUsize,
 ) -> List<Block>
-    requires workers { 0 < workers }
-    requires states { length states.now ≡ nodes_of plan.now }
-    requires entries { All (λ job. job.entry < nodes_of plan.now) jobs.now }
-    ensures { All (HasAnswers (answer_under number plan.now states.now) jobs.now) result }
+    requires { EnterIn setting.now jobs.now }
+    ensures { All (HasAnswers (answer_in setting.now) jobs.now) result }
 {
     let mut blocks = List::new(alloc);
     for _ in 0..jobs.len() {
-        let Some(block) = next_block(alloc, number, plan, states, jobs, workers, gate, next) else {
+        let Some(block) = next_block(alloc, setting, jobs, gate, next) else {
             break;
         };
         if blocks.push(block).is_err() {
@@ -111,17 +95,12 @@ fn serve_lanes<R: Threads + Sync, G: Gate + Sync>(
     rt: &R,
     alloc: Global,
     threads: usize,
-    number: u32,
-    plan: &Accepted,
-    states: &[NodeState],
+    setting: &Setting<'_>,
     jobs: &[Job],
-    workers: u32,
     gate: &G,
 ) -> Result<Vec<List<Block>>, AllocError>
-    requires workers { 0 < workers }
-    requires states { length states.now ≡ nodes_of plan.now }
-    requires entries { All (λ job. job.entry < nodes_of plan.now) jobs.now }
-    ensures { IfOk result (λ lanes. All (λ lane. All (HasAnswers (answer_under number plan.now states.now) jobs.now) lane) lanes.items) }
+    requires { EnterIn setting.now jobs.now }
+    ensures { IfOk result (λ lanes. All (λ lane. All (HasAnswers (answer_in setting.now) jobs.now) lane) lanes.items) }
 {
     let next = AtomicUsize::new(0);
     let shared = &next;
@@ -130,9 +109,9 @@ fn serve_lanes<R: Threads + Sync, G: Gate + Sync>(
         alloc,
         threads,
         &|_lane: usize| -> List<Block>
-            requires { (0 < workers) × (length states.now ≡ nodes_of plan.now) × All (λ job. job.entry < nodes_of plan.now) jobs.now }
-            ensures { All (HasAnswers (answer_under number plan.entry.now states.entry.now) jobs.entry.now) result }
-        { serve_lane(alloc, number, plan, states, jobs, workers, gate, shared) },
+            requires { EnterIn setting.now jobs.now }
+            ensures { All (HasAnswers (answer_in setting.entry.now) jobs.entry.now) result }
+        { serve_lane(alloc, setting, jobs, gate, shared) },
     )
 }
 
@@ -154,12 +133,12 @@ fn place_of(blocks: &[Block], from: usize) -> Option<usize>
     blocks.iter().position(|block| block.from == from)
 }
 
-// The answers of the blocks, as far as these follow one another.
-fn in_order(alloc: Global, jobs: usize, blocks: Vec<Block>) -> Result<Vec<Served>, AllocError>
+// The answers of the blocks, as far as these follow one another. There is room for so many from the start.
+fn in_order(alloc: Global, room: usize, blocks: Vec<Block>) -> Result<Vec<Served>, AllocError>
     ensures { (answer : Job → Served) (jobs : List Job) → All (HasAnswers answer jobs) blocks.items → IfOk result (λ answers. answers.items ≡ map answer (take (length answers.items) jobs)) }
 {
     let mut left = blocks;
-    let mut answers = Vec::with_capacity(alloc, jobs)?;
+    let mut answers = Vec::with_capacity(alloc, room)?;
     while let Some(place) = place_of(left.as_slice(), answers.len()) {
         let block = left.remove(place);
         answers.append(&mut block.answers.into_vec())?;
@@ -167,33 +146,26 @@ fn in_order(alloc: Global, jobs: usize, blocks: Vec<Block>) -> Result<Vec<Served
     Ok(answers)
 }
 
-/// Answers each job under this plan, which has this number, in the order of the jobs, by so many threads. Where a thread had no
+/// Answers each job under the plan of this setting, in the order of the jobs, by so many threads. Where a thread had no
 /// memory for a block, the jobs from there on are served again by this one.
 pub(crate) fn serve_blocks<R: Threads + Sync, G: Gate + Sync>(
     rt: &R,
     alloc: Global,
     threads: usize,
-    number: u32,
-    plan: &Accepted,
-    states: &[NodeState],
+    setting: &Setting<'_>,
     jobs: &[Job],
-    workers: u32,
     gate: &G,
 ) -> Result<List<Served>, OutOfMemory>
-    requires workers { 0 < workers }
-    requires states { length states.now ≡ nodes_of plan.now }
-    requires entries { All (λ job. job.entry < nodes_of plan.now) jobs.now }
-    ensures { IfOk result (λ answers. answers ≡ map (answer_under number plan.now states.now) jobs.now) }
+    requires { EnterIn setting.now jobs.now }
+    ensures { IfOk result (λ answers. answers ≡ map (answer_in setting.now) jobs.now) }
 {
     if threads < 2 {
-        return serve_each(alloc, number, plan, states, jobs, workers, gate);
+        return serve_each(alloc, setting, jobs, gate);
     }
-    let lanes = serve_lanes(
-        rt, alloc, threads, number, plan, states, jobs, workers, gate,
-    )?;
+    let lanes = serve_lanes(rt, alloc, threads, setting, jobs, gate)?;
     let mut answers = in_order(alloc, jobs.len(), all_blocks(alloc, lanes)?)?;
     let (_, left) = jobs.split_at(answers.len());
-    let rest = serve_each(alloc, number, plan, states, left, workers, gate)?;
+    let rest = serve_each(alloc, setting, left, gate)?;
     answers.append(&mut rest.into_vec())?;
     Ok(List::from_vec(answers))
 }

@@ -5,7 +5,7 @@ use Rattle.std.proofs.lemmas.List.Quantifiers.{position-Some}
 use Rattle.relay_net.specs.declared.served.Served.{Served}
 use Rattle.live_plan.specs.declared.blocks.Block.{Block}
 use Rattle.live_plan.specs.Blocks.{HasAnswers}
-use Rattle.live_plan.proofs.Blocked.{All-remove, two_parts}
+use Rattle.live_plan.proofs.Joined.{All-remove, two_parts}
 use Rattle.live_plan.proofs.blocks.in_order.Goals as goal
 
 pub loop-place-preserved : goal.loop-place-preserved

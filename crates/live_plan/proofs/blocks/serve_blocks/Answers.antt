@@ -1,13 +1,13 @@
 use Rattle.std.proofs.Common.{◌≡◌, ◌≤◌, ◌++◌, List, drop, length, map, take, ap, ◌∙◌, subst, sym}
 use Rattle.relay_net.specs.declared.job.Job.{Job}
 use Rattle.relay_net.specs.declared.served.Served.{Served}
-use Rattle.live_plan.specs.Blocks.{answer_under}
-use Rattle.live_plan.proofs.Blocked.{all_of_them, no_more_than}
+use Rattle.live_plan.specs.Blocks.{answer_in}
+use Rattle.live_plan.proofs.Joined.{all_of_them, no_more_than}
 use Rattle.live_plan.proofs.blocks.serve_blocks.Goals as goal
 
 pub split_at-requires : goal.split_at-requires
 split_at-requires g c =
-    let answer : Job → Served = answer_under c.args.number c.args.plan.now c.args.states.now in
+    let answer : Job → Served = answer_in c.args.setting.now in
     let answers : List Served = c.in_ok-answers.answers.items in
     let first : answers ≡ map answer (take (length answers) c.args.jobs.now) = c.in_ok-answers.ensures answer c.args.jobs.now (c.in_ok-all_blocks.ensures answer c.args.jobs.now c.in_ok-lanes.ensures) in
     let count : c.len.result ≡ length answers = c.len.ensures ∙ c.in_ok-answers.answers.ok.0 in
@@ -15,7 +15,7 @@ split_at-requires g c =
 
 pub returns : goal.returns
 returns g c =
-    let answer : Job → Served = answer_under c.args.number c.args.plan.now c.args.states.now in
+    let answer : Job → Served = answer_in c.args.setting.now in
     let jobs = c.args.jobs.now in
     let answers : List Served = c.in_ok-answers.answers.items in
     let first : answers ≡ map answer (take (length answers) jobs) = c.in_ok-answers.ensures answer jobs (c.in_ok-all_blocks.ensures answer jobs c.in_ok-lanes.ensures) in

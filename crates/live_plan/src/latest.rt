@@ -5,10 +5,11 @@ ghost use Rattle.live_plan.specs.Batches.{AllPairs, AreServed, Lasts};
 ghost use Rattle.live_plan.specs.Plans.{HaveNodes};
 ghost use Rattle.live_plan.specs.Tellers.{told_by, plans_of};
 
-use crate::batch::run_batch;
+use crate::batch::{WORTHWHILE, run_batch};
 use crate::blocks::serve_blocks;
 use crate::gate::Gate;
 use crate::live_place::LivePlace;
+use crate::setting::Setting;
 use crate::teller::Teller;
 use crate::worker::Worker;
 use plan_check::Accepted;
@@ -17,9 +18,6 @@ use sccp_base::{List, OutOfMemory};
 use std::alloc::Global;
 use std::sync::Wait;
 use std::thread::Threads;
-
-// So many jobs are worth a thread.
-const WORTHWHILE: usize = 16;
 
 // As many threads as the jobs are worth, and no more than shares or processors.
 fn threads_for<R: Threads>(rt: &R, teller: &mut Teller, shares: usize, jobs: usize) -> usize
@@ -49,18 +47,13 @@ fn serve_latest<R: Threads + Sync, G: Gate + Sync>(
     requires entries { All (λ job. job.entry < teller.now.nodes) jobs.now }
     ensures { IfOk result (AreServed (plans_of teller.now) states.now jobs.now workers (length (plans_of teller.now))) }
 {
-    let (number, plan) = (teller.number(), teller.latest());
-    serve_blocks(
-        rt,
-        alloc,
-        threads,
-        number,
-        plan,
+    let setting = Setting {
+        number: teller.number(),
+        plan: teller.latest(),
         states,
-        jobs,
-        workers as u32,
-        gate,
-    )
+        workers: workers as u32,
+    };
+    serve_blocks(rt, alloc, threads, &setting, jobs, gate)
 }
 
 /// Serves a batch of jobs as `run_batch` does, or sooner: where no plan comes, all of them go under the last plan, each
