@@ -53,10 +53,9 @@ fn allowed_of(alloc: Global, i: usize, values: &[Value]) -> Result<List<(PointCo
 {
     let mut read = List::new(alloc);
     for value in values {
-        let next = place_of(text_of(value).as_bytes()).ok_or(PlanFault::BadValue(Place::Cover(
-            i,
-            Key::Allowed,
-        )))?;
+        let Some(next) = place_of(text_of(value).as_bytes()) else {
+            return Err(PlanFault::BadValue(Place::Cover(i, Key::Allowed)));
+        };
         put(&mut read, next)?;
     }
     Ok(read)
@@ -69,21 +68,24 @@ fn cover_of(alloc: Global, nodes: &[Value], i: usize, cover: &Value) -> Result<C
     ensures value { Answers is_memory (λ cover. cover) result (cover_of (map view nodes.now) i (view cover.now)) }
     ensures few { IfOk result HasFewDigits }
 {
-    let node = Name::parse(text_at(cover, "node").as_bytes()).ok_or(PlanFault::BadValue(
-        Place::Cover(i, Key::Node),
-    ))?;
-    let selector = Selector::parse(text_at(cover, "selector").as_bytes()).ok_or(PlanFault::BadValue(
-        Place::Cover(i, Key::Selector),
-    ))?;
-    let ssn = number_at(255, "ssn", cover).ok_or(PlanFault::BadValue(Place::Cover(i, Key::Ssn)))?;
-    let prefix = digits_up_to(32, text_at(cover, "prefix").as_bytes()).ok_or(PlanFault::BadValue(
-        Place::Cover(i, Key::Prefix),
-    ))?;
-    let least = number_at(32, "least", cover).ok_or(PlanFault::BadValue(Place::Cover(
-        i,
-        Key::Least,
-    )))?;
-    let most = number_at(32, "most", cover).ok_or(PlanFault::BadValue(Place::Cover(i, Key::Most)))?;
+    let Some(node) = Name::parse(text_at(cover, "node").as_bytes()) else {
+        return Err(PlanFault::BadValue(Place::Cover(i, Key::Node)));
+    };
+    let Some(selector) = Selector::parse(text_at(cover, "selector").as_bytes()) else {
+        return Err(PlanFault::BadValue(Place::Cover(i, Key::Selector)));
+    };
+    let Some(ssn) = number_at(255, "ssn", cover) else {
+        return Err(PlanFault::BadValue(Place::Cover(i, Key::Ssn)));
+    };
+    let Some(prefix) = digits_up_to(32, text_at(cover, "prefix").as_bytes()) else {
+        return Err(PlanFault::BadValue(Place::Cover(i, Key::Prefix)));
+    };
+    let Some(least) = number_at(32, "least", cover) else {
+        return Err(PlanFault::BadValue(Place::Cover(i, Key::Least)));
+    };
+    let Some(most) = number_at(32, "most", cover) else {
+        return Err(PlanFault::BadValue(Place::Cover(i, Key::Most)));
+    };
     let allowed = allowed_of(alloc, i, elements_at(cover, "allowed"))?;
     Ok(Cover {
         node: node_place(nodes, node.as_slice()),

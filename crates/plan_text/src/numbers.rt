@@ -36,7 +36,9 @@ fn read_subsystems(alloc: Global, place: Place, values: &[Value]) -> Result<List
 {
     let mut read = List::new(alloc);
     for value in values {
-        let next = subsystem_of(value).ok_or(PlanFault::BadValue(place))?;
+        let Some(next) = subsystem_of(value) else {
+            return Err(PlanFault::BadValue(place));
+        };
         put(&mut read, next)?;
     }
     Ok(read)
@@ -48,7 +50,9 @@ fn read_points(alloc: Global, place: Place, values: &[Value]) -> Result<List<Poi
 {
     let mut read = List::new(alloc);
     for value in values {
-        let next = PointCode::parse(text_of(value).as_bytes()).ok_or(PlanFault::BadValue(place))?;
+        let Some(next) = PointCode::parse(text_of(value).as_bytes()) else {
+            return Err(PlanFault::BadValue(place));
+        };
         put(&mut read, next)?;
     }
     Ok(read)

@@ -1,10 +1,10 @@
-use Rattle.std.proofs.Common.{◌≡◌, ◌+◌, ◌∙◌, ◌∷◌, ◌++◌, [], sym, ap, length, arith, length-append}
+use Rattle.std.proofs.Common.{◌≡◌, ◌≤◌, ◌+◌, ◌∙◌, ◌∷◌, ◌++◌, [], sym, ap, length, arith, length-append}
 use Rattle.std.proofs.lemmas.List.Elements.{All-push, All-same}
 use Rattle.std.proofs.lemmas.Iterator.Adapters.{YieldsList-from_vec}
-use Rattle.std.proofs.lemmas.Iterator.Consumers.{YieldsList-turn}
+use Rattle.std.proofs.lemmas.Iterator.Consumers.{YieldsList-turn, YieldsList-end}
 use Rattle.plan_model.specs.Network.{IsNode}
 use Rattle.plan_text.specs.Tabled.{node_of, nodes_of}
-use Rattle.plan_text.proofs.EachOk.{goes_on}
+use Rattle.plan_text.proofs.EachOk.{goes_on, is_done}
 use Rattle.plan_text.proofs.drafts.nodes_of.Goals as goal
 
 pub loop-draft-preserved : goal.loop-draft-preserved
@@ -20,3 +20,11 @@ loop-draft-preserved c =
       place = omega (arith, more, c.loop-draft.invariant.place);
       sound = All-same IsNode _ _ c.in_ok-put.ensures.ok (All-push IsNode c.loop-draft.nodes c.in_ok-node.node c.loop-draft.invariant.sound c.in_ok-node.ensures.sound);
     }
+
+pub returns-clause-value : goal.returns-clause-value
+returns-clause-value c =
+    let v = c.into_vec-draft-items in
+    let it = c.into_iter-draft-iterator in
+    let e = YieldsList-end (YieldsList-from_vec {s = it.result} c.args.drafts (it.ensures.into_iter_gives.0 ∙ v.ensures) (it.ensures.into_iter_gives.1 ∙ v.result.ok.0 ∙ ap length v.ensures)) c.loop-draft.yielded c.loop-draft.draft-iterator c.loop-draft.yielded_by _ c.next.new.self c.in-None.is c.next.ensures.steps in
+    let le : length c.args.drafts ≤ length c.loop-draft.yielded = omega (arith, e.1) in
+    is_done (λ d. d) node_of c.loop-draft.nodes c.args.drafts (length c.loop-draft.yielded) (nodes_of c.args.drafts) le c.loop-draft.invariant.value
