@@ -86,16 +86,18 @@ fn cover_of(alloc: Global, nodes: &[Value], i: usize, cover: &Value) -> Result<C
     let Some(most) = number_at(32, "most", cover) else {
         return Err(PlanFault::BadValue(Place::Cover(i, Key::Most)));
     };
-    let allowed = allowed_of(alloc, i, elements_at(cover, "allowed"))?;
-    Ok(Cover {
-        node: node_place(nodes, node.as_slice()),
-        selector,
-        ssn,
-        prefix,
-        least,
-        most,
-        allowed,
-    })
+    match allowed_of(alloc, i, elements_at(cover, "allowed")) {
+        Ok(allowed) => Ok(Cover {
+            node: node_place(nodes, node.as_slice()),
+            selector,
+            ssn,
+            prefix,
+            least,
+            most,
+            allowed,
+        }),
+        Err(fault) => Err(fault),
+    }
 }
 
 /// All covers in their order, or the first value of them that doesn't read.
