@@ -27,15 +27,23 @@ abbrev pub or_later : {A : Type 0} → Option A → Option A → Option A
 or_later (Some x) later = Some x
 or_later None later = later
 
--- a request that an end was handed: the points of the relay and of the end, and its source reference
+-- the first value that is found in what ends were handed, in order
+abbrev pub first_in : {A : Type 0} → (Handed → Option A) → List Handed → Option A
+first_in found [] = None
+first_in found (h ∷ handed) = or_later (found h) (first_in found handed)
+
+-- a request that goes between these points: the points of the relay and of the end, and its source reference
 abbrev pub request_of : ℕ → ℕ → Note → Option Requested
 request_of from to (Request slr) = Some (record { from = from; to = to; slr = slr })
 request_of from to note = None
 
+-- the same, where an end was handed it
+abbrev pub request_in : Handed → Option Requested
+request_in h = request_of h.from h.to h.note
+
 -- the first request that any end was handed
 abbrev pub first_request : List Handed → Option Requested
-first_request [] = None
-first_request (h ∷ handed) = or_later (request_of h.from h.to h.note) (first_request handed)
+first_request = first_in request_in
 
 -- the source reference of a confirmation
 abbrev pub confirm_of : Note → Option ℕ
@@ -48,8 +56,7 @@ confirm_at point h = if h.to == point then confirm_of h.note else None
 
 -- the source reference of the first confirmation that the end at this point was handed
 abbrev pub first_confirm : ℕ → List Handed → Option ℕ
-first_confirm point [] = None
-first_confirm point (h ∷ handed) = or_later (confirm_at point h) (first_confirm point handed)
+first_confirm point = first_in (confirm_at point)
 
 -- the cause of a refusal
 abbrev pub refusal_of : Note → Option ℕ
@@ -62,8 +69,7 @@ refusal_at point h = if h.to == point then refusal_of h.note else None
 
 -- the cause of the first refusal that the end at this point was handed
 abbrev pub first_refusal : ℕ → List Handed → Option ℕ
-first_refusal point [] = None
-first_refusal point (h ∷ handed) = or_later (refusal_at point h) (first_refusal point handed)
+first_refusal point = first_in (refusal_at point)
 
 -- the data of a message with this destination reference
 abbrev pub data_of : ℕ → Note → List ℕ

@@ -1,6 +1,6 @@
 //! What is found among what ends were handed.
 ghost use Rattle.std.specs.Prelude.{◌≡◌, ◌++◌, IfOk, OnOk};
-ghost use Rattle.chain_call.specs.Notes.{request_of, first_request, confirm_of, confirm_at, first_confirm, refusal_of, refusal_at, first_refusal, data_of, data_in, data_at};
+ghost use Rattle.chain_call.specs.Notes.{request_in, first_request, confirm_of, confirm_at, first_confirm, refusal_of, refusal_at, first_refusal, data_of, data_in, data_at};
 
 use crate::handed::Handed;
 use crate::note::Note;
@@ -18,8 +18,8 @@ pub struct Requested {
     pub slr: Reference,
 }
 
-fn request_of(h: &Handed) -> Option<Requested>
-    ensures { result ≡ request_of h.now.from h.now.to h.now.note }
+fn request_in(h: &Handed) -> Option<Requested>
+    ensures { result ≡ request_in h.now }
 {
     match &h.note {
         Note::Request(slr) => Some(Requested {
@@ -36,7 +36,7 @@ pub(crate) fn first_request(handed: &[Handed]) -> Option<Requested>
     ensures { result ≡ first_request handed.now }
 {
     for h in handed {
-        if let Some(request) = request_of(h) {
+        if let Some(request) = request_in(h) {
             return Some(request);
         }
     }
