@@ -3,28 +3,13 @@ ghost use Rattle.sccp_message.specs.Reads.{Reads};
 
 use plan_model::Plan;
 use plan_text::read;
+use sample_plans::ONE_TARGET;
 use sccp_base::{List, Marking, OutOfMemory, PointCode};
 use sccp_couple::{Exchange, is_connection, vouch_short};
 use sccp_manage::Sent;
 use sccp_message::{Message, decode};
 use std::alloc::Global;
 use std::test::Fail;
-
-/// A relay that sends requests for titles of 49 to 2-0-1.
-const COUPLING: &str = r#"version = 2
-[[node]]
-name = "a"
-point = "1-0-2"
-row = [{ selector = "4:0:1:4", prefix = "49", targets = [{ final = "2-0-1", ssn = 6 }] }]
-[[cover]]
-node = "a"
-selector = "4:0:1:4"
-ssn = 6
-prefix = "49"
-least = 12
-most = 12
-allowed = ["2-0-1/6"]
-"#;
 
 /// Where a message comes from, its octets, what is sent then, and how many sections there are.
 type Line = (&'static str, &'static str, &'static str, usize);
@@ -133,7 +118,7 @@ fn first_wrong(
 
 /// The same from no sections on.
 fn wrong_line(alloc: Global, lines: &[Line]) -> Result<Option<usize>, Fail> {
-    let plan = read(alloc, COUPLING.as_bytes())?;
+    let plan = read(alloc, ONE_TARGET.as_bytes())?;
     let marking = Marking::new(alloc);
     let mut exchange = Exchange::new(alloc, 0);
     first_wrong(alloc, &plan, &marking, &mut exchange, lines)
@@ -189,7 +174,7 @@ fn request_all(
 
 /// The first wrong line after 2,047 requests.
 fn wrong_line_then(alloc: Global, lines: &[Line]) -> Result<Option<usize>, Fail> {
-    let plan = read(alloc, COUPLING.as_bytes())?;
+    let plan = read(alloc, ONE_TARGET.as_bytes())?;
     let marking = Marking::new(alloc);
     let mut exchange = Exchange::new(alloc, 0);
     request_all(alloc, &plan, &marking, &mut exchange, 2047)?;
