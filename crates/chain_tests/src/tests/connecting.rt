@@ -25,15 +25,26 @@ fn call_of(alloc: Global, digits: &str) -> Result<Call, Fail> {
     })
 }
 
-/// A world in which the end at 1-0-1 offered these octets so many times to the first relay.
-fn world_with(alloc: Global, octets: &str, count: u32) -> Result<World, Fail> {
-    let mut world = new_world(alloc)?;
+/// The end at 1-0-1 offers these octets so many times to the first relay.
+fn offer_all(alloc: Global, world: &mut World, octets: &str, count: u32) -> Result<(), Fail> {
     for _ in 0..count {
-        if offer(alloc, &mut world, "1-0-1", "1-0-2", octets)?.is_some() {
+        if offer(alloc, world, "1-0-1", "1-0-2", octets)?.is_some() {
             return Err("an offer that is accepted")?;
         }
     }
-    Ok(world)
+    Ok(())
+}
+
+/// A world in which that was done.
+fn world_with(alloc: Global, octets: &str, count: u32) -> Result<World, Fail> {
+    let mut world = new_world(alloc)?;
+    match offer_all(alloc, &mut world, octets, count) {
+        Ok(()) => Ok(world),
+        Err(fault) => {
+            drop(world);
+            Err(fault)
+        }
+    }
 }
 
 fn outcome_name(outcome: &Outcome) -> &'static str {

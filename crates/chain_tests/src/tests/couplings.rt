@@ -68,7 +68,9 @@ fn sent_for(
     octets: &[u8],
 ) -> Result<Option<List<Sent>>, Fail> {
     let message = decode(alloc, octets)?;
-    Ok(taken(plan, marking, exchange, origin, octets, &message)?)
+    let sent = taken(plan, marking, exchange, origin, octets, &message);
+    drop(message);
+    Ok(sent?)
 }
 
 /// What is sent for a message, as text.
@@ -172,13 +174,24 @@ fn request_all(
     Ok(())
 }
 
-/// The first wrong line after 2,047 requests.
+/// The place of the first line that isn't so after 2,047 requests.
+fn first_wrong_then(
+    alloc: Global,
+    plan: &Plan,
+    marking: &Marking,
+    exchange: &mut Exchange,
+    lines: &[Line],
+) -> Result<Option<usize>, Fail> {
+    request_all(alloc, plan, marking, exchange, 2047)?;
+    first_wrong(alloc, plan, marking, exchange, lines)
+}
+
+/// The same from no sections on.
 fn wrong_line_then(alloc: Global, lines: &[Line]) -> Result<Option<usize>, Fail> {
     let plan = read(alloc, ONE_TARGET.as_bytes())?;
     let marking = Marking::new(alloc);
     let mut exchange = Exchange::new(alloc, 0);
-    request_all(alloc, &plan, &marking, &mut exchange, 2047)?;
-    first_wrong(alloc, &plan, &marking, &mut exchange, lines)
+    first_wrong_then(alloc, &plan, &marking, &mut exchange, lines)
 }
 
 /// With 4,094 sections a request goes on, with 4,095 it is refused.
