@@ -4,7 +4,7 @@ use super::replays::with_trace;
 use live_plan::Gate;
 use sccp_io::SoundSink;
 use sccp_tool::{Status, run, run_gated};
-use std::alloc::Global;
+use std::alloc::{AllocError, Global};
 use std::sync::Wait;
 use std::sync::atomic::{AtomicU64, Ordering};
 use std::test::Fail;
@@ -196,18 +196,42 @@ fn numbers_never_fall_in_a_share(rt: HostRuntime) -> Result<(), Fail> {
     Ok(())
 }
 
-/// So many messages, and what is printed of them.
+/// Appends a message with four octets of data, which these digits give.
+fn push_message(trace: &mut Vec<u8>, digits: &str) -> Result<(), AllocError> {
+    trace.extend_from_slice(b"msg a 1-0-1 0980030E120B1206001204947101000021044301080804")?;
+    trace.extend_from_slice(digits.as_bytes())?;
+    trace.extend_from_slice(b"\n")
+}
+
+/// Appends what is printed of that message, where it is this line of the trace.
+fn push_told(told: &mut Vec<u8>, line: &str, digits: &str) -> Result<(), AllocError> {
+    told.extend_from_slice(line.as_bytes())?;
+    told.extend_from_slice(
+        b" by 1 via a ended 2-0-1/6 0980030E120B5206001204947101000021044301080804",
+    )?;
+    told.extend_from_slice(digits.as_bytes())?;
+    told.extend_from_slice(b"\n")
+}
+
+/// Appends the message of this line, whose data are the line's number, and what is printed of it.
+fn push_both(
+    alloc: Global,
+    trace: &mut Vec<u8>,
+    told: &mut Vec<u8>,
+    line: u32,
+) -> Result<(), AllocError> {
+    let digits = hex::encode_upper(alloc, &line.to_be_bytes())?;
+    push_message(trace, &digits)?;
+    let line = line.to_string(alloc)?;
+    push_told(told, &line, &digits)
+}
+
+/// So many messages, no two of which are alike, and what is printed of them.
 fn many(alloc: Global, count: u32) -> Result<(Vec<u8>, Vec<u8>), Fail> {
     let mut trace = Vec::new(alloc);
     let mut told = b"plan 1 f accepted bound 1\n".to_vec(alloc)?;
     for line in 0..count {
-        trace.extend_from_slice(
-            b"msg a 1-0-1 0980030E120B1206001204947101000021044301080802AABB\n",
-        )?;
-        told.extend_from_slice((line + 1).to_string(alloc)?.as_bytes())?;
-        told.extend_from_slice(
-            b" by 1 via a ended 2-0-1/6 0980030E120B5206001204947101000021044301080802AABB\n",
-        )?;
+        push_both(alloc, &mut trace, &mut told, line + 1)?;
     }
     told.extend_from_slice(b"end ")?;
     told.extend_from_slice(count.to_string(alloc)?.as_bytes())?;
