@@ -1,17 +1,16 @@
 //! Where the titles of a class go on their next hop.
-ghost use Rattle.std.specs.Prelude.{◌≡◌, ◌<◌, ◌⊎◌, ℕ, IsTrue, false, length, IfSome, IfOk, OnOk, Err, None, Some, List, [], ◌∷◌};
-ghost use Rattle.sccp_base.specs.declared.mark.Mark.{Mark};
+ghost use Rattle.std.specs.Prelude.{◌≡◌, ◌<◌, ◌⊎◌, ℕ, IsTrue, false, length, IsSomeAnd, IfSome, IfOk, OnOk, Err, None, Some, List, [], ◌∷◌};
 ghost use Rattle.plan_classes.specs.declared.leads.Image.{Image};
-ghost use Rattle.plan_classes.specs.declared.leads.Image.TheVariants.{Ends, NotEquipped, TooLong};
+ghost use Rattle.plan_classes.specs.declared.leads.Image.TheVariants.{Ends};
 ghost use Rattle.plan_model.specs.Network.{IsPlan};
-ghost use Rattle.plan_classes.specs.Titles.{IsClass, IsLongest, spot_of};
-ghost use Rattle.plan_classes.specs.Classes.{Decided, class_row, Reaches, HasImage};
-ghost use Rattle.plan_classes.specs.Leading.{Takes, ImageIsExact};
+ghost use Rattle.plan_classes.specs.Titles.{IsClass, IsMember, IsLongest};
+ghost use Rattle.plan_classes.specs.Classes.{class_row, Reaches, HasImage};
+ghost use Rattle.plan_classes.specs.Leading.{ImageIsExact, brought};
 ghost use Rattle.plan_mixed.specs.Pairs.{old_of, new_of};
-ghost use Rattle.plan_mixed.specs.Mixed.{held, BothDecided, MixedReachable, MixedReachAtLeast};
+ghost use Rattle.plan_mixed.specs.Mixed.{held, MixedReachAtLeast};
 ghost use Rattle.plan_change.specs.declared.halt.Halt.TheVariants as halts;
-ghost use Rattle.plan_change.specs.Stops.{Grows, IsMet, IsPair, ImageGoesWell, LeadsUnder, LeadsInto, ComesFrom};
-ghost use Rattle.plan_change.specs.Ways.{PairAllows, Forbids, IsBadHere};
+ghost use Rattle.plan_change.specs.Stops.{Grows, IsMet, IsPair, MayGoOn, ImageGoesWell, LeadsUnder, LeadsInto, ComesFrom};
+ghost use Rattle.plan_change.specs.Ways.{PairAllows, Forbids, IsBadStep, IsBadHere};
 
 use crate::entering::enter;
 use crate::halt::Halt;
@@ -35,11 +34,7 @@ pub(crate) fn follow(
     place: usize,
     hop: &mut OpenHop,
 ) -> Result<Option<Way>, Halt>
-    requires same { length plans.now.old.now.nodes ≡ length plans.now.new.now.nodes }
-    requires node { class.now.node < length plans.now.old.now.nodes }
-    requires pair { IsPair plans.now.old.now plans.now.new.now class.now.cover }
-    requires decided { BothDecided plans.now.old.now plans.now.new.now class.now }
-    requires reached { (depth : ℕ) × (depth < 14) × MixedReachable plans.now.old.now plans.now.new.now depth class.now }
+    requires may { MayGoOn plans.now.old.now plans.now.new.now class.now }
     requires met { IsMet plans.now.old.now plans.now.new.now hop.old.met hop.old.stops }
     ensures met { OnOk result (IsMet plans.now.old.now plans.now.new.now hop.new.met hop.new.stops) }
     ensures grows { OnOk result (Grows hop.old.stops hop.new.stops (ComesFrom plans.now.old.now plans.now.new.now class.now place)) }
@@ -62,11 +57,7 @@ fn follow_plan(
     place: usize,
     hop: &mut OpenHop,
 ) -> Result<Option<Way>, Halt>
-    requires same { length plans.now.old.now.nodes ≡ length plans.now.new.now.nodes }
-    requires node { class.now.node < length (held plans.now.old.now plans.now.new.now which).nodes }
-    requires pair { IsPair plans.now.old.now plans.now.new.now class.now.cover }
-    requires decided { BothDecided plans.now.old.now plans.now.new.now class.now }
-    requires reached { (depth : ℕ) × (depth < 14) × MixedReachable plans.now.old.now plans.now.new.now depth class.now }
+    requires may { MayGoOn plans.now.old.now plans.now.new.now class.now }
     requires met { IsMet plans.now.old.now plans.now.new.now hop.old.met hop.old.stops }
     ensures met { OnOk result (IsMet plans.now.old.now plans.now.new.now hop.new.met hop.new.stops) }
     ensures grows { OnOk result (Grows hop.old.stops hop.new.stops (ComesFrom plans.now.old.now plans.now.new.now class.now place)) }
@@ -92,12 +83,8 @@ fn follow_row(
 ) -> Result<Option<Way>, Halt>
     requires sound { IsPlan (held plans.now.old.now plans.now.new.now which) }
     requires class { IsClass class.now }
-    requires same { length plans.now.old.now.nodes ≡ length plans.now.new.now.nodes }
-    requires node { class.now.node < length (held plans.now.old.now plans.now.new.now which).nodes }
-    requires pair { IsPair plans.now.old.now plans.now.new.now class.now.cover }
-    requires decided { BothDecided plans.now.old.now plans.now.new.now class.now }
+    requires may { MayGoOn plans.now.old.now plans.now.new.now class.now }
     requires row { class_row (held plans.now.old.now plans.now.new.now which) class.now ≡ Some row.now }
-    requires reached { (depth : ℕ) × (depth < 14) × MixedReachable plans.now.old.now plans.now.new.now depth class.now }
     requires met { IsMet plans.now.old.now plans.now.new.now hop.old.met hop.old.stops }
     ensures met { OnOk result (IsMet plans.now.old.now plans.now.new.now hop.new.met hop.new.stops) }
     ensures grows { OnOk result (Grows hop.old.stops hop.new.stops (ComesFrom plans.now.old.now plans.now.new.now class.now place)) }
@@ -128,13 +115,9 @@ fn follow_target(
     origin: Origin,
     hop: &mut OpenHop,
 ) -> Result<Option<Way>, Halt>
-    requires same { length plans.now.old.now.nodes ≡ length plans.now.new.now.nodes }
-    requires node { class.now.node < length (held plans.now.old.now plans.now.new.now origin.which).nodes }
-    requires pair { IsPair plans.now.old.now plans.now.new.now class.now.cover }
-    requires decided { BothDecided plans.now.old.now plans.now.new.now class.now }
+    requires may { MayGoOn plans.now.old.now plans.now.new.now class.now }
     requires row { class_row (held plans.now.old.now plans.now.new.now origin.which) class.now ≡ Some row.now }
     requires target { origin.target < length row.now.targets }
-    requires reached { (depth : ℕ) × (depth < 14) × MixedReachable plans.now.old.now plans.now.new.now depth class.now }
     requires met { IsMet plans.now.old.now plans.now.new.now hop.old.met hop.old.stops }
     ensures met { OnOk result (IsMet plans.now.old.now plans.now.new.now hop.new.met hop.new.stops) }
     ensures grows { OnOk result (Grows hop.old.stops hop.new.stops (ComesFrom plans.now.old.now plans.now.new.now class.now origin.place)) }
@@ -151,9 +134,9 @@ fn follow_target(
             enter(alloc, plans, &next, origin, hop)?;
             Ok(None)
         }
-        Image::Ends { pc, ssn } => Ok(ended(alloc, plans, plan, class, origin, pc, ssn)?),
-        Image::NotEquipped => Ok(Some(unequipped(alloc, plans, plan, class, origin)?)),
-        Image::TooLong => Ok(Some(overgrown(alloc, plans, plan, class, origin)?)),
+        Image::Ends { pc, ssn } => Ok(ended(alloc, plans, class, origin, pc, ssn)?),
+        Image::NotEquipped => Ok(Some(bad_way(alloc, plans, class, origin, sample(class))?)),
+        Image::TooLong => Ok(Some(bad_way(alloc, plans, class, origin, longest(class))?)),
     }
 }
 
@@ -161,85 +144,21 @@ fn follow_target(
 fn ended(
     alloc: Global,
     plans: &Plans<'_>,
-    plan: &Plan,
     class: &Class,
     origin: Origin,
     pc: PointCode,
     ssn: u8,
 ) -> Result<Option<Way>, OutOfMemory>
-    requires held { plan.now ≡ held plans.now.old.now plans.now.new.now origin.which }
-    requires pair { IsPair plans.now.old.now plans.now.new.now class.now.cover }
-    requires node { class.now.node < length plan.now.nodes }
-    requires decided { Decided plan.now class.now }
-    requires reached { Reaches plan.now class.now origin.target }
-    requires exact { ImageIsExact plan.now class.now origin.target (Ends pc ssn) }
+    requires may { MayGoOn plans.now.old.now plans.now.new.now class.now }
+    requires reached { Reaches (held plans.now.old.now plans.now.new.now origin.which) class.now origin.target }
+    requires exact { ImageIsExact (held plans.now.old.now plans.now.new.now origin.which) class.now origin.target (Ends pc ssn) }
     ensures well { IfOk result (λ way. way ≡ None → PairAllows plans.now.old.now plans.now.new.now class.now.cover pc ssn) }
     ensures bad { IfOk result (λ way. IfSome way (IsBadHere plans.now.old.now plans.now.new.now class.now)) }
 {
     if both_allow(plans, class.cover(), pc, ssn) {
         return Ok(None);
     }
-    let way = through(
-        alloc,
-        origin.which,
-        plan,
-        class,
-        origin.target,
-        sample(class),
-    )?;
-    Ok(Some(way))
-}
-
-/// The least title of a class that a target leads to a subsystem that isn't there.
-fn unequipped(
-    alloc: Global,
-    plans: &Plans<'_>,
-    plan: &Plan,
-    class: &Class,
-    origin: Origin,
-) -> Result<Way, OutOfMemory>
-    requires held { plan.now ≡ held plans.now.old.now plans.now.new.now origin.which }
-    requires node { class.now.node < length plan.now.nodes }
-    requires decided { Decided plan.now class.now }
-    requires reached { Reaches plan.now class.now origin.target }
-    requires exact { ImageIsExact plan.now class.now origin.target NotEquipped }
-    ensures { IfOk result (IsBadHere plans.now.old.now plans.now.new.now class.now) }
-{
-    let way = through(
-        alloc,
-        origin.which,
-        plan,
-        class,
-        origin.target,
-        sample(class),
-    )?;
-    Ok(way)
-}
-
-/// The longest title of a class that a target makes too long.
-fn overgrown(
-    alloc: Global,
-    plans: &Plans<'_>,
-    plan: &Plan,
-    class: &Class,
-    origin: Origin,
-) -> Result<Way, OutOfMemory>
-    requires held { plan.now ≡ held plans.now.old.now plans.now.new.now origin.which }
-    requires node { class.now.node < length plan.now.nodes }
-    requires decided { Decided plan.now class.now }
-    requires reached { Reaches plan.now class.now origin.target }
-    requires exact { ImageIsExact plan.now class.now origin.target TooLong }
-    ensures { IfOk result (IsBadHere plans.now.old.now plans.now.new.now class.now) }
-{
-    let way = through(
-        alloc,
-        origin.which,
-        plan,
-        class,
-        origin.target,
-        longest(class),
-    )?;
-    Ok(way)
+    Ok(Some(bad_way(alloc, plans, class, origin, sample(class))?))
 }
 
 /// Whether both covers of a pair allow a place.
@@ -275,22 +194,22 @@ fn without_row(
     )
 }
 
-/// A title of a class, where a target under a plan is taken.
-fn through(
+/// A title of a class that the target of an origin gives a bad step, and the turn that takes this target.
+fn bad_way(
     alloc: Global,
-    which: Which,
-    plan: &Plan,
+    plans: &Plans<'_>,
     class: &Class,
-    target: u8,
+    origin: Origin,
     digits: Digits,
 ) -> Result<Way, OutOfMemory>
-    requires node { class.now.node < length plan.now.nodes }
-    requires decided { Decided plan.now class.now }
-    requires reached { Reaches plan.now class.now target }
-    ensures spot { IfOk result (λ way. way.spot ≡ spot_of class.now digits) }
-    ensures takes { IfOk result (λ way. (marking : List Mark) × (way.turns ≡ record { which = which; marking = marking } ∷ []) × Takes plan.now class.now target marking) }
+    requires may { MayGoOn plans.now.old.now plans.now.new.now class.now }
+    requires reached { Reaches (held plans.now.old.now plans.now.new.now origin.which) class.now origin.target }
+    requires member { IsMember class.now digits }
+    requires bad { IsSomeAnd (brought (held plans.now.old.now plans.now.new.now origin.which) class.now origin.target digits) (IsBadStep plans.now.old.now plans.now.new.now class.now.cover) }
+    ensures { IfOk result (IsBadHere plans.now.old.now plans.now.new.now class.now) }
 {
-    let marking = opening(alloc, plan, class, target)?;
+    let Origin { which, target, .. } = origin;
+    let marking = opening(alloc, plans.held(which), class, target)?;
     one_turn(alloc, spot_of(class, digits), which, marking)
 }
 
