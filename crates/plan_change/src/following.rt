@@ -1,15 +1,14 @@
 //! Where the titles of a class go on their next hop.
-ghost use Rattle.std.specs.Prelude.{◌≡◌, ◌<◌, ◌⊎◌, ℕ, IsTrue, false, length, IsSomeAnd, IfSome, IfOk, OnOk, Err, None, Some, List, [], ◌∷◌};
-ghost use Rattle.plan_classes.specs.declared.leads.Image.{Image};
+ghost use Rattle.std.specs.Prelude.{◌≡◌, ◌<◌, ◌⊎◌, IsTrue, false, length, IsSomeAnd, IfSome, IfOk, OnOk, Err, None, Some};
 ghost use Rattle.plan_classes.specs.declared.leads.Image.TheVariants.{Ends};
 ghost use Rattle.plan_model.specs.Network.{IsPlan};
 ghost use Rattle.plan_classes.specs.Titles.{IsClass, IsMember, IsLongest};
-ghost use Rattle.plan_classes.specs.Classes.{class_row, Reaches, HasImage};
+ghost use Rattle.plan_classes.specs.Classes.{class_row, Reaches};
 ghost use Rattle.plan_classes.specs.Leading.{ImageIsExact, brought};
 ghost use Rattle.plan_mixed.specs.Pairs.{old_of, new_of};
 ghost use Rattle.plan_mixed.specs.Mixed.{held, MixedReachAtLeast};
 ghost use Rattle.plan_change.specs.declared.halt.Halt.TheVariants as halts;
-ghost use Rattle.plan_change.specs.Stops.{Grows, IsMet, IsPair, MayGoOn, ImageGoesWell, LeadsUnder, LeadsInto, ComesFrom};
+ghost use Rattle.plan_change.specs.Stops.{Grows, IsMet, IsPair, MayGoOn, TargetGoesWell, LeadsUnder, LeadsInto, ComesFrom};
 ghost use Rattle.plan_change.specs.Ways.{PairAllows, Forbids, IsBadStep, IsBadHere};
 
 use crate::entering::enter;
@@ -121,7 +120,7 @@ fn follow_target(
     requires met { IsMet plans.now.old.now plans.now.new.now hop.old.met hop.old.stops }
     ensures met { OnOk result (IsMet plans.now.old.now plans.now.new.now hop.new.met hop.new.stops) }
     ensures grows { OnOk result (Grows hop.old.stops hop.new.stops (ComesFrom plans.now.old.now plans.now.new.now class.now origin.place)) }
-    ensures well { IfOk result (λ way. way ≡ None → ((image : Image) → Reaches (held plans.now.old.now plans.now.new.now origin.which) class.now origin.target → HasImage (held plans.now.old.now plans.now.new.now origin.which) class.now origin.target image → ImageGoesWell plans.now.old.now plans.now.new.now class.now.cover hop.new.stops image)) }
+    ensures well { IfOk result (λ way. way ≡ None → TargetGoesWell plans.now.old.now plans.now.new.now (held plans.now.old.now plans.now.new.now origin.which) class.now origin.target hop.new.stops) }
     ensures bad { IfOk result (λ way. IfSome way (IsBadHere plans.now.old.now plans.now.new.now class.now)) }
     ensures wide { result ≡ Err halts.Wide → MixedReachAtLeast plans.now.old.now plans.now.new.now 262144 }
 {

@@ -3,7 +3,7 @@ use Rattle.plan_model.specs.Network.{Network}
 use Rattle.plan_classes.specs.Classes.{HasImage}
 use Rattle.plan_change.specs.Stops.{IsPutFor, ComesFrom}
 use Rattle.plan_change.proofs.Growing.{grows_weaker}
-use Rattle.plan_change.proofs.Onward.{held_node, held_decided, node_of_both, reached_some, put_comes, image_well}
+use Rattle.plan_change.proofs.Onward.{held_node, held_decided, may_enter, put_comes, image_well}
 use Rattle.plan_change.proofs.following.follow_target.Goals as goal
 
 pub reaches_by-requires-clause-node : goal.reaches_by-requires-clause-node
@@ -15,15 +15,9 @@ image_by-requires-clause-node c = held_node _ _ c.held-plan.result.now c.args.or
 pub image_by-requires-clause-decided : goal.image_by-requires-clause-decided
 image_by-requires-clause-decided c = held_decided _ _ c.held-plan.result.now c.args.origin.which c.args.class.now c.held-plan.ensures c.requires.may
 
-pub enter-requires-clause-old : goal.enter-requires-clause-old
-enter-requires-clause-old c = (node_of_both c.args.plans.now.old.now c.args.plans.now.new.now c.held-plan.result.now c.args.origin.which c.in-Next.next.node c.held-plan.ensures c.requires.may.same c.in-Next.ensures.stays.0).0
-
-pub enter-requires-clause-new : goal.enter-requires-clause-new
-enter-requires-clause-new c = (node_of_both c.args.plans.now.old.now c.args.plans.now.new.now c.held-plan.result.now c.args.origin.which c.in-Next.next.node c.held-plan.ensures c.requires.may.same c.in-Next.ensures.stays.0).1
-
-pub enter-requires-clause-reached : goal.enter-requires-clause-reached
-enter-requires-clause-reached c =
-    reached_some _ _ c.held-plan.result.now c.args.origin.which c.args.class.now _ c.args.origin.target c.held-plan.ensures c.requires.may.decided (c.reaches_by.ensures.0 c.if-not-reaches_by.false) c.in-Next.ensures.image c.requires.may.reached
+pub enter-requires-clause-may : goal.enter-requires-clause-may
+enter-requires-clause-may c =
+    may_enter _ _ c.held-plan.result.now c.args.origin.which c.args.class.now _ c.args.origin.target c.held-plan.ensures c.requires.may (c.reaches_by.ensures.0 c.if-not-reaches_by.false) c.in-Next.ensures.image c.in-Next.ensures.stays.0
 
 pub returns-in_ok-enter-in-Next-clause-grows : goal.returns-in_ok-enter-in-Next-clause-grows
 returns-in_ok-enter-in-Next-clause-grows c =
