@@ -9,7 +9,7 @@ use Rattle.plan_model.specs.Network.{Network, IsPlan}
 use Rattle.plan_model.specs.Covered.{Covered}
 use Rattle.plan_model.specs.Verdicts.{HasSpot, Tight}
 use Rattle.plan_classes.specs.Titles.{Titles, IsMember, spot_of}
-use Rattle.plan_classes.specs.Classes.{start_of, Reachable}
+use Rattle.plan_classes.specs.Classes.{start_of}
 use Rattle.plan_classes.specs.Classes.Reachable.{Start}
 use Rattle.plan_check.specs.Ranking.{rank_in}
 use Rattle.plan_check.specs.Ranked.{RanksUpTo, IsRankedClass, StartsBelow, IsGreatestStart}
@@ -19,7 +19,7 @@ use Rattle.plan_verify.specs.declared.verdict.Verdict.TheVariants.{Accepted}
 use Rattle.plan_verify.specs.Lawful.{IsLawful}
 use Rattle.plan_verify.specs.declared.outcome.Greatest.{Greatest}
 use Rattle.plan_verify.specs.declared.trace.Trace.{Trace}
-use Rattle.plan_verify.specs.Searching.{Keeps, IsSound, HasStart}
+use Rattle.plan_verify.specs.Searching.{Keeps, IsSound, MayExplore, HasStart}
 use Rattle.plan_verify.specs.Traces.{IsTrace, IsWay}
 use Rattle.plan_verify.specs.Ends.{IsBadRoute}
 use Rattle.plan_verify.proofs.Keeping.{some_kept}
@@ -30,10 +30,10 @@ use Rattle.plan_verify.proofs.Tracing.{start_has, start_node, start_covered}
 abbrev pub IsStartOf : Network → ℕ → Titles → Type 0
 IsStartOf plan number c = IsSomeAnd (slice_get plan.covers number) (λ cover. c ≡ start_of number cover)
 
-pub start_reached : (plan : Network) (number : ℕ) (c : Titles) → IsStartOf plan number c → Reachable plan 0 c
-start_reached plan number c start =
+pub may_start : (plan : Network) (number : ℕ) (c : Titles) → IsPlan plan → IsStartOf plan number c → MayExplore plan c 0
+may_start plan number c is start =
     let s = some_of (slice_get plan.covers number) (λ cover. c ≡ start_of number cover) start in
-    subst (Reachable plan 0) (sym s.2) (Start number s.0 s.1)
+    subst (λ (t : Titles). MayExplore plan t 0) (sym s.2) (record { node = start_node plan number s.0 is s.1; cover = slice_get_within plan.covers number s.0 s.1; reached = Start number s.0 s.1 })
 
 -- the starts so far have ranks up to this one
 abbrev pub AreBelow : Network → List (Titles × ℕ) → ℕ → ℕ → Type 0

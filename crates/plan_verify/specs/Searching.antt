@@ -1,5 +1,5 @@
 -- What the search keeps of its table, and what it finds.
-use Rattle.std.specs.Prelude.{ℕ, ◌≡◌, ◌+◌, ◌-◌, ◌≤◌, List, Option, Some, IsSomeAnd, slice_get}
+use Rattle.std.specs.Prelude.{ℕ, ◌≡◌, ◌+◌, ◌-◌, ◌<◌, ◌≤◌, List, length, Option, Some, IsSomeAnd, slice_get}
 use Rattle.plan_model.specs.Network.{Network}
 use Rattle.plan_classes.specs.declared.leads.Image.{Image}
 use Rattle.plan_classes.specs.Titles.{Titles}
@@ -23,6 +23,15 @@ pub record IsSound (plan : Network) (ranks : List (Titles × ℕ)) : Type 0 wher
   pub ranked : IsRanked plan (rank_in ranks)
   pub attained : IsAttained plan (rank_in ranks)
   pub reached : (c : Titles) (r : ℕ) → rank_in ranks c ≡ Some r → (depth : ℕ) × Reachable plan depth c
+
+-- a class that may be explored at a depth
+pub record MayExplore (plan : Network) (c : Titles) (depth : ℕ) : Type 0 where
+  -- it stands at a node of the plan
+  pub node : c.node < length plan.nodes
+  -- its titles are those of a cover
+  pub cover : c.cover < length plan.covers
+  -- so many rewritings lead to it
+  pub reached : Reachable plan depth c
 
 -- what is found of a class at a depth: its rank stands in the table, or one of its titles has a bad route
 abbrev pub IsFound : Network → Titles → ℕ → List (Titles × ℕ) → Found → Type 0

@@ -30,14 +30,12 @@ explore_parts-explore-requires t c =
       (
         omega (arith, c.requires.depth),
         (
-          omega (arith, part.node, c.requires.node),
-          (
-            omega (arith, part.cover, c.requires.cover),
-            (
-              part_reached _ _ c.args.class.now _ _ c.loop-part.part-index _ c.in_ok-parts.ensures.value c.as_slice-part-items.ensures c.loop-part-test.true c.part-item.is c.requires.reached c.requires.undecided,
-              c.loop-part.invariant.sound,
-            ),
-          ),
+          record {
+            node = omega (arith, part.node, c.requires.may.node);
+            cover = omega (arith, part.cover, c.requires.may.cover);
+            reached = part_reached _ _ c.args.class.now _ _ c.loop-part.part-index _ c.in_ok-parts.ensures.value c.as_slice-part-items.ensures c.loop-part-test.true c.part-item.is c.requires.may.reached c.requires.undecided;
+          },
+          c.loop-part.invariant.sound,
         ),
       ),
     )
@@ -73,7 +71,7 @@ explore_parts-returns-in-Wide-clause-found t c = subst (λ (f : Found). IsFound 
 
 pub explore_parts-returns-clause-found : goal.explore_parts-returns-clause-found
 explore_parts-returns-clause-found t c = (
-  open_borne _ _ _ c.as_slice-part-items.result.now c.loop-part.rank c.loop-part.part-index (c.as_slice-part-items.ensures ∙ c.in_ok-parts.ensures.value) c.loop-part-test.false c.parts.ensures.class c.requires.node c.requires.cover c.requires.undecided c.requires.more c.loop-part.invariant.low (omega (arith, c.loop-part.invariant.few)) c.loop-part.invariant.below c.loop-part.invariant.some,
+  open_borne _ _ _ c.as_slice-part-items.result.now c.loop-part.rank c.loop-part.part-index (c.as_slice-part-items.ensures ∙ c.in_ok-parts.ensures.value) c.loop-part-test.false c.parts.ensures.class c.requires.may.node c.requires.may.cover c.requires.undecided c.requires.more c.loop-part.invariant.low (omega (arith, c.loop-part.invariant.few)) c.loop-part.invariant.below c.loop-part.invariant.some,
   c.loop-part.invariant.few,
 )
 
@@ -85,14 +83,12 @@ explore_target-explore-requires t c =
       (
         omega arith,
         (
-          stays.0,
-          (
-            omega (arith, stays.1, c.requires.cover),
-            (
-              image_reached _ c.args.depth c.args.place c.args.class.now _ c.in-Next.ensures.image (c.reaches_by.ensures.0 c.if-not-reaches_by.false) c.requires.decided c.requires.depth c.requires.reached,
-              c.requires.sound,
-            ),
-          ),
+          record {
+            node = stays.0;
+            cover = omega (arith, stays.1, c.requires.may.cover);
+            reached = image_reached _ c.args.depth c.args.place c.args.class.now _ c.in-Next.ensures.image (c.reaches_by.ensures.0 c.if-not-reaches_by.false) c.requires.decided c.requires.depth c.requires.may.reached;
+          },
+          c.requires.sound,
         ),
       ),
     )
@@ -121,11 +117,11 @@ explore_target-returns-in_ok-carry-in-Bad-clause-found t c =
 pub explore_target-returns-in-Wide-clause-found : goal.explore_target-returns-in-Wide-clause-found
 explore_target-returns-in-Wide-clause-found t c = subst (λ (f : Found). IsFound c.args.plan.now c.in-Next.next (c.args.depth + 1) c.explore.new.ranks f) c.in-Wide.is c.in_ok-other-in-Next.ensures.found
 
-pub explore_target-returns-in_ok-without_subsystem-in-NotEquipped-clause-found : goal.explore_target-returns-in_ok-without_subsystem-in-NotEquipped-clause-found
-explore_target-returns-in_ok-without_subsystem-in-NotEquipped-clause-found t c = c.in_ok-without_subsystem-in-NotEquipped.ensures c.args.depth c.requires.depth
+pub explore_target-returns-in_ok-bad_title-in-NotEquipped-clause-found : goal.explore_target-returns-in_ok-bad_title-in-NotEquipped-clause-found
+explore_target-returns-in_ok-bad_title-in-NotEquipped-clause-found t c = c.in_ok-bad_title-in-NotEquipped.ensures c.args.depth c.requires.depth
 
-pub explore_target-returns-in_ok-overgrown-in-TooLong-clause-found : goal.explore_target-returns-in_ok-overgrown-in-TooLong-clause-found
-explore_target-returns-in_ok-overgrown-in-TooLong-clause-found t c = c.in_ok-overgrown-in-TooLong.ensures c.args.depth c.requires.depth
+pub explore_target-returns-in_ok-bad_title-in-TooLong-clause-found : goal.explore_target-returns-in_ok-bad_title-in-TooLong-clause-found
+explore_target-returns-in_ok-bad_title-in-TooLong-clause-found t c = c.in_ok-bad_title-in-TooLong.ensures c.args.depth c.requires.depth
 
 pub explore_targets-returns-in_ok-least_title-in-None-clause-found : goal.explore_targets-returns-in_ok-least_title-in-None-clause-found
 explore_targets-returns-in_ok-least_title-in-None-clause-found t c =
@@ -160,7 +156,7 @@ explore_row-returns-in-Wide-clause-found t c = subst (λ (f : Found). IsLed c.ar
 
 pub explore_row-returns-clause-found : goal.explore_row-returns-clause-found
 explore_row-returns-clause-found t c = (
-  decided_borne _ _ c.args.class.now c.loop-place.rank c.loop-place.place c.requires.class c.requires.node c.requires.cover c.requires.decided
+  decided_borne _ _ c.args.class.now c.loop-place.rank c.loop-place.place c.requires.class c.requires.may.node c.requires.may.cover c.requires.decided
       (subst (λ (o : Option Rule). IsSome o) (sym c.requires.row) refl)
       (omega (arith, ap length (row_targets c.args.plan.now c.args.class.now c.args.row.now c.requires.row), c.target_count-place-end.ensures, c.loop-place-test.false))
       c.loop-place.invariant.low (omega (arith, c.loop-place.invariant.few)) c.loop-place.invariant.leads c.loop-place.invariant.some,

@@ -1,11 +1,11 @@
 use Rattle.std.proofs.Common.{◌≤◌, ◌∙◌, ap, arith, length, subst}
 use Rattle.plan_verify.specs.declared.found.Found.{Found}
 use Rattle.plan_verify.specs.Searching.{IsFound}
-use Rattle.plan_verify.proofs.FromStarts.{start_reached, starts_next, some_next, starts_end}
+use Rattle.plan_verify.proofs.FromStarts.{may_start, starts_next, some_next, starts_end}
 use Rattle.plan_verify.proofs.starts.explore_starts.Goals as goal
 
-pub explore-requires-clause-reached : goal.explore-requires-clause-reached
-explore-requires-clause-reached c = start_reached c.args.plan.now c.loop-number.number c.start.result c.start.ensures.value
+pub explore-requires-clause-may : goal.explore-requires-clause-may
+explore-requires-clause-may c = may_start c.args.plan.now c.loop-number.number c.start.result c.covers.ensures.sound c.start.ensures.value
 
 pub loop-number-preserved : goal.loop-number-preserved
 loop-number-preserved c =
