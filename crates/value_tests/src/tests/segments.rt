@@ -161,15 +161,33 @@ fn segments_become_whole(rt: HostRuntime) -> Result<(), Fail> {
     Ok(())
 }
 
+/// The first of 64 messages whose first segment a pool doesn't keep.
+fn first_unkept(alloc: Global, pool: &mut Pool) -> Result<Option<u32>, Fail> {
+    for value in 0..64_u32 {
+        if takes(alloc, pool, value, true, 1)? != 0 {
+            return Ok(Some(value));
+        }
+    }
+    Ok(None)
+}
+
+/// What is told of these, and behind them of a message more, of one of a single segment, and of one that begins anew.
+fn told_of_full(alloc: Global, pool: &mut Pool) -> Result<(Option<u32>, Option<usize>), Fail> {
+    let unkept = first_unkept(alloc, pool)?;
+    let behind = [(64, true, 1, 5), (64, true, 0, 1), (63, true, 1, 4)];
+    let behind = first_other(alloc, pool, &behind)?;
+    Ok((unkept, behind))
+}
+
 #[test]
 fn a_full_pool_refuses(rt: HostRuntime) -> Result<(), Fail> {
     let mut pool = Pool::new(rt.alloc());
-    for value in 0..64_u32 {
-        assert_eq!(rt; takes(rt.alloc(), &mut pool, value, true, 1)?, 0);
-    }
-    assert_eq!(rt; takes(rt.alloc(), &mut pool, 64, true, 1)?, 5);
-    assert_eq!(rt; takes(rt.alloc(), &mut pool, 64, true, 0)?, 1);
-    assert_eq!(rt; takes(rt.alloc(), &mut pool, 63, true, 1)?, 4);
-    assert_eq!(rt; pool.len(), 64);
+    let told = told_of_full(rt.alloc(), &mut pool);
+    let count = pool.len();
+    drop(pool);
+    let (unkept, behind) = told?;
+    assert_eq!(rt; unkept, None);
+    assert_eq!(rt; behind, None);
+    assert_eq!(rt; count, 64);
     Ok(())
 }

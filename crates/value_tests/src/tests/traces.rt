@@ -65,14 +65,10 @@ fn read(
     let mut reader = Reader::new(alloc);
     let mut lines = Vec::new(alloc);
     for part in text.chunks(piece) {
-        for line in reader.feed(part)?.lines.into_vec() {
-            lines.push(line)?;
-        }
+        lines.append(&mut reader.feed(part)?.lines.into_vec())?;
     }
     let end = reader.finish()?;
-    for line in end.lines.into_vec() {
-        lines.push(line)?;
-    }
+    lines.append(&mut end.lines.into_vec())?;
     Ok((lines, end.fault))
 }
 
@@ -91,33 +87,35 @@ fn any_cutting_gives_the_same_lines(rt: HostRuntime) -> Result<(), Fail> {
     Ok(())
 }
 
+/// A line, its kind, where it is one, and what it names.
+const FORMS: [(&[u8], &[u8], usize); 22] = [
+    (b"resume b_2-c 2-0-007", b"resume", 4103),
+    (b"no-sccp a 16383", b"no-sccp", 16383),
+    (b"up a 255", b"up", 255),
+    (b"down a 007", b"down", 7),
+    (b"tick seventeen-octet_s", b"", 0),
+    (b"tick sixteen_octets-_", b"tick", 0),
+    (b"plan q.toml", b"plan", 6),
+    (b"# plan ", b"skip", 0),
+    (b"#", b"skip", 0),
+    (b"what", b"", 0),
+    (b"fence ", b"", 0),
+    (b" fence", b"", 0),
+    (b"fence\r", b"", 0),
+    (b"up a 256", b"", 0),
+    (b"up a 0255", b"", 0),
+    (b"up  a 255", b"", 0),
+    (b"tick a b", b"", 0),
+    (b"plan a b", b"", 0),
+    (b"msg a 1-0-1 ", b"", 0),
+    (b"msg a 1-0-1 0", b"", 0),
+    (b"msg a 1-0-1 00 ", b"", 0),
+    (b"pause a 16384", b"", 0),
+];
+
 #[test]
 fn each_form_is_read(rt: HostRuntime) -> Result<(), Fail> {
-    let table: [(&[u8], &[u8], usize); 22] = [
-        (b"resume b_2-c 2-0-007", b"resume", 4103),
-        (b"no-sccp a 16383", b"no-sccp", 16383),
-        (b"up a 255", b"up", 255),
-        (b"down a 007", b"down", 7),
-        (b"tick seventeen-octet_s", b"", 0),
-        (b"tick sixteen_octets-_", b"tick", 0),
-        (b"plan q.toml", b"plan", 6),
-        (b"# plan ", b"skip", 0),
-        (b"#", b"skip", 0),
-        (b"what", b"", 0),
-        (b"fence ", b"", 0),
-        (b" fence", b"", 0),
-        (b"fence\r", b"", 0),
-        (b"up a 256", b"", 0),
-        (b"up a 0255", b"", 0),
-        (b"up  a 255", b"", 0),
-        (b"tick a b", b"", 0),
-        (b"plan a b", b"", 0),
-        (b"msg a 1-0-1 ", b"", 0),
-        (b"msg a 1-0-1 0", b"", 0),
-        (b"msg a 1-0-1 00 ", b"", 0),
-        (b"pause a 16384", b"", 0),
-    ];
-    for (text, kind, value) in table {
+    for (text, kind, value) in FORMS {
         let (lines, fault) = read(rt.alloc(), text, 5)?;
         if kind.is_empty() {
             assert_eq!(rt;
