@@ -1,7 +1,8 @@
-ghost use Rattle.std.specs.Prelude.{◌≡◌, ◌≤◌, ◌-◌, [], ◌∷◌, length, slice_get, Some, Ok, IfOk, IfErr, ◌⊎◌};
+ghost use Rattle.std.specs.Prelude.{◌≡◌, ◌≤◌, ◌-◌, [], ◌∷◌, length, slice_get, Some, Ok, IfOk, IfErr, ◌⊎◌, true};
 ghost use Rattle.std.specs.List.{range_with_len};
 ghost use Rattle.sccp_base.specs.Answers.{all_ok};
 ghost use Rattle.sccp_layout.specs.Parts.{FitsLayout};
+ghost use Rattle.sccp_message.specs.Messages.{message_of};
 ghost use Rattle.sccp_message.specs.Reading.{Gives, address_in, fields_in, message_in, reading, first_fault};
 ghost use Rattle.sccp_message.specs.Kinds.{is_plain, is_extended, has_parameters, has_no_parameters, message_if_of};
 ghost use Rattle.sccp_message.specs.declared.message.Message.{Message};
@@ -55,40 +56,6 @@ macro_rules! by_code {
     };
 }
 
-// The same of the types that carry addresses and data: their fixed octets, and of some the tested parameters.
-macro_rules! connectionless {
-    ($alloc:ident $code:ident $fixed:ident $variable:ident; $($value:literal $variant:ident { $($octet:ident: octet($place:literal)),* })*) => {
-        match $code {
-            $($value => {
-                let Carried { called, calling, payload } = what_is_carried($alloc, $variable)?;
-                Ok(Message::$variant {
-                    $($octet: $fixed[$place],)*
-                    called,
-                    calling,
-                    payload,
-                })
-            })*
-            _ => Err(DecodeFault::Split(SplitFault::UnknownType)),
-        }
-    };
-    ($alloc:ident $code:ident $fixed:ident $variable:ident $params:ident; $($value:literal $variant:ident { $($octet:ident: octet($place:literal)),* })*) => {
-        match $code {
-            $($value => {
-                let carried = what_is_carried($alloc, $variable)?;
-                let (Carried { called, calling, payload }, params) = with_tested($alloc, carried, $params)?;
-                Ok(Message::$variant {
-                    $($octet: $fixed[$place],)*
-                    called,
-                    calling,
-                    payload,
-                    params,
-                })
-            })*
-            _ => Err(DecodeFault::Split(SplitFault::UnknownType)),
-        }
-    };
-}
-
 // What every connectionless message carries: its addresses are the first two variable parts, and its data are the last.
 #[derive(Drop)]
 struct Carried {
@@ -137,7 +104,33 @@ fn plain_code(code: u8) -> bool
     code == 0x09 || code == 0x0A
 }
 
-#[tactic(auto, unfolding(crate::specs::Reading::message_in))]
+// The message of a code of that kind: nothing can fail any more.
+fn plain_of(code: u8, fixed: &[u8], carried: Carried) -> Message
+    requires code { is_plain code ≡ true }
+    requires fixed { length fixed.now ≡ 1 }
+    ensures { Some result ≡ message_of code fixed.now (carried.called ∷ carried.calling ∷ []) carried.payload [] }
+{
+    let Carried {
+        called,
+        calling,
+        payload,
+    } = carried;
+    if code == 0x09 {
+        return Message::Udt {
+            class: fixed[0],
+            called,
+            calling,
+            payload,
+        };
+    }
+    Message::Udts {
+        cause: fixed[0],
+        called,
+        calling,
+        payload,
+    }
+}
+
 fn plain(
     alloc: Global,
     code: u8,
@@ -148,10 +141,11 @@ fn plain(
     requires { FitsLayout (record { code = code; fixed = fixed.now; variable = variable.now; params = params }) }
     ensures { Gives (λ m. m) result (message_if_of is_plain (record { code = code; fixed = fixed.now; variable = variable.now; params = params })) }
 {
-    connectionless! { alloc code fixed variable;
-        0x09 Udt { class: octet(0) }
-        0x0A Udts { cause: octet(0) }
+    if !plain_code(code) {
+        return Err(DecodeFault::Split(SplitFault::UnknownType));
     }
+    let carried = what_is_carried(alloc, variable)?;
+    Ok(plain_of(code, fixed, carried))
 }
 
 // Connectionless types with a hop counter and an optional part.
@@ -161,7 +155,54 @@ fn extended_code(code: u8) -> bool
     code == 0x11 || code == 0x12 || code == 0x13 || code == 0x14
 }
 
-#[tactic(auto, unfolding(crate::specs::Reading::message_in))]
+// The message of a code of that kind: nothing can fail any more.
+fn extended_of(code: u8, fixed: &[u8], carried: Carried, params: List<Param>) -> Message
+    requires code { is_extended code ≡ true }
+    requires fixed { length fixed.now ≡ 2 }
+    ensures { Some result ≡ message_of code fixed.now (carried.called ∷ carried.calling ∷ []) carried.payload params }
+{
+    let Carried {
+        called,
+        calling,
+        payload,
+    } = carried;
+    let (first, hops) = (fixed[0], fixed[1]);
+    match code {
+        0x11 => Message::Xudt {
+            class: first,
+            hops,
+            called,
+            calling,
+            payload,
+            params,
+        },
+        0x12 => Message::Xudts {
+            cause: first,
+            hops,
+            called,
+            calling,
+            payload,
+            params,
+        },
+        0x13 => Message::Ludt {
+            class: first,
+            hops,
+            called,
+            calling,
+            payload,
+            params,
+        },
+        _ => Message::Ludts {
+            cause: first,
+            hops,
+            called,
+            calling,
+            payload,
+            params,
+        },
+    }
+}
+
 fn extended(
     alloc: Global,
     code: u8,
@@ -172,12 +213,12 @@ fn extended(
     requires { FitsLayout (record { code = code; fixed = fixed.now; variable = variable.now; params = params }) }
     ensures { Gives (λ m. m) result (message_if_of is_extended (record { code = code; fixed = fixed.now; variable = variable.now; params = params })) }
 {
-    connectionless! { alloc code fixed variable params;
-        0x11 Xudt { class: octet(0), hops: octet(1) }
-        0x12 Xudts { cause: octet(0), hops: octet(1) }
-        0x13 Ludt { class: octet(0), hops: octet(1) }
-        0x14 Ludts { cause: octet(0), hops: octet(1) }
+    if !extended_code(code) {
+        return Err(DecodeFault::Split(SplitFault::UnknownType));
     }
+    let carried = what_is_carried(alloc, variable)?;
+    let (carried, params) = with_tested(alloc, carried, params)?;
+    Ok(extended_of(code, fixed, carried, params))
 }
 
 // Connection-oriented types that may have an optional part.
