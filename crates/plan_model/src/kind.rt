@@ -1,7 +1,7 @@
 use sccp_base::PointCode;
 
 /// Why a route is bad.
-#[derive(Clone, Copy, Debug)]
+#[derive(Clone, Copy)]
 pub enum Kind {
     /// The last step is sent to the spot of this hop.
     Loop(u8),

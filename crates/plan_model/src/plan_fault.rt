@@ -2,7 +2,7 @@ use crate::place::Place;
 use plan_rules::RuleFault;
 
 /// What a plan may have too many of: more than 64 nodes, 4,096 rows in all, or 256 covers.
-#[derive(Clone, Copy, Debug)]
+#[derive(Clone, Copy)]
 pub enum Counted {
     Nodes,
     Rows,
@@ -10,7 +10,7 @@ pub enum Counted {
 }
 
 /// Why a text, or nodes and covers, make no plan.
-#[derive(Clone, Copy, Debug)]
+#[derive(Clone, Copy)]
 pub enum PlanFault {
     /// The text isn't TOML.
     NotToml,

@@ -1,7 +1,7 @@
 use sccp_base::OutOfMemory;
 
 /// Why rows make no table. The numbers are places of rows, from 0.
-#[derive(Clone, Copy, Debug)]
+#[derive(Clone, Copy)]
 pub enum RuleFault {
     /// The second row has the selector, the subsystem number or none, and the prefix of the first one.
     Twice(usize, usize),

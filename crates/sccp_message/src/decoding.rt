@@ -18,38 +18,31 @@ use sccp_base::{List, Octets};
 use sccp_layout::{Param, Part, Parts, SplitFault, split};
 use std::alloc::Global;
 
-// The value of one field: it stands at a place of the fixed part, it is a variable part, or it is the parameters, of
-// which those of some names are tested.
+// The value of one field: it is at a place of the fixed part, or it is the data.
 macro_rules! field {
-    (($alloc:ident $fixed:ident $variable:ident $params:ident) reference($place:literal)) => {
+    (($alloc:ident $fixed:ident $variable:ident) reference($place:literal)) => {
         reference($fixed, $place)
     };
-    (($alloc:ident $fixed:ident $variable:ident $params:ident) octet($place:literal)) => {
+    (($alloc:ident $fixed:ident $variable:ident) octet($place:literal)) => {
         $fixed[$place]
     };
-    (($alloc:ident $fixed:ident $variable:ident $params:ident) sequence($place:literal)) => {
+    (($alloc:ident $fixed:ident $variable:ident) sequence($place:literal)) => {
         sequence($fixed[$place])
     };
-    (($alloc:ident $fixed:ident $variable:ident $params:ident) more($place:literal)) => {
+    (($alloc:ident $fixed:ident $variable:ident) more($place:literal)) => {
         is_more($fixed[$place])
     };
-    (($alloc:ident $fixed:ident $variable:ident $params:ident) address($i:literal)) => {
-        address($alloc, $variable, $i)?
-    };
-    (($alloc:ident $fixed:ident $variable:ident $params:ident) data()) => {
+    (($alloc:ident $fixed:ident $variable:ident) data()) => {
         data($alloc, $variable)?
-    };
-    (($alloc:ident $fixed:ident $variable:ident $params:ident) known($($name:ident),*)) => {
-        tested($alloc, &[$($name),*], $params)?
     };
 }
 
-// The message of a code: a line for each type of one kind, with its fields in the order in which they are tested.
+// The message of a code: a line for each type, with its fields.
 macro_rules! by_code {
-    ($alloc:ident $code:ident $fixed:ident $variable:ident $params:ident; $($value:literal $variant:ident { $($field:ident: $kind:ident $place:tt),* })*) => {
+    ($alloc:ident $code:ident $fixed:ident $variable:ident; $($value:literal $variant:ident { $($field:ident: $kind:ident $place:tt),* })*) => {
         match $code {
             $($value => Ok(Message::$variant {
-                $($field: field!(($alloc $fixed $variable $params) $kind $place)),*
+                $($field: field!(($alloc $fixed $variable) $kind $place)),*
             }),)*
             _ => Err(DecodeFault::Split(SplitFault::UnknownType)),
         }
@@ -228,7 +221,91 @@ fn code_with_parameters(code: u8) -> bool
     code == 0x01 || code == 0x02 || code == 0x03 || code == 0x04
 }
 
+// A connection request.
 #[tactic(auto, unfolding(crate::specs::Reading::message_in))]
+fn request(
+    alloc: Global,
+    fixed: &[u8],
+    variable: &List<Part<'_>>,
+    params: List<Param>,
+) -> Result<Message, DecodeFault>
+    requires { FitsLayout (record { code = 0x01; fixed = fixed.now; variable = variable.now; params = params }) }
+    ensures { Gives (λ m. m) result (message_in (record { code = 0x01; fixed = fixed.now; variable = variable.now; params = params })) }
+{
+    let called = address(alloc, variable, 0)?;
+    match tested(alloc, &[CREDIT, CALLING, DATA, HOPS, IMPORTANCE], params) {
+        Ok(params) => Ok(Message::Cr {
+            slr: reference(fixed, 0),
+            class: fixed[3],
+            called,
+            params,
+        }),
+        Err(fault) => {
+            drop(called);
+            Err(fault)
+        }
+    }
+}
+
+// A connection confirmation. Its variable part, and those of the next two, have nothing: only the clause names them.
+#[tactic(auto, unfolding(crate::specs::Reading::message_in))]
+fn confirm(
+    alloc: Global,
+    fixed: &[u8],
+    variable: &List<Part<'_>>,
+    params: List<Param>,
+) -> Result<Message, DecodeFault>
+    requires { FitsLayout (record { code = 0x02; fixed = fixed.now; variable = variable.now; params = params }) }
+    ensures { Gives (λ m. m) result (message_in (record { code = 0x02; fixed = fixed.now; variable = variable.now; params = params })) }
+{
+    let params = tested(alloc, &[CREDIT, CALLED, DATA, IMPORTANCE], params)?;
+    Ok(Message::Cc {
+        dlr: reference(fixed, 0),
+        slr: reference(fixed, 3),
+        class: fixed[6],
+        params,
+    })
+}
+
+// A connection refusal.
+#[tactic(auto, unfolding(crate::specs::Reading::message_in))]
+fn refusal(
+    alloc: Global,
+    fixed: &[u8],
+    variable: &List<Part<'_>>,
+    params: List<Param>,
+) -> Result<Message, DecodeFault>
+    requires { FitsLayout (record { code = 0x03; fixed = fixed.now; variable = variable.now; params = params }) }
+    ensures { Gives (λ m. m) result (message_in (record { code = 0x03; fixed = fixed.now; variable = variable.now; params = params })) }
+{
+    let params = tested(alloc, &[CALLED, DATA, IMPORTANCE], params)?;
+    Ok(Message::Cref {
+        dlr: reference(fixed, 0),
+        cause: fixed[3],
+        params,
+    })
+}
+
+// A release.
+#[tactic(auto, unfolding(crate::specs::Reading::message_in))]
+fn release(
+    alloc: Global,
+    fixed: &[u8],
+    variable: &List<Part<'_>>,
+    params: List<Param>,
+) -> Result<Message, DecodeFault>
+    requires { FitsLayout (record { code = 0x04; fixed = fixed.now; variable = variable.now; params = params }) }
+    ensures { Gives (λ m. m) result (message_in (record { code = 0x04; fixed = fixed.now; variable = variable.now; params = params })) }
+{
+    let params = tested(alloc, &[DATA, IMPORTANCE], params)?;
+    Ok(Message::Rlsd {
+        dlr: reference(fixed, 0),
+        slr: reference(fixed, 3),
+        cause: fixed[6],
+        params,
+    })
+}
+
 fn with_parameters(
     alloc: Global,
     code: u8,
@@ -239,11 +316,12 @@ fn with_parameters(
     requires { FitsLayout (record { code = code; fixed = fixed.now; variable = variable.now; params = params }) }
     ensures { Gives (λ m. m) result (message_if_of has_parameters (record { code = code; fixed = fixed.now; variable = variable.now; params = params })) }
 {
-    by_code! { alloc code fixed variable params;
-        0x01 Cr { slr: reference(0), class: octet(3), called: address(0), params: known(CREDIT, CALLING, DATA, HOPS, IMPORTANCE) }
-        0x02 Cc { dlr: reference(0), slr: reference(3), class: octet(6), params: known(CREDIT, CALLED, DATA, IMPORTANCE) }
-        0x03 Cref { dlr: reference(0), cause: octet(3), params: known(CALLED, DATA, IMPORTANCE) }
-        0x04 Rlsd { dlr: reference(0), slr: reference(3), cause: octet(6), params: known(DATA, IMPORTANCE) }
+    match code {
+        0x01 => request(alloc, fixed, variable, params),
+        0x02 => confirm(alloc, fixed, variable, params),
+        0x03 => refusal(alloc, fixed, variable, params),
+        0x04 => release(alloc, fixed, variable, params),
+        _ => Err(DecodeFault::Split(SplitFault::UnknownType)),
     }
 }
 
@@ -274,7 +352,7 @@ fn without_parameters(
     requires { FitsLayout (record { code = code; fixed = fixed.now; variable = variable.now; params = params }) }
     ensures { Gives (λ m. m) result (message_if_of has_no_parameters (record { code = code; fixed = fixed.now; variable = variable.now; params = params })) }
 {
-    by_code! { alloc code fixed variable params;
+    by_code! { alloc code fixed variable;
         0x05 Rlc { dlr: reference(0), slr: reference(3) }
         0x06 Dt1 { dlr: reference(0), more: more(3), payload: data() }
         0x07 Dt2 { dlr: reference(0), send: sequence(3), receive: sequence(4), more: more(4), payload: data() }
