@@ -1,3 +1,4 @@
+pub mod ByKind
 pub mod DigitTexts
 pub mod HopLines
 pub mod InPlan

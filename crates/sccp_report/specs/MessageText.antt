@@ -1,5 +1,5 @@
 -- The printed text of a message: its type, a line for each field, a line for each parameter.
-use Rattle.std.specs.Prelude.{ℕ, Bool, if◌then◌else◌, List, ◌++◌, codes, Result, Ok, Err}
+use Rattle.std.specs.Prelude.{ℕ, Bool, true, false, if◌then◌else◌, List, [], ◌++◌, codes, Result, Ok, Err}
 use Rattle.sccp_message.specs.Encoding.{canonical}
 use Rattle.sccp_message.specs.Reading.{reading}
 use Rattle.sccp_message.specs.declared.fault.DecodeFault.{DecodeFault}
@@ -29,6 +29,48 @@ message_lines (messages.Xudt class counter to from payload params) = codes "XUDT
 message_lines (messages.Xudts cause counter to from payload params) = codes "XUDTS\n" ++ return_cause cause ++ hops counter ++ called to ++ calling from ++ data_line payload ++ parameter_lines params
 message_lines (messages.Ludt class counter to from payload params) = codes "LUDT\n" ++ class_line class ++ hops counter ++ called to ++ calling from ++ data_line payload ++ parameter_lines params
 message_lines (messages.Ludts cause counter to from payload params) = codes "LUDTS\n" ++ return_cause cause ++ hops counter ++ called to ++ calling from ++ data_line payload ++ parameter_lines params
+
+-- The kinds of types whose lines are put by one function each.
+
+-- connectionless
+abbrev pub is_unit : Message → Bool
+is_unit (messages.Udt class to from payload) = true
+is_unit (messages.Udts cause to from payload) = true
+is_unit (messages.Xudt class counter to from payload params) = true
+is_unit (messages.Xudts cause counter to from payload params) = true
+is_unit (messages.Ludt class counter to from payload params) = true
+is_unit (messages.Ludts cause counter to from payload params) = true
+is_unit _ = false
+
+-- connection-oriented, with parameters
+abbrev pub has_parameters : Message → Bool
+has_parameters (messages.Cr slr class to params) = true
+has_parameters (messages.Cc dlr slr class params) = true
+has_parameters (messages.Cref dlr cause params) = true
+has_parameters (messages.Rlsd dlr slr cause params) = true
+has_parameters _ = false
+
+-- data, and what controls their flow
+abbrev pub is_of_data : Message → Bool
+is_of_data (messages.Dt1 dlr more payload) = true
+is_of_data (messages.Dt2 dlr sent received more payload) = true
+is_of_data (messages.Ak dlr received window) = true
+is_of_data (messages.Ed dlr payload) = true
+is_of_data (messages.It dlr slr class sent received more window) = true
+is_of_data _ = false
+
+-- references, and a cause where there is one
+abbrev pub is_of_references : Message → Bool
+is_of_references (messages.Rlc dlr slr) = true
+is_of_references (messages.Ea dlr) = true
+is_of_references (messages.Rsr dlr slr cause) = true
+is_of_references (messages.Rsc dlr slr) = true
+is_of_references (messages.Err dlr cause) = true
+is_of_references _ = false
+
+-- the lines of a message of a kind; of another one none
+abbrev pub lines_if : (Message → Bool) → Message → List ℕ
+lines_if is message = if is message then message_lines message else []
 
 -- the line on octets that are no message
 unfoldable pub undecodable_line : DecodeFault → List ℕ

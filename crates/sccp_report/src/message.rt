@@ -1,6 +1,6 @@
 ghost use Rattle.std.specs.Prelude.{◌≡◌, ◌++◌, OnOk};
 ghost use Rattle.sccp_report.specs.Fields.{hops as hops_line, called as called_line, calling as calling_line, data_line, parameter_lines};
-ghost use Rattle.sccp_report.specs.MessageText.{message_lines};
+ghost use Rattle.sccp_report.specs.MessageText.{message_lines, lines_if, is_unit, has_parameters, is_of_data, is_of_references};
 
 use crate::address::{put_called, put_calling};
 use crate::fields::{
@@ -44,8 +44,8 @@ fn put_counted_unit(
     put_parameters(text, params)
 }
 
-// What is appended for a message: a line for each type, with its name and what is put for its fields in their order. The last
-// of these, behind the arrow, gives the answer.
+// What is appended for a message of a kind: a line for each type, with its name and what is put for its fields in their order.
+// The last of these, behind the arrow, gives the answer. Nothing is appended for another kind.
 macro_rules! by_type {
     ($text:ident, $message:ident; $($variant:ident { $($field:ident),* } $name:literal: $($put:ident($($value:expr),*)),* => $last:ident($($end:expr),*);)*) => {
         match $message {
@@ -54,34 +54,66 @@ macro_rules! by_type {
                 $($put($text, $($value),*)?;)*
                 $last($text, $($end),*)
             })*
+            _ => Ok(()),
         }
     };
 }
 
-/// The type of a message, and a line for each field and each parameter in their order (Q.713 section 4).
-pub fn put_message(text: &mut Text, message: &Message) -> Result<(), OutOfMemory>
-    ensures { OnOk result (text.new ≡ text.old ++ message_lines message.now) }
+fn put_unit_type(text: &mut Text, message: &Message) -> Result<(), OutOfMemory>
+    ensures { OnOk result (text.new ≡ text.old ++ lines_if is_unit message.now) }
+{
+    by_type! { text, message;
+        Udt { class, called, calling, payload } b"UDT\n": put_class(*class) => put_unit(called, calling, payload);
+        Udts { cause, called, calling, payload } b"UDTS\n": put_return_cause(*cause) => put_unit(called, calling, payload);
+        Xudt { class, hops, called, calling, payload, params } b"XUDT\n": put_class(*class) => put_counted_unit(*hops, called, calling, payload, params);
+        Xudts { cause, hops, called, calling, payload, params } b"XUDTS\n": put_return_cause(*cause) => put_counted_unit(*hops, called, calling, payload, params);
+        Ludt { class, hops, called, calling, payload, params } b"LUDT\n": put_class(*class) => put_counted_unit(*hops, called, calling, payload, params);
+        Ludts { cause, hops, called, calling, payload, params } b"LUDTS\n": put_return_cause(*cause) => put_counted_unit(*hops, called, calling, payload, params);
+    }
+}
+
+fn put_with_parameters(text: &mut Text, message: &Message) -> Result<(), OutOfMemory>
+    ensures { OnOk result (text.new ≡ text.old ++ lines_if has_parameters message.now) }
 {
     by_type! { text, message;
         Cr { slr, class, called, params } b"CR\n": put_source(*slr), put_class(*class), put_called(called) => put_parameters(params);
         Cc { dlr, slr, class, params } b"CC\n": put_destination(*dlr), put_source(*slr), put_class(*class) => put_parameters(params);
         Cref { dlr, cause, params } b"CREF\n": put_destination(*dlr), put_refusal_cause(*cause) => put_parameters(params);
         Rlsd { dlr, slr, cause, params } b"RLSD\n": put_destination(*dlr), put_source(*slr), put_release_cause(*cause) => put_parameters(params);
-        Rlc { dlr, slr } b"RLC\n": put_destination(*dlr) => put_source(*slr);
+    }
+}
+
+fn put_of_data(text: &mut Text, message: &Message) -> Result<(), OutOfMemory>
+    ensures { OnOk result (text.new ≡ text.old ++ lines_if is_of_data message.now) }
+{
+    by_type! { text, message;
         Dt1 { dlr, more, payload } b"DT1\n": put_destination(*dlr), put_more(*more) => put_data(payload);
         Dt2 { dlr, send, receive, more, payload } b"DT2\n": put_destination(*dlr), put_send(*send), put_receive(*receive), put_more(*more) => put_data(payload);
         Ak { dlr, receive, credit } b"AK\n": put_destination(*dlr), put_receive(*receive) => put_credit(*credit);
-        Udt { class, called, calling, payload } b"UDT\n": put_class(*class) => put_unit(called, calling, payload);
-        Udts { cause, called, calling, payload } b"UDTS\n": put_return_cause(*cause) => put_unit(called, calling, payload);
         Ed { dlr, payload } b"ED\n": put_destination(*dlr) => put_data(payload);
+        It { dlr, slr, class, send, receive, more, credit } b"IT\n": put_destination(*dlr), put_source(*slr), put_class(*class), put_send(*send), put_receive(*receive), put_more(*more) => put_credit(*credit);
+    }
+}
+
+fn put_of_references(text: &mut Text, message: &Message) -> Result<(), OutOfMemory>
+    ensures { OnOk result (text.new ≡ text.old ++ lines_if is_of_references message.now) }
+{
+    by_type! { text, message;
+        Rlc { dlr, slr } b"RLC\n": put_destination(*dlr) => put_source(*slr);
         Ea { dlr } b"EA\n": => put_destination(*dlr);
         Rsr { dlr, slr, cause } b"RSR\n": put_destination(*dlr), put_source(*slr) => put_reset_cause(*cause);
         Rsc { dlr, slr } b"RSC\n": put_destination(*dlr) => put_source(*slr);
         Err { dlr, cause } b"ERR\n": put_destination(*dlr) => put_error_cause(*cause);
-        It { dlr, slr, class, send, receive, more, credit } b"IT\n": put_destination(*dlr), put_source(*slr), put_class(*class), put_send(*send), put_receive(*receive), put_more(*more) => put_credit(*credit);
-        Xudt { class, hops, called, calling, payload, params } b"XUDT\n": put_class(*class) => put_counted_unit(*hops, called, calling, payload, params);
-        Xudts { cause, hops, called, calling, payload, params } b"XUDTS\n": put_return_cause(*cause) => put_counted_unit(*hops, called, calling, payload, params);
-        Ludt { class, hops, called, calling, payload, params } b"LUDT\n": put_class(*class) => put_counted_unit(*hops, called, calling, payload, params);
-        Ludts { cause, hops, called, calling, payload, params } b"LUDTS\n": put_return_cause(*cause) => put_counted_unit(*hops, called, calling, payload, params);
     }
+}
+
+/// The type of a message, and a line for each field and each parameter in their order (Q.713 section 4).
+#[tactic(auto, using(crate::proofs::ByKind::by_kind))]
+pub fn put_message(text: &mut Text, message: &Message) -> Result<(), OutOfMemory>
+    ensures { OnOk result (text.new ≡ text.old ++ message_lines message.now) }
+{
+    put_unit_type(text, message)?;
+    put_with_parameters(text, message)?;
+    put_of_data(text, message)?;
+    put_of_references(text, message)
 }
