@@ -19,7 +19,7 @@ pub struct Cover {
 
 impl Cover {
     ghost use Rattle.plan_model.specs.Covered.{Covers};
-    ghost use Rattle.plan_model.specs.Faults.{HasFewDigits, HasNumbers};
+    ghost use Rattle.plan_model.specs.Faults.{HasNumbers};
 
     /// Whether the cover allows a place.
     pub fn allows(&self, pc: PointCode, ssn: u8) -> bool
@@ -40,13 +40,6 @@ impl Cover {
             && spot.digits.starts_with(&self.prefix)
             && usize::from(self.least) <= count
             && count <= usize::from(self.most)
-    }
-
-    /// Whether its least and most are at most 32.
-    pub fn has_few_digits(&self) -> bool
-        ensures { IsTrue result ↔ HasFewDigits self.now }
-    {
-        self.least <= 32 && self.most <= 32
     }
 
     /// Tells what the types of the cover's numbers keep, for a contract that speaks of covers alone. It does nothing when it

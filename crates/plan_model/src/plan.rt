@@ -3,7 +3,7 @@ ghost use Rattle.std.specs.List.{position, Any};
 ghost use Rattle.plan_model.specs.Covered.{Covered, Covers};
 
 use crate::cover::Cover;
-use crate::faults::{are_sound, first_fault, have_few_digits, place_of_name, place_of_point};
+use crate::faults::{first_fault, place_of_name, place_of_point};
 use crate::node::Node;
 use crate::plan_fault::PlanFault;
 use crate::spot::Spot;
@@ -31,19 +31,11 @@ impl Plan {
     ghost use Rattle.plan_model.specs.Network.{IsPlan, IsNode, network, has_name, has_point, node_of};
     ghost use Rattle.plan_model.specs.Faults.{plan_fault, HasFewDigits};
 
-    /// Whether `build` takes the nodes and covers: each node's subsystems, and those that its rows and their targets name, lie
-    /// from 2 to 255, neither its subsystems nor its concerned points repeat, and each cover's least and most are at most 32.
-    pub fn can_build(nodes: &List<Node>, covers: &List<Cover>) -> bool
-        ensures { IsTrue result ↔ ((All IsNode nodes.now) × (All HasFewDigits covers.now)) }
-    {
-        if !are_sound(nodes.as_slice()) {
-            return false;
-        }
-        have_few_digits(covers.as_slice())
-    }
-
     /// A plan of these nodes and covers, or the first test that they fail: `Limit`, `Repeated`, `UnknownNode`,
     /// `RelayToSelf`, `NoCover`, `BadCover`. Each test goes over all of them before the next begins. It takes no memory.
+    ///
+    /// Each node's subsystems, and those that its rows and their targets name, lie from 2 to 255. Neither its subsystems nor
+    /// its concerned points repeat. Each cover's least and most are at most 32.
     pub fn build(nodes: List<Node>, covers: List<Cover>) -> Result<Plan, PlanFault>
         requires nodes { All IsNode nodes }
         requires covers { All HasFewDigits covers }
