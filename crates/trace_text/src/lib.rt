@@ -20,5 +20,5 @@ pub use file_name::is_file_name;
 pub use hex_word::octets_of;
 pub use line::{Line, Numbered};
 pub use line_fault::{LineFault, LineKind};
-pub use lines::{FirstLine, LONGEST_LINE, MOST_LINES, content, first_line};
+pub use lines::{FirstLine, content, first_line};
 pub use reader::Reader;

@@ -6,10 +6,10 @@ use crate::line_fault::{LineFault, LineKind};
 use memchr::memchr;
 
 /// How many lines a text may have.
-pub const MOST_LINES: u32 = 1_000_000;
+const MOST_LINES: u32 = 1_000_000;
 
 /// How many octets a line may have, a carriage return at its end among them.
-pub const LONGEST_LINE: usize = 8192;
+const LONGEST_LINE: usize = 8192;
 
 /// The first line of a text, without its line feed, whether a line feed ends it, and what follows.
 #[derive(Clone, Copy)]
