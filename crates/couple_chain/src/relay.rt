@@ -97,26 +97,6 @@ impl Relay {
         Ok(())
     }
 
-    /// The relay takes a connection-oriented message from a point, and this is what it sends. An error is want of memory, and
-    /// leaves the relay as it was.
-    pub fn take(
-        &mut self,
-        plan: &Plan,
-        marking: &Marking,
-        origin: PointCode,
-        message: &Message,
-    ) -> Result<List<Sent>, OutOfMemory>
-        requires node { self.old.node < length plan.now.nodes }
-        requires short { HasShortParts message.now }
-        ensures state { OnOk result (self.new ≡ relay_after self.old (event_of plan.now self.old.node marking.now origin message.now)) }
-        ensures sent { IfOk result (λ sent. sent ≡ map written_sent (coupled self.old.sections (event_of plan.now self.old.node marking.now origin message.now)).sent) }
-        ensures err { OnErr result (self.new ≡ self.old) }
-    {
-        let Prepared { exchange, sent } = self.prepare(plan, marking, origin, message)?;
-        self.commit(exchange, origin, message)?;
-        Ok(sent)
-    }
-
     /// The sections, in the order in which they were made, of a pair the near one first.
     pub fn sections(&self) -> &List<Section>
         ensures { result.now ≡ self.now.sections }
