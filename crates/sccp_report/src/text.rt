@@ -43,13 +43,6 @@ impl Text {
         self.octets.as_slice()
     }
 
-    /// Begins anew, in the memory that it has.
-    pub fn clear(&mut self)
-        ensures { self.new ≡ [] }
-    {
-        self.octets.clear();
-    }
-
     /// Appends words as they stand.
     pub fn put(&mut self, words: &[u8]) -> Result<(), OutOfMemory>
         ensures { OnOk result (self.new ≡ self.old ++ words.now) }
