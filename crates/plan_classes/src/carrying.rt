@@ -1,5 +1,5 @@
 //! From a rewritten title back to the one that it was made of.
-ghost use Rattle.std.specs.Prelude.{◌≡◌, ◌<◌, ◌≤◌, ◌++◌, length, take, drop, slice_get, Some};
+ghost use Rattle.std.specs.Prelude.{◌≡◌, ◌<◌, ◌≤◌, ◌++◌, ℕ, List, length, take, drop, slice_get, Some};
 ghost use Rattle.std.specs.Option.{option_copied};
 ghost use Rattle.plan_model.specs.Network.{IsPlan};
 ghost use Rattle.plan_model.specs.declared.hop.Step.TheVariants.{Sent};
@@ -42,7 +42,7 @@ fn class_target<'a>(plan: &'a Plan, class: &Class, place: u8) -> Option<&'a Targ
     }
 }
 
-/// The title of the class whose rewriting by a target is these digits. The class is decided, the target leads it to a next
+/// The one title of the class whose rewriting by a target is these digits. The class is decided, the target leads it to a next
 /// class, and the digits are one of that class's titles. It takes no memory.
 pub fn carry_back(plan: &Plan, class: &Class, target: u8, digits: &Digits) -> Digits
     requires node { class.now.node < length plan.now.nodes }
@@ -50,6 +50,7 @@ pub fn carry_back(plan: &Plan, class: &Class, target: u8, digits: &Digits) -> Di
     requires next { IsInImage plan.now class.now target digits.now }
     ensures member { IsMember class.now result }
     ensures leads { (next : Titles) → HasImage plan.now class.now target (Next next) → brought plan.now class.now target result ≡ Some (Sent (spot_of next digits.now) target) }
+    ensures only { (next : Titles) (other : List ℕ) → IsMember class.now other → brought plan.now class.now target other ≡ Some (Sent (spot_of next digits.now) target) → other ≡ result }
 {
     match class_target(plan, class, target) {
         Some(Target::Relay { strip, put, .. }) => {

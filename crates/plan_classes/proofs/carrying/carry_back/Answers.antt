@@ -30,3 +30,9 @@ returns-clause-leads c = λ next h.
     carries_there _ _ _ _ _ _ _ _ _ c.class_target.ensures.sound c.class_target.ensures.class c.requires.decided c.requires.node (sym c.in-Some-Relay.ensures.value ∙ ap (λ (t : Target). Some t) c.in-Some-Relay.field-0-is) c.requires.next in
     subst (λ (ds : List ℕ). brought c.args.plan.now c.args.class.now c.args.target ds ≡ Some (Sent (spot_of next c.args.digits.now) c.args.target))
     (sym (c.carried_back.ensures ∙ ap (λ (ks : List ℕ). take c.in-Some-Relay.strip ks ++ drop (length c.in-Some-Relay.put) c.args.digits.now) c.known.ensures.value)) (k.leads next h)
+
+pub returns-clause-only : goal.returns-clause-only
+returns-clause-only c = λ next other o e.
+    let k : Carries c.args.plan.now c.args.class.now c.args.target c.in-Some-Relay.strip c.in-Some-Relay.put c.args.digits.now =
+    carries_there _ _ _ _ _ _ _ _ _ c.class_target.ensures.sound c.class_target.ensures.class c.requires.decided c.requires.node (sym c.in-Some-Relay.ensures.value ∙ ap (λ (t : Target). Some t) c.in-Some-Relay.field-0-is) c.requires.next in
+    k.only next other o e ∙ sym (c.carried_back.ensures ∙ ap (λ (ks : List ℕ). take c.in-Some-Relay.strip ks ++ drop (length c.in-Some-Relay.put) c.args.digits.now) c.known.ensures.value)
