@@ -3,6 +3,7 @@
 
 Run it from anywhere: tools/test_plan_of_csv.py. It needs nothing but Python, and no built program.
 """
+import difflib
 import os
 import subprocess
 import sys
@@ -89,6 +90,11 @@ allowed = ["2-0-1/6"]
 def run(*words):
     done = subprocess.run([sys.executable, TOOL, *words], capture_output=True, check=False)
     return done.returncode, done.stdout, done.stderr.decode()
+
+
+def hub(name):
+    with open(os.path.join(HUB, name), encoding="utf-8", newline="") as file:
+        return file.read()
 
 
 class Case(unittest.TestCase):
@@ -189,8 +195,23 @@ targets = [
     def test_the_plan_of_the_hub(self):
         status, out, told = run(*(os.path.join(HUB, name) for name in ("relays.csv", "rows.csv", "covers.csv")))
         self.assertEqual((0, ""), (status, told))
-        with open(os.path.join(HUB, "plan.toml"), "rb") as file:
-            self.assertEqual(file.read(), out)
+        self.assertEqual(hub("plan.toml"), out.decode())
+
+    def test_the_other_plans_of_the_hub_differ_only_as_they_say(self):
+        plan = hub("plan.toml")
+        head, refused = hub("refused.toml").split("\n#\n", 1)
+        self.assertEqual("# The plan of plan.toml with one mistake, in the row of in2 for the home network (rows.csv 42).", head)
+        changes = [line for line in difflib.ndiff(plan.split("\n"), refused.split("\n")) if line[0] in "+-"]
+        self.assertEqual([
+            "- # rows.csv 42: Home network",
+            "+ # rows.csv 42: Home network. The mistake: in1 is a backup, as in2 is in the table of in1 that this one was copied from",
+            '- targets = [{ relay = "home" }]', '+ targets = [{ relay = "home" }, { relay = "in1" }]'], changes)
+        head, east_first = hub("east_first.toml").split("\n#\n", 1)
+        self.assertEqual("# The plan of plan.toml with Carrier East before Carrier West for all country codes, while West is not stable.", head)
+        for kept in ("", ', selector = "4:0:1:4"', ', selector = "4:0:7:4"'):
+            west, east = f'{{ relay = "west"{kept} }}', f'{{ relay = "east"{kept} }}'
+            plan = plan.replace(f"{west}, {east}", f"{east}, {west}")
+        self.assertEqual(plan, east_first)
 
 
 class Faults(Case):
