@@ -136,7 +136,7 @@ class Table:
 
     def __init__(self, path, place_of, faults):
         self.path, self.place, self.faults = path, place_of, faults
-        self.base = os.path.basename(path)
+        self.base = one_line(os.path.basename(path)).encode("utf-8", "replace").decode()
         self.head, self.head_line, self.above, self.records = None, 1, [], []
 
     def fault(self, line, text, column=0):
@@ -345,12 +345,12 @@ class Row:
             target = self.record.value(column, lambda text: Target(text, names, drop, put))
             if target is not None:
                 found.append((column, target))
-                self.test_target(column, target)
+                self.check_target(column, target)
         if empty == "target1":
             self.record.fault(empty, "a target")
         return [target for _, target in found]
 
-    def test_target(self, column, target):
+    def check_target(self, column, target):
         """The rules of a table of rows that one target may break."""
         if target.relay is None:
             return
@@ -361,7 +361,8 @@ class Row:
         if target.selector is not None and target.selector.startswith("2:"):
             self.record.fault(column, "a new selector of another kind than 2", target.selector)
         if self.selector is not None and self.selector.startswith("2:") and target.selector is None and target.change() % 2:
-            self.record.fault(column, "an even number of digits dropped and put together, since the title is of kind 2", str(target.change()))
+            expected = "an even number of digits dropped and put together, since the title is of kind 2"
+            self.record.fault(column, expected, str(target.change()))
 
     def key(self):
         return self.relay, self.selector, self.ssn, self.prefix
@@ -417,7 +418,7 @@ def known_relay(record, names):
     return None
 
 
-def test_repeats(found, key, column, expected):
+def report_repeats(found, key, column, expected):
     """Reports each record whose key an earlier one has. A key has the value None for what does not read."""
     met = {}
     for one in found:
@@ -434,8 +435,8 @@ def read_relays(table):
     if not table.has_columns(["name", "point"], ["subsystems", "concerned", "comment"]):
         return []
     relays = [Relay(record) for record in table.lines(MOST_RELAYS, "relays")]
-    test_repeats(relays, lambda relay: (relay.name,), "name", "a name of its own")
-    test_repeats(relays, lambda relay: (relay.point,), "point", "a point code of its own")
+    report_repeats(relays, lambda relay: (relay.name,), "name", "a name of its own")
+    report_repeats(relays, lambda relay: (relay.point,), "point", "a point code of its own")
     return relays
 
 
@@ -444,7 +445,7 @@ def read_rows(table, names):
     if not table.has_columns(["relay", "selector", "prefix", "target1"], ["ssn", "drop", "put"] + targets[1:] + ["comment"]):
         return []
     rows = [Row(record, names) for record in table.lines(MOST_ROWS, "rows")]
-    test_repeats(rows, Row.key, "prefix", "one row for a relay, selector, ssn and prefix")
+    report_repeats(rows, Row.key, "prefix", "one row for a relay, selector, ssn and prefix")
     return rows
 
 
