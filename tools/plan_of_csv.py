@@ -484,6 +484,9 @@ def plan_of(tables, faults):
 
 
 def main(words):
+    if words in (["-h"], ["--help"]):
+        print(__doc__, end="")
+        return 0
     if len(words) != 3:
         print("usage: plan_of_csv.py RELAYS ROWS COVERS > PLAN", file=sys.stderr)
         return 64

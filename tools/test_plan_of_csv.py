@@ -305,6 +305,8 @@ covers.csv:258: expected at most 256 covers, found 258
 
     def test_words_and_files(self):
         self.assertEqual((64, b"", "usage: plan_of_csv.py RELAYS ROWS COVERS > PLAN\n"), run("relays.csv", "rows.csv"))
+        status, out, told = run("--help")
+        self.assertEqual((0, b"Makes a plan file of version 2 from three tables in CSV.", ""), (status, out.split(b"\n")[0], told))
         absent = self.path("absent.csv")
         self.assertEqual((74, b"", f"{absent}: cannot be read: No such file or directory\n" * 3), run(absent, absent, absent))
 
