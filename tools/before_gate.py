@@ -54,7 +54,8 @@ def misfits_in(crate, place):
 
 def main():
     crates = sorted(os.listdir(CRATES))
-    told = [f"wrong_bodies/{name}: there is no such crate" for name in sorted(os.listdir(BODIES)) if name not in crates]
+    folders = sorted(name for name in os.listdir(BODIES) if os.path.isdir(os.path.join(BODIES, name)))
+    told = [f"wrong_bodies/{name}: there is no such crate" for name in folders if name not in crates]
     told += [line for crate in crates for line in laid_out(crate) + misfits(crate)]
     print("\n".join(told) if told else "all files are laid out, and all edits fit")
     return 1 if told else 0

@@ -5,9 +5,10 @@ The gate tries those of crates/CRATE/must-fail/, the few of each crate that a re
 all that was proved, whatever line it turns. The others stand in wrong_bodies/CRATE/, in the same form, and are tried where
 their crate, its proofs or its contracts change.
 
-Run it from anywhere: tools/wrong_bodies.py CRATE .., or without a name for all. It works in a copy of the crates with the
-libraries that stand in out/, and first proves each of these crates anew, and the libraries that are missing. Status 1 says that
-one wasn't refused, or only since a proof names what it takes away, or couldn't be tried.
+Run it from anywhere: tools/wrong_bodies.py CRATE [NAME ..] .., or without a word for all. The names after a crate are some of
+its bodies, with or without `.edit`; without one all of them are tried. It works in a copy of the crates with the libraries
+that stand in out/, and first proves each of these crates anew, and the libraries that are missing. Status 1 says that one
+wasn't refused, or only since a proof names what it takes away, or couldn't be tried.
 """
 import os
 import shutil
@@ -24,17 +25,36 @@ def left_out(folder, names):
     return set(names) - {"rlib"} if os.path.basename(folder) == "out" else set(names) & {"must-fail"}
 
 
-def copy(folder, names):
-    """A copy of the repository in which these crates have the wrong bodies of wrong_bodies/ as their edits."""
+def copy(folder, chosen):
+    """A copy of the repository in which these crates have these wrong bodies as their edits."""
     for name in ("crates.txt", "HANDLES"):
         shutil.copy(os.path.join(TOP, name), folder)
     shutil.copytree(os.path.join(TOP, "crates"), os.path.join(folder, "crates"), ignore=left_out)
-    for name in names:
-        shutil.copytree(os.path.join(BODIES, name), os.path.join(folder, "crates", name, "must-fail"))
+    for name, bodies in chosen.items():
+        to = os.path.join(folder, "crates", name, "must-fail")
+        os.mkdir(to)
+        for body in bodies:
+            shutil.copy(os.path.join(BODIES, name, body), to)
 
 
 def bodies_of(name):
-    return [body for body in os.listdir(os.path.join(BODIES, name)) if body.endswith(".edit")]
+    return sorted(body for body in os.listdir(os.path.join(BODIES, name)) if body.endswith(".edit"))
+
+
+def chosen_by(words):
+    """The bodies of each crate that the words name."""
+    crates = sorted(name for name in os.listdir(BODIES) if os.path.isdir(os.path.join(BODIES, name)))
+    chosen, crate = {name: [] for name in ([] if words else crates)}, None
+    for word in words:
+        body = word if word.endswith(".edit") else f"{word}.edit"
+        if word in crates:
+            crate = word
+            chosen.setdefault(crate, [])
+        elif crate and body in bodies_of(crate):
+            chosen[crate].append(body)
+        else:
+            sys.exit(f"wrong_bodies/ has no {word}")
+    return {name: sorted(set(bodies)) or bodies_of(name) for name, bodies in chosen.items()}
 
 
 def is_refused(line):
@@ -53,14 +73,11 @@ def tried(folder, names):
 
 
 def main():
-    names = sorted(set(sys.argv[1:] or os.listdir(BODIES)))
-    missing = [name for name in names if not os.path.isdir(os.path.join(BODIES, name))]
-    if missing:
-        sys.exit(f"wrong_bodies/ has none of {' '.join(missing)}")
-    wanted = sum(len(bodies_of(name)) for name in names)
+    chosen = chosen_by(sys.argv[1:])
+    wanted = sum(len(bodies) for bodies in chosen.values())
     with tempfile.TemporaryDirectory() as folder:
-        copy(folder, names)
-        refused, well = tried(folder, names)
+        copy(folder, chosen)
+        refused, well = tried(folder, sorted(chosen))
     print(f"{refused} of {wanted} refused")
     return 0 if well and refused == wanted else 1
 
