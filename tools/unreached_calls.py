@@ -283,7 +283,7 @@ class Types:
                 while end < len(tokens) and tokens[end] != ("name", "in"):
                     end += 1
                 self.blurred |= {t for k, t in tokens[i + 1:min(end, i + 30)] if k == "name"}
-            elif (kind, token) == ("mark", "|"):
+            elif (kind, token) == ("mark", "|") and i and tokens[i - 1][1] in ("(", ",", "=", "{", ";", "=>", "move", "return"):
                 end = i + 1
                 while end < min(len(tokens), i + 30) and tokens[end][1] != "|":
                     end += 1
@@ -705,7 +705,7 @@ class Sources:
                     end = group_end(tokens, place)
                     count, sure = params_of(tokens[place + 1:end - 1])
                     kind = types.at(i - 2)
-                    calls.add((token, count if sure and not in_macro else None, None if in_macro else kind and kind.what()))
+                    calls.add((token, count if sure else None, kind and kind.what()))
                 i += 1
                 continue
             path, place = [token], i + 1
