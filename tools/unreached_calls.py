@@ -311,7 +311,7 @@ class Types:
     def at(self, end):
         """The type of the expression whose last token is at this place, or None."""
         tokens = self.tokens
-        if end < 0 or (end, "at") in self.asked:
+        if end < 0:
             return None
         kind, token = tokens[end]
         if token == "?":
