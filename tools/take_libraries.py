@@ -7,6 +7,7 @@ A library is taken if its crate and all crates below are the same in both checko
 all libraries below it were taken. One that this checkout has stays. So it may run while the gate does: it takes what is
 done, by hard links. Do not run it beside a check of this checkout. The last line counts.
 """
+import functools
 import os
 import shutil
 import sys
@@ -16,6 +17,8 @@ TOP = os.path.dirname(os.path.dirname(os.path.abspath(__file__)))
 sys.dont_write_bytecode = True
 sys.path.insert(0, os.path.dirname(os.path.realpath(shutil.which("rt") or sys.exit("there is no rt on the path"))))
 import rtlib
+
+rtlib.Crate.stamp = functools.lru_cache(None)(rtlib.Crate.stamp)  # it reads all files below, and is asked for often
 
 
 def taken(at, crate):
