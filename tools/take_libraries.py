@@ -3,9 +3,9 @@
 
   tools/take_libraries.py CHECKOUT
 
-A library is taken if its crate and all crates below are the same in both checkouts, if it is newer than their files, and if
-all libraries below it were taken. One that this checkout has stays. So it may run while the gate does: it takes what is
-done, by hard links. Do not run it beside a check of this checkout. The last line counts.
+A library is taken if its crate and all crates below are the same in both checkouts, if it has a stamp or is newer than
+their files, and if all libraries below it were taken. One that this checkout has stays. So it may run while the gate does:
+it takes what is done, by hard links. Do not run it beside a check of this checkout. The last line counts.
 """
 import functools
 import os
@@ -26,7 +26,7 @@ def taken(at, crate):
     if crate.is_built():  # libraries above fit only over the very same
         return rtlib.sum_of(f"{at.rlib}/format") == rtlib.sum_of(f"{crate.rlib}/format")
     made, files = os.stat(f"{at.rlib}/format").st_mtime, [file for it in [at, *at.below()] for file in rtlib.files_of(it.folder)]
-    if not max(os.stat(file).st_mtime for file in files) < made < time.time() - 20:  # of other files, or still being written
+    if not at.is_built() and not max(os.stat(file).st_mtime for file in files) < made < time.time() - 20:  # of other files, or not whole yet
         return False
     shutil.rmtree(os.path.dirname(crate.rlib), ignore_errors=True)
     shutil.copytree(at.rlib, crate.rlib, copy_function=os.link)
