@@ -103,7 +103,7 @@ class Tree:
 
 class Documents(unittest.TestCase):
     def found(self, readme, *words, program=PROGRAM):
-        """The status of the tool over a tree, and what it told; it prints nothing else, and leaves nothing in the scratch folder."""
+        """The status of the tool over a tree, and what it reported. It prints nothing else, and leaves nothing in the scratch folder."""
         tree = Tree(readme, program)
         with tree.folder:
             with tree.begin(*words) as process:
@@ -121,7 +121,7 @@ class Documents(unittest.TestCase):
     def test_a_right_document_passes(self):
         status, told = self.found(RIGHT)
         self.assertEqual(status, 0, told)
-        self.assertIn("README.md: 8 commands, 3 paths, 2 links, 1 commands left out: all as shown", told)
+        self.assertIn("README.md: 8 commands, 2 paths, 2 links, 1 commands left out: all as shown", told)
         self.assertIn("since no-such-program is not there", told)
 
     def test_another_output_is_a_fault(self):
@@ -163,6 +163,17 @@ class Documents(unittest.TestCase):
         status, told = self.found(RIGHT, "--program", "nothing-here")
         self.assertEqual(status, 1)
         self.assertIn("there is no program nothing-here", told)
+
+    def test_the_proved_program_comes_first(self):
+        tree = Tree("```\n$ ./sccp\nproved\n```\n")
+        with tree.folder:
+            for name, text in (("tools/sources", "echo 12ab sccp_base sccp"), ("out/proved/12ab/sccp", "echo proved")):
+                tree.write(name, f"#!/usr/bin/env bash\n{text}\n")
+                os.chmod(os.path.join(tree.top, name), 0o755)
+            with tree.begin() as process:
+                _, told = process.communicate(timeout=60)
+            self.assertEqual(process.returncode, 0, told)
+            self.assertIn("the program is out/proved/12ab/sccp", told)
 
     def test_an_end_by_a_signal_leaves_nothing(self):
         for number in (signal.SIGINT, signal.SIGTERM):
