@@ -68,6 +68,14 @@ $ cat kept.txt | wc -l
 # A right document
 """
 
+HELP = """NAME
+  count - counts, as docs/OTHER.md says
+
+EXAMPLE
+  $ ./sccp count 2 | tail -1
+  line 2
+"""
+
 OTHER = """# The other page
 
 ## Two words, and `code`
@@ -77,10 +85,10 @@ OTHER = """# The other page
 class Tree:
     """A small repository with the tool in it."""
 
-    def __init__(self, readme, program=PROGRAM):
+    def __init__(self, readme, program=PROGRAM, help_text=HELP):
         self.folder = tempfile.TemporaryDirectory()
         self.top = os.path.join(self.folder.name, "repository")
-        for name, text in (("README.md", readme), ("docs/OTHER.md", OTHER), ("examples/plan.txt", "a plan\n\nwith an empty line\n")):
+        for name, text in (("README.md", readme), ("docs/OTHER.md", OTHER), ("docs/help/count.txt", help_text), ("examples/plan.txt", "a plan\n\nwith an empty line\n")):
             self.write(name, text)
         if program:
             self.write("crates/sccp/out/sccp", program)
@@ -102,9 +110,9 @@ class Tree:
 
 
 class Documents(unittest.TestCase):
-    def found(self, readme, *words, program=PROGRAM):
+    def found(self, readme, *words, program=PROGRAM, help_text=HELP):
         """The status of the tool over a tree, and what it reported. It prints nothing else, and leaves nothing in the scratch folder."""
-        tree = Tree(readme, program)
+        tree = Tree(readme, program, help_text)
         with tree.folder:
             with tree.begin(*words) as process:
                 printed, told = process.communicate(timeout=60)
@@ -140,6 +148,13 @@ class Documents(unittest.TestCase):
         self.assert_fault(RIGHT.replace("[status 64]", "[status 1]"), "1 faults", "ends with status 64, not 1",
                           "standard error: no command say")
 
+    def test_an_example_of_a_help_text_counts(self):
+        status, told = self.found(RIGHT)
+        self.assertIn("docs/help/count.txt: 1 commands, 1 paths, 0 links: all as shown", told)
+        status, told = self.found(RIGHT, help_text=HELP.replace("  line 2", "  line 3"))
+        self.assertEqual(status, 1)
+        self.assertIn("line 5: $ ./sccp count 2 | tail -1: prints something else", told)
+
     def test_a_path_that_is_not_there_is_a_fault(self):
         self.assert_fault(RIGHT.replace("`examples/plan.txt`", "`examples/other.txt`"), "line 3: there is no examples/other.txt")
 
@@ -170,7 +185,7 @@ class Documents(unittest.TestCase):
             for name, text in (("tools/sources", "echo 12ab sccp_base sccp"), ("out/proved/12ab/sccp", "echo proved")):
                 tree.write(name, f"#!/usr/bin/env bash\n{text}\n")
                 os.chmod(os.path.join(tree.top, name), 0o755)
-            with tree.begin() as process:
+            with tree.begin(os.path.join(tree.top, "README.md")) as process:
                 _, told = process.communicate(timeout=60)
             self.assertEqual(process.returncode, 0, told)
             self.assertIn("the program is out/proved/12ab/sccp", told)

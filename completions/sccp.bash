@@ -1,0 +1,98 @@
+# Completion of sccp for bash: commands, files, and what the plan in the words has: relays, selectors, subsystem numbers, points.
+# To try it: source completions/sccp.bash
+
+# Each command with its words. tools/make_man.py makes this table of docs/help.
+_sccp_uses='
+show-hex HEX
+show FILE
+cuts HEX
+route PLAN NODE SELECTOR SSN DIGITS
+verify PLAN
+change OLD NEW
+replay PLAN TRACE WORKERS
+load NUMBER SIZE WORKERS
+send-on PLAN NODE ORIGIN SIZE HEX
+connect PLAN NODE FROM SELECTOR SSN DIGITS HEX
+import PLAN FILE
+--help COMMAND
+--version
+--prove
+'
+# The end of the table.
+
+# Sets kind to what may take the place of the last of these words, and plan to the first plan before it.
+_sccp_look() {
+  local line use place
+  kind=COMMAND plan=''
+  [ $# -gt 1 ] || return
+  while read -r line; do
+    read -ra use <<<"$line"
+    [ "${use[0]-}" = "$1" ] || continue
+    for ((place = 1; place < $#; place++)); do
+      kind=${use[place]-}
+      if [ -z "$plan" ] && ((place < $# - 1)); then
+        case $kind in PLAN | OLD) plan=${*:place+1:1} ;; esac
+      fi
+    done
+    return
+  done <<<"$_sccp_uses"
+  kind=''
+}
+
+# The values that these keys have in the plan, one a line.
+_sccp_values() {
+  local file=${plan/#\~/$HOME} keys=$1
+  [ -f "$file" ] || return
+  awk -v keys="$keys" '
+    { sub(/^[ \t]*#.*/, "") }
+    {
+      while (match($0, "(^|[^A-Za-z0-9_-])(" keys ")[ \t]*=[ \t]*(\"[^\"]*\"|\\[[^]]*\\]|[0-9]+)")) {
+        text = substr($0, RSTART, RLENGTH)
+        $0 = substr($0, RSTART + RLENGTH)
+        sub(/^[^=]*=/, "", text)
+        gsub(/[][", \t]+/, "\n", text)
+        print text
+      }
+    }' "$file" | sort -u
+}
+
+# The commands. The words of the launcher are offered if one is begun, and if the program is called by a path, as the launcher is.
+_sccp_first() {
+  local kept=-v
+  [[ $current == -* && $program == */* && ${#words[@]} -eq 1 ]] && kept=-e
+  cut -d ' ' -f 1 <<<"$_sccp_uses" | grep $kept '^--'
+}
+
+_sccp() {
+  local words program current kind plan
+  read -ra words <<<"${COMP_LINE:0:COMP_POINT}"
+  [[ ${COMP_LINE:0:COMP_POINT} == *[[:blank:]] ]] && words+=('')
+  program=${words[0]}
+  words=("${words[@]:1}")
+  current=${words[${#words[@]} - 1]-}
+  _sccp_look "${words[@]}"
+  COMPREPLY=()
+  case $kind in
+    COMMAND) mapfile -t COMPREPLY < <(compgen -W "$(_sccp_first)" -- "$current") ;;
+    PLAN | OLD | NEW)
+      compopt -o filenames 2>/dev/null
+      mapfile -t COMPREPLY < <(compgen -f -X '!*.toml' -- "$current"; compgen -d -- "$current")
+      [ ${#COMPREPLY[@]} -gt 0 ] || mapfile -t COMPREPLY < <(compgen -f -- "$current")
+      ;;
+    FILE | TRACE)
+      compopt -o filenames 2>/dev/null
+      mapfile -t COMPREPLY < <(compgen -f -- "$current")
+      ;;
+    NODE) mapfile -t COMPREPLY < <(compgen -W "$(_sccp_values name)" -- "$current") ;;
+    SELECTOR) mapfile -t COMPREPLY < <(compgen -W "$(_sccp_values selector)" -- "$current") ;;
+    SSN) mapfile -t COMPREPLY < <(compgen -W "0 $(_sccp_values 'ssn|subsystems')" -- "$current") ;;
+    FROM | ORIGIN) mapfile -t COMPREPLY < <(compgen -W "$(_sccp_values 'final|concerned')" -- "$current") ;;
+    WORKERS) mapfile -t COMPREPLY < <(compgen -W "$(seq 16)" -- "$current") ;;
+  esac
+  # For bash a colon ends a word, so all up to the last one is there already.
+  if [[ $current == *:* && $COMP_WORDBREAKS == *:* ]]; then
+    COMPREPLY=("${COMPREPLY[@]#"${current%"${current##*:}"}"}")
+  fi
+}
+
+complete -F _sccp sccp
