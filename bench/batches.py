@@ -12,7 +12,7 @@ So each run gives a time for each of its 97 whole batches, where bench/workers.p
 disturbs don't hide the others. Told are the time in the middle of all batches and the quartiles, and how many times as fast as
 one worker that is, middle by middle and quartile by quartile. Replays with one worker and with several are made in turn.
 
-Run it as root from anywhere: bench/batches.py [--awake] [PROGRAM]. It wants tracefs and nm, and builds nothing: run ./sccp once
+Run it as root from anywhere: bench/batches.py [--awake] [PROGRAM]. It wants tracefs and nm, and builds nothing: run ./sccp --prove
 before. `--awake` is that of bench/workers.py: a processor of a shared host that sleeps is woken by the host, which may take
 longer than a batch.
 """

@@ -8,7 +8,7 @@ relays to the next relay. In the new one, one row in ten relays to the one after
 A cover has 1,411 classes in the old plan: 111 at n0, with no, one or two known digits, and 100 at each relay behind it. A
 second pair is the old plan with itself. The time has to grow as the number of classes does.
 
-Run it from anywhere: bench/change.py [PROGRAM]. It builds nothing: run ./sccp once before.
+Run it from anywhere: bench/change.py [PROGRAM]. It builds nothing: run ./sccp --prove before.
 """
 import os
 import subprocess

@@ -20,7 +20,7 @@ A kind whose command the program hasn't is left out, and said so. Nothing may co
 signal or take more than a minute, twice. The first ten faults are printed with the file that shows each, which is kept; the last
 line counts, and the status is 0 where no fault came.
 
-It builds nothing: run ./sccp once before.
+It builds nothing: run ./sccp --prove before.
 """
 import argparse
 import collections

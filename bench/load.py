@@ -7,7 +7,7 @@ Run from anywhere:
   bench/load.py [PROGRAM]               compares the program's lines with these, for drawn numbers, by one worker and by a
                                         drawn number of workers, and measures it
 
-It builds nothing: run ./sccp once before. Walks are made over the written targets, with what each relay has lost.
+It builds nothing: run ./sccp --prove before. Walks are made over the written targets, with what each relay has lost.
 """
 import os
 import random

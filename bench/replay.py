@@ -7,7 +7,7 @@ Every line of a trace is a message of 40 octets (UDT with 17 octets of data) for
 so that each batch is one message. The output goes to a file, whose lines are counted by their kinds. The time has to grow as
 the number of lines does, and the memory not at all.
 
-Run it from anywhere: bench/replay.py [PROGRAM]. It builds nothing: run ./sccp once before.
+Run it from anywhere: bench/replay.py [PROGRAM]. It builds nothing: run ./sccp --prove before.
 """
 import os
 import random

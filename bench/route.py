@@ -9,7 +9,7 @@ Two more kinds are of version 2, written in no order. Nested: 315 numbers of thr
 the digit 1, so that a prefix begins up to twelve others. Named: every prefix of five digits stands in a row for subsystem 6
 and in a row for any.
 
-Run it from anywhere: bench/route.py [PROGRAM]. It builds nothing: run ./sccp once before.
+Run it from anywhere: bench/route.py [PROGRAM]. It builds nothing: run ./sccp --prove before.
 """
 import math
 import os

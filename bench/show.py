@@ -6,7 +6,7 @@ an optional part, a DT1 and a CR, with called titles of kind 4 of 1 to 15 digits
 canonical form, one a line in hexadecimal digits. It is filled up to a tenth of the limit of 1,048,576 octets, and then up
 to the limit. The time has to grow in proportion.
 
-Run it from anywhere: bench/show.py [PROGRAM]. It builds nothing: run ./sccp once before.
+Run it from anywhere: bench/show.py [PROGRAM]. It builds nothing: run ./sccp --prove before.
 """
 import os
 import resource

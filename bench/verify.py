@@ -9,7 +9,7 @@ the last plan has more than 262,144 and is too wide.
 A second series is the same in version 2, where each relay has a row for subsystem 6 beside each of the hundred, and nested
 rows of no digit and of one: each look-up has to choose among them, and the classes are as many.
 
-Run it from anywhere: bench/verify.py [PROGRAM]. It builds nothing: run ./sccp once before.
+Run it from anywhere: bench/verify.py [PROGRAM]. It builds nothing: run ./sccp --prove before.
 """
 import os
 import resource

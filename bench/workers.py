@@ -18,7 +18,7 @@ made for them.
 What a machine gives to several threads isn't told by the number of its processors, of which two may be one core: so it is
 measured how much more is done in a time by two and by four replays with one worker, at once.
 
-Run it from anywhere: bench/workers.py [--awake] [PROGRAM]. It builds nothing: run ./sccp once before. On a machine that has
+Run it from anywhere: bench/workers.py [--awake] [PROGRAM]. It builds nothing: run ./sccp --prove before. On a machine that has
 other work threads wait for each other: `chrt -f 10 bench/workers.py` as root puts that work aside for some two minutes.
 
 Between two batches the processors of the other threads have nothing to do. One of a shared host then has to be woken by the

@@ -7,7 +7,7 @@ is made; so it is known of each title what it can become at its next hop, and wh
 plan is safe, with which bound, and whether the mixture of both is. What the program prints is then held against it: the
 bounds exactly, and each route hop by hop, whichever lawful one was chosen.
 
-Run it from anywhere: tools/check_change.py [PAIRS [SEED [PROGRAM]]]. It builds nothing: run ./sccp once before. The last line
+Run it from anywhere: tools/check_change.py [PAIRS [SEED [PROGRAM]]]. It builds nothing: run ./sccp --prove before. The last line
 counts the pairs by their answers; at the first answer that isn't lawful the pair is printed, and the status is 1.
 """
 import collections

@@ -9,7 +9,7 @@ front of its text. Anything else is printed, and the status is 1.
 Run it from anywhere: tools/fail_alloc.py [-- WORD ..]. Without words it makes five calls: the verdict on a plan of two relays,
 a replay in which later plans come between fences, by one worker and by four, one with every kind of line, and one of 64
 messages by four workers, of which a thread may find no memory for a block that the caller then serves. It builds nothing: run
-./sccp once before. The last line counts the runs.
+./sccp --prove before. The last line counts the runs.
 """
 import collections
 import os
@@ -131,7 +131,7 @@ def look(room, given):
     else:
         sys.exit(__doc__)
     if not os.access(PROGRAM, os.X_OK):
-        sys.exit("the program isn't built: run ./sccp once")
+        sys.exit("the program isn't built: run ./sccp --prove")
     runs, strange = collections.Counter(), 0
     source, shim, counted = (os.path.join(room, name) for name in ("fail.c", "fail.so", "count"))
     with open(source, "w", encoding="utf-8") as file:
