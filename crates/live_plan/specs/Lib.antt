@@ -1,6 +1,7 @@
 pub mod Machine
 pub mod Plans
 pub mod Entries
+pub mod Listed
 pub mod Routed
 pub mod Published
 pub mod Seats

@@ -1,8 +1,9 @@
-ghost use Rattle.std.specs.Prelude.{◌≡◌, ℕ, ◌+◌, ◌-◌, ◌^◌, ◌<◌, ◌≤◌, List, length, map, slice_get, Some, IfSome};
+ghost use Rattle.std.specs.Prelude.{◌≡◌, ◌^◌, ◌<◌, ◌≤◌, true, length, map, slice_get, Some, IfNone, IfSome, IsNone};
 ghost use Rattle.std.specs.Arc.{arc_value};
 ghost use Rattle.plan_check.specs.Verified.{Verified};
 ghost use Rattle.live_plan.specs.Entries.{entry_plan};
-ghost use Rattle.live_plan.specs.Plans.{HasPlan, HaveNodes, nodes_of};
+ghost use Rattle.live_plan.specs.Listed.{is_listed, next_count, next_seen};
+ghost use Rattle.live_plan.specs.Plans.{HasPlan, HaveNodes, Rose, nodes_of};
 
 use crate::nodes::count_nodes;
 use crate::place::{Entry, Place, raised};
@@ -16,7 +17,7 @@ fn one_more(seen: usize, all: usize) -> usize
     requires { seen ≤ all }
     ensures more { seen ≤ result }
     ensures most { result ≤ all }
-    ensures next { seen < all → result ≡ seen + 1 }
+    ensures next { result ≡ next_seen all seen }
 {
     if seen < all { seen + 1 } else { seen }
 }
@@ -80,7 +81,21 @@ impl Place for ListPlace {
 
     ghost refusals = { λ p. p.refusals };
 
-    fn enter(&mut self) -> Option<Entry> {
+    /// Refuses a listed call. Any other sees one plan more, until it sees the whole list, or is refused where the plan can't
+    /// be shared once more.
+    fn enter(&mut self) -> Option<Entry>
+        ensures plans { self.new.plans ≡ self.old.plans }
+        ensures nodes { self.new.nodes ≡ self.old.nodes }
+        ensures seen { self.old.seen ≤ self.new.seen }
+        ensures counts { (self.old.entries ≤ self.new.entries) × (self.old.refusals ≤ self.new.refusals) }
+        ensures some { IfSome result (λ e. Rose self.old.entries self.new.entries × HasPlan (map arc_value self.new.plans) e.number (entry_plan e) × (e.number ≡ self.new.seen) × (nodes_of (entry_plan e) ≡ self.new.nodes)) }
+        ensures none { IfNone result (Rose self.old.refusals self.new.refusals × (self.new.seen ≡ self.old.seen)) }
+        // Which calls are refused, and how many plans the others see.
+        ensures refusing { self.new.refusing ≡ self.old.refusing }
+        ensures calls { self.new.calls ≡ next_count self.old.calls }
+        ensures listed { is_listed self.old.refusing self.old.calls ≡ true → IsNone result }
+        ensures next { IfSome result (λ _. self.new.seen ≡ next_seen (length self.old.plans) self.old.seen) }
+    {
         let call = self.calls;
         self.calls = self.calls.saturating_add(1);
         if self.refusing.as_slice().contains(&call) {
