@@ -1,5 +1,5 @@
 -- What a batch of jobs leaves.
-use Rattle.std.specs.Prelude.{◌≡◌, ◌⊎◌, ℕ, ◌+◌, ◌*◌, ◌%◌, ◌<◌, ◌≤◌, List, length, slice_get, slice_index_or, Some, IfSome}
+use Rattle.std.specs.Prelude.{◌≡◌, ◌⊎◌, ℕ, ◌+◌, ◌*◌, ◌%◌, ◌<◌, ◌≤◌, List, length, map, slice_get, slice_index_or, Some, IfSome}
 use Rattle.std.specs.Option.{ForSome}
 use Rattle.plan_check.specs.Verified.{Verified}
 use Rattle.relay_net.specs.declared.job.Job.{Job}
@@ -8,6 +8,7 @@ use Rattle.relay_net.specs.declared.served.Served.{Served}
 use Rattle.live_plan.specs.declared.place.Place.{Ghosts}
 use Rattle.live_plan.specs.declared.worker.Worker.{Worker}
 use Rattle.live_plan.specs.Entries.{entry_plan}
+use Rattle.live_plan.specs.Machine.{Machine, IsValid, LeadsTo}
 use Rattle.live_plan.specs.Plans.{Rose, HasPlan}
 use Rattle.live_plan.specs.Routed.{journey_under}
 
@@ -77,3 +78,11 @@ module _ {P : Type 0} {g : Ghosts P} where
     pub nodes_are : g.nodes w.place ≡ nodes
     pub number : w.kept.number ≡ n
     pub follows : Follows plans w
+
+  -- the published plans, and of each worker the number of the plan that it keeps
+  abbrev pub machine_of : List Verified → List (Worker P g) → Machine
+  machine_of plans workers = record { plans = plans; numbers = map (λ w. w.kept.number) workers }
+
+  -- where no worker kept a plan of a higher number than the last one's, publications and workers that learn of them lead from the plans and numbers of before to those of after
+  abbrev pub IsByEvents : List Verified → List Verified → List (Worker P g) → List (Worker P g) → Type 0
+  IsByEvents before after workers workers' = IsValid (machine_of before workers) → LeadsTo (machine_of before workers) (machine_of after workers')

@@ -1,6 +1,7 @@
 -- The live plan as a machine, whose events are atomic steps of the running system: the list of published plans, and for each worker the number of the plan
 -- that it keeps.
-use Rattle.std.specs.Prelude.{ℕ, ◌≤◌, max, List, [], ◌∷◌, ◌++◌, length, slice_index, slice_set, fold}
+use Rattle.std.specs.Prelude.{ℕ, ◌≡◌, ◌≤◌, max, List, [], ◌∷◌, ◌++◌, length, slice_index, slice_set, fold}
+use Rattle.std.specs.List.{All}
 use mathlib.Core.List.{IsPrefix}
 use Rattle.plan_check.specs.Verified.{Verified}
 
@@ -45,3 +46,16 @@ pub record IsLater (m after : Machine) : Type 0 where
   pub plans : IsPrefix m.plans after.plans
   pub numbers : (worker : ℕ) → slice_index m.numbers worker ≤ slice_index after.numbers worker
   pub valid : IsValid after
+
+-- the events of a batch: a plan is published, a worker learns how many are
+abbrev pub IsOfBatch : Event → Type 0
+IsOfBatch (Publish plan) = Unit {0}
+IsOfBatch (Enter worker) = ⊥
+IsOfBatch (Learn worker n) = Unit {0}
+
+-- such events lead from one machine to another
+pub record LeadsTo (m after : Machine) : Type 0 where
+  pub events : List Event
+  pub each : All IsOfBatch events
+  pub may : MayAllCome m events
+  pub last : after_events m events ≡ after

@@ -3,7 +3,7 @@ ghost use Rattle.std.specs.Prelude.{◌≡◌, ℕ, ◌+◌, ◌^◌, ◌<◌, �
 ghost use Rattle.std.specs.Thread.{IsSync};
 ghost use mathlib.Core.List.{IsPrefix};
 ghost use Rattle.live_plan.specs.Plans.{HaveNodes};
-ghost use Rattle.live_plan.specs.Batches.{AllPairs, AreServed, Counted, Follows, HasServed, Lasts};
+ghost use Rattle.live_plan.specs.Batches.{AllPairs, AreServed, Counted, Follows, HasServed, IsByEvents, Lasts};
 ghost use Rattle.live_plan.specs.Publishing.{HasPublished};
 ghost use Rattle.live_plan.specs.Tellers.{told_by, plans_of, due_of};
 
@@ -171,6 +171,7 @@ pub fn run_batch<R: Threads + Wait + Sync, G: Gate + Sync>(
     ensures counted { OnOk result ((i : ℕ) (d : _) → i < length workers.old → i < length jobs.now → Counted (slice_index_or workers.old i d) (slice_index_or workers.new i d)) }
     ensures follows { OnOk result ((i : ℕ) (d : _) → i < length workers.old → Follows (plans_of teller.new) (slice_index_or workers.new i d)) }
     ensures lasts { AllPairs (Lasts (length (plans_of teller.old))) workers.old workers.new }
+    ensures events { OnOk result (IsByEvents (plans_of teller.old) (plans_of teller.new) workers.old workers.new) }
     ensures begins { IsPrefix (plans_of teller.old) (plans_of teller.new) }
     ensures within { IsPrefix (plans_of teller.new) (plans_of teller.old ++ plans) }
     ensures nodes { teller.new.nodes ≡ teller.old.nodes }

@@ -5,7 +5,7 @@ use Rattle.plan_check.specs.Verified.{Verified}
 use Rattle.relay_net.specs.declared.job.Job.{Job}
 use Rattle.live_plan.specs.Batches.{AllPairs, AreServed, Counted, Follows, Lasts}
 use Rattle.live_plan.specs.Tellers.{plans_of}
-use Rattle.live_plan.proofs.Batched.{if_ok, whole_back}
+use Rattle.live_plan.proofs.Batched.{by_events, if_ok, whole_back}
 use Rattle.live_plan.proofs.batch.run_batch.Goals as goal
 
 pub returns-clause-published : goal.returns-clause-published
@@ -57,3 +57,9 @@ returns-clause-begins g c = subst (λ (l : List Verified). IsPrefix l (plans_of 
 
 pub returns-clause-within : goal.returns-clause-within
 returns-clause-within g c = subst (λ (l : List Verified). IsPrefix (plans_of c.serve_batch.new.teller) l) c.in_ok-begin.ensures.due c.serve_batch.ensures.within
+
+pub returns-clause-events : goal.returns-clause-events
+returns-clause-events g c =
+    if_ok _ _ c.serve_batch.result
+    (λ answers follows. by_events (plans_of c.args.teller.now) (plans_of c.serve_batch.new.teller) c.args.workers.now _ (returns-clause-begins g c) (returns-clause-lasts g c) follows)
+    (returns-clause-follows g c)
