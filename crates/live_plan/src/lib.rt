@@ -40,5 +40,6 @@ pub use list_place::ListPlace;
 pub use live::Live;
 pub use live_place::LivePlace;
 pub use place::{Entry, Place};
+pub use relay_net::{Job, Served};
 pub use teller::Teller;
 pub use worker::Worker;

@@ -17,7 +17,8 @@ use std::alloc::Global;
 pub(crate) type PlanReader = Reader<Published, Known, ByBatch>;
 
 /// A place over a reader of the published plans, or over none where none could be had: then each entry is refused, and so is
-/// one that meets another batch than that for which the place was briefed.
+/// one that meets another batch than that for which the place was briefed, as each does from a `Teller::replace` until the
+/// next `run_batch`.
 ///
 /// It keeps its share of the plan of the last entry, so that one which meets the same plan again counts no share of others.
 #[derive(Drop)]

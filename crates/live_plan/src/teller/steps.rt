@@ -140,6 +140,7 @@ pub(crate) fn open<R: Wait>(rt: &R, alloc: Global, first: Accepted) -> Result<Te
     match writer.append(Published { shown: begun }) {
         Ok(()) => {}
         Err(_) => {
+            // There is no memory for the writer's list of what it is to show.
             writer.take(rt);
             return Err(OutOfMemory);
         }
@@ -153,6 +154,8 @@ pub(crate) fn open<R: Wait>(rt: &R, alloc: Global, first: Accepted) -> Result<Te
             processors: 0,
         }),
         Err(_) => {
+            // What is to be shown can't be shared once more, for the writer's other copy. No contract says how often a value
+            // is shared, so this can't be excluded by proof.
             writer.take(rt);
             Err(OutOfMemory)
         }
@@ -242,6 +245,7 @@ impl Teller {
         ensures nodes { self.new.nodes ≡ self.old.nodes }
     {
         let shown = &*self.writer.published().shown;
+        // The numbers of batches end at 2^64 - 1: no batch begins after that one.
         let Some(batch) = shown.batch.checked_add(1) else {
             return Err(OutOfMemory);
         };
@@ -280,6 +284,10 @@ impl Teller {
 
     /// Publishes a plan behind the last one, and answers its number. It may wait for workers that are looking. Where memory
     /// is wanting nothing was published, and the plan is given up.
+    ///
+    /// This is a batch of its own, for which no worker was briefed. From then on each entry of each worker is refused, until
+    /// `run_batch` briefs the workers again. Until then a worker goes on by the plan that it keeps. After want of memory it may
+    /// be so too, since the batch may have begun.
     pub fn replace<R: Wait>(&mut self, rt: &R, next: Accepted) -> Result<u32, OutOfMemory>
         requires nodes { nodes_of next ≡ self.old.nodes }
         requires room { length (plans_of self.old) + 1 < 2 ^ 32 }
