@@ -1,8 +1,8 @@
 -- The answers of blocks, put together again.
-use Rattle.std.proofs.Common.{◌≡◌, ℕ, zero, suc, ◌+◌, ◌≤◌, min, List, [], ◌∷◌, ◌++◌, length, map, take, drop, slice_get, Some, refl, sym, ap, ◌∙◌, le_refl, arith}
+use Rattle.std.proofs.Common.{◌≡◌, ℕ, zero, suc, ◌+◌, ◌≤◌, min, List, [], ◌∷◌, ◌++◌, length, map, take, drop, slice_get, Some, refl, sym, ap, subst, ◌∙◌, le_refl, arith}
 use Rattle.std.proofs.lemmas.List.{drop-take, length-append, length-map, length-take, map-append, take-append-drop, take-take}
 use Rattle.std.specs.List.{All, remove}
-use Rattle.std.proofs.lemmas.List.Elements.{All-append, All-drop, All-take}
+use Rattle.std.proofs.lemmas.List.Elements.{All-append, All-drop, All-pop, All-take}
 use Rattle.plan_check.specs.Verified.{Verified}
 use Rattle.relay_net.specs.declared.job.Job.{Job}
 use Rattle.relay_net.specs.States.{State}
@@ -14,6 +14,12 @@ use Rattle.live_plan.proofs.Passed.{get_map}
 
 pub All-remove : {A : Type 0} (P : A → Type 0) (xs : List A) (i : ℕ) → All P xs → All P (remove xs i)
 All-remove P xs i all = All-append P (take i xs) (drop (suc i) xs) (All-take P i xs all) (All-drop P (suc i) xs all)
+
+-- the items of the last list are put behind those that were taken so far
+pub all_taken : {A : Type 0} (P : A → Type 0) (lists left : List (List A)) (last taken more : List A) → lists ≡ left ++ last ∷ [] → more ≡ taken ++ last → All (λ l. All P l) lists × All P taken → All (λ l. All P l) left × All P more
+all_taken P lists left last taken more e f all =
+    let both = All-pop (λ l. All P l) lists left (Some last) e all.0 in
+    (both.0, subst (All P) (sym f) (All-append P taken last all.1 both.1))
 
 module _ {A B : Type 0} (f : A → B) where
   -- so many of the first, and those that are left

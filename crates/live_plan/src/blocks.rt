@@ -1,6 +1,6 @@
 //! Jobs that all go under one plan, in blocks. Each thread takes the next block when it has served one, so a processor that
 //! is slower than the others, or begins later, serves fewer.
-ghost use Rattle.std.specs.Prelude.{◌≡◌, List, All, length, map, nat_eq, position, take, IfOk, IfSome};
+ghost use Rattle.std.specs.Prelude.{◌≡◌, ◌++◌, List, All, length, map, nat_eq, position, take, IfOk, IfSome, OnOk};
 ghost use Rattle.relay_net.specs.declared.job.Job.{Job};
 ghost use Rattle.relay_net.specs.declared.served.Served.{Served};
 ghost use Rattle.live_plan.specs.Blocks.{EnterIn, HasAnswers, answer_in};
@@ -115,6 +115,13 @@ fn serve_lanes<R: Threads + Sync, G: Gate + Sync>(
     )
 }
 
+// Puts the blocks of one more thread behind the others.
+fn put(blocks: &mut Vec<Block>, lane: List<Block>) -> Result<(), AllocError>
+    ensures { OnOk result (blocks.new.items ≡ blocks.old.items ++ lane) }
+{
+    blocks.append(&mut lane.into_vec())
+}
+
 // The blocks of all threads.
 fn all_blocks(alloc: Global, lanes: Vec<List<Block>>) -> Result<Vec<Block>, AllocError>
     ensures { (answer : Job → Served) (jobs : List Job) → All (λ lane. All (HasAnswers answer jobs) lane) lanes.items → IfOk result (λ blocks. All (HasAnswers answer jobs) blocks.items) }
@@ -122,7 +129,7 @@ fn all_blocks(alloc: Global, lanes: Vec<List<Block>>) -> Result<Vec<Block>, Allo
     let mut left = lanes;
     let mut blocks = Vec::new(alloc);
     while let Some(lane) = left.pop() {
-        blocks.append(&mut lane.into_vec())?;
+        put(&mut blocks, lane)?;
     }
     Ok(blocks)
 }
