@@ -2,6 +2,7 @@
 mod chain_of_sixteen;
 mod connecting;
 mod couplings;
+mod given_again;
 mod lines;
 
 use chain_world::World;
@@ -23,6 +24,8 @@ fn point_name(point: PointCode) -> &'static str {
         2051 => "1-0-3",
         2052 => "1-0-4",
         4097 => "2-0-1",
+        4098 => "2-0-2",
+        4099 => "2-0-3",
         _ => "another point",
     }
 }
@@ -148,92 +151,96 @@ fn new_world(alloc: Global) -> Result<World, Fail> {
 /// The same of a new world.
 fn wrong_line(alloc: Global, lines: &[Line]) -> Result<Option<usize>, Fail> {
     let mut world = new_world(alloc)?;
-    first_wrong(alloc, &mut world, lines)
+    let place = first_wrong(alloc, &mut world, lines);
+    drop(world);
+    place
 }
+
+const OVER_TWO_RELAYS: [Line; 7] = [
+    (
+        "1-0-1",
+        "1-0-2",
+        "0101000002020D0B120600120494710100002111010F00",
+        "2-0-1 0102000002020D0B520600110310170000100211010D00",
+        4,
+    ),
+    (
+        "2-0-1",
+        "1-0-3",
+        "020200000200000200",
+        "1-0-1 020100000100000200",
+        4,
+    ),
+    (
+        "1-0-1",
+        "1-0-2",
+        "0601000001010141",
+        "2-0-1 0602000001010141",
+        4,
+    ),
+    (
+        "1-0-1",
+        "1-0-2",
+        "0601000000010142",
+        "2-0-1 0602000000010142",
+        4,
+    ),
+    (
+        "2-0-1",
+        "1-0-3",
+        "0602000000010143",
+        "1-0-1 0601000000010143",
+        4,
+    ),
+    (
+        "1-0-1",
+        "1-0-2",
+        "040100000100000000",
+        "1-0-1 05010000010000 2-0-1 040200000200000000",
+        1,
+    ),
+    ("2-0-1", "1-0-3", "05020000020000", "", 0),
+];
 
 /// The request goes on with new references and its hop counter two less, data go on both ways with M, and the release ends
 /// all sections.
 #[test]
 fn a_connection_over_two_relays(rt: HostRuntime) -> Result<(), Fail> {
-    let lines: [Line; 7] = [
-        (
-            "1-0-1",
-            "1-0-2",
-            "0101000002020D0B120600120494710100002111010F00",
-            "2-0-1 0102000002020D0B520600110310170000100211010D00",
-            4,
-        ),
-        (
-            "2-0-1",
-            "1-0-3",
-            "020200000200000200",
-            "1-0-1 020100000100000200",
-            4,
-        ),
-        (
-            "1-0-1",
-            "1-0-2",
-            "0601000001010141",
-            "2-0-1 0602000001010141",
-            4,
-        ),
-        (
-            "1-0-1",
-            "1-0-2",
-            "0601000000010142",
-            "2-0-1 0602000000010142",
-            4,
-        ),
-        (
-            "2-0-1",
-            "1-0-3",
-            "0602000000010143",
-            "1-0-1 0601000000010143",
-            4,
-        ),
-        (
-            "1-0-1",
-            "1-0-2",
-            "040100000100000000",
-            "1-0-1 05010000010000 2-0-1 040200000200000000",
-            1,
-        ),
-        ("2-0-1", "1-0-3", "05020000020000", "", 0),
-    ];
-    assert_eq!(rt; wrong_line(rt.alloc(), &lines)?, None);
+    assert_eq!(rt; wrong_line(rt.alloc(), &OVER_TWO_RELAYS)?, None);
     Ok(())
 }
+
+const REFUSED: [Line; 6] = [
+    ("1-0-2", "1-0-1", "05010000010000", "not an end", 0),
+    ("1-0-1", "2-0-1", "05010000010000", "not a node", 0),
+    (
+        "1-0-1",
+        "1-0-2",
+        "0900030E120B1206001204947101000021044301080802AABB",
+        "connectionless",
+        0,
+    ),
+    (
+        "1-0-1",
+        "1-0-2",
+        "0101000002020006120600120474",
+        "1-0-1 030100000400",
+        0,
+    ),
+    (
+        "1-0-1",
+        "1-0-2",
+        "0101000002020006120600120474",
+        "used reference",
+        0,
+    ),
+    ("2-0-1", "1-0-2", "05010000010000", "", 0),
+];
 
 /// Each fault of an offer, and a request that the plan has no row for.
 #[test]
 fn offers_are_refused(rt: HostRuntime) -> Result<(), Fail> {
-    let lines: [Line; 6] = [
-        ("1-0-2", "1-0-1", "05010000010000", "not an end", 0),
-        ("1-0-1", "2-0-1", "05010000010000", "not a node", 0),
-        (
-            "1-0-1",
-            "1-0-2",
-            "0900030E120B1206001204947101000021044301080802AABB",
-            "connectionless",
-            0,
-        ),
-        (
-            "1-0-1",
-            "1-0-2",
-            "0101000002020006120600120474",
-            "1-0-1 030100000400",
-            0,
-        ),
-        (
-            "1-0-1",
-            "1-0-2",
-            "0101000002020006120600120474",
-            "used reference",
-            0,
-        ),
-        ("2-0-1", "1-0-2", "05010000010000", "", 0),
-    ];
-    assert_eq!(rt; wrong_line(rt.alloc(), &lines)?, None);
+    assert_eq!(rt; wrong_line(rt.alloc(), &REFUSED)?, None);
     Ok(())
 }
 
@@ -270,7 +277,9 @@ fn offer_data(alloc: Global, world: &mut World, size: u32) -> Result<&'static st
 /// The same in a new world.
 fn offer_first(alloc: Global, size: u32) -> Result<&'static str, Fail> {
     let mut world = new_world(alloc)?;
-    offer_data(alloc, &mut world, size)
+    let told = offer_data(alloc, &mut world, size);
+    drop(world);
+    told
 }
 
 /// 255 octets are the most that a DT1 has.

@@ -59,7 +59,9 @@ fn outcome_name(outcome: &Outcome) -> &'static str {
 /// What comes of a call in a world.
 fn called(alloc: Global, world: World, call: &Call) -> Result<&'static str, Fail> {
     let outcome = connect_in(alloc, world, call)?;
-    Ok(outcome_name(&outcome))
+    let name = outcome_name(&outcome);
+    drop(outcome);
+    Ok(name)
 }
 
 /// What comes of a call of these digits behind so many messages that stand on the first link.
@@ -73,8 +75,13 @@ fn called_behind(alloc: Global, count: u32, digits: &str) -> Result<&'static str
 fn called_again(alloc: Global) -> Result<&'static str, Fail> {
     let call = call_of(alloc, "491710000012")?;
     let mut world = world_with(alloc, REQUEST, 1)?;
-    settle(alloc, &mut world, &mut String::new(alloc))?;
-    called(alloc, world, &call)
+    match settle(alloc, &mut world, &mut String::new(alloc)) {
+        Ok(()) => called(alloc, world, &call),
+        Err(fault) => {
+            drop(world);
+            Err(fault)
+        }
+    }
 }
 
 /// The request of the call is refused, since its reference was used before.

@@ -84,7 +84,11 @@ fn answer(
 ) -> Result<String, Fail> {
     let origin = PointCode::parse(origin.as_bytes()).ok_or("a point code")?;
     match sent_for(alloc, plan, marking, exchange, origin, octets)? {
-        Some(sent) => text_of(alloc, sent.as_slice()),
+        Some(sent) => {
+            let text = text_of(alloc, sent.as_slice());
+            drop(sent);
+            text
+        }
         None => Err("a message that the node couples")?,
     }
 }
@@ -123,35 +127,40 @@ fn wrong_line(alloc: Global, lines: &[Line]) -> Result<Option<usize>, Fail> {
     let plan = read(alloc, ONE_TARGET.as_bytes())?;
     let marking = Marking::new(alloc);
     let mut exchange = Exchange::new(alloc, 0);
-    first_wrong(alloc, &plan, &marking, &mut exchange, lines)
+    let place = first_wrong(alloc, &plan, &marking, &mut exchange, lines);
+    drop(exchange);
+    drop(marking);
+    drop(plan);
+    place
 }
+
+const MADE_USED_AND_RELEASED: [Line; 10] = [
+    (
+        "1-0-1",
+        "011100000202000B1206001204947101000021",
+        "2-0-1 010200000202000B5206001204947101000021",
+        2,
+    ),
+    ("2-0-1", "020200002200000200", "1-0-1 021100000100000200", 2),
+    ("1-0-1", "0601000001010141", "2-0-1 0622000001010141", 2),
+    ("1-0-1", "0601000001010142", "2-0-1 0622000001010142", 2),
+    ("1-0-1", "0601000000010143", "2-0-1 0622000000010143", 2),
+    ("2-0-1", "0602000000010144", "1-0-1 0611000000010144", 2),
+    (
+        "1-0-1",
+        "040100001100000300",
+        "1-0-1 05110000010000 2-0-1 042200000200000300",
+        1,
+    ),
+    ("1-0-1", "0601000001010145", "", 1),
+    ("2-0-1", "020900003300000200", "2-0-1 0F33000000", 1),
+    ("2-0-1", "05020000220000", "", 0),
+];
 
 /// The worked connection: data go on both ways, and none after the release.
 #[test]
 fn a_connection_is_made_used_and_released(rt: HostRuntime) -> Result<(), Fail> {
-    let lines: [Line; 10] = [
-        (
-            "1-0-1",
-            "011100000202000B1206001204947101000021",
-            "2-0-1 010200000202000B5206001204947101000021",
-            2,
-        ),
-        ("2-0-1", "020200002200000200", "1-0-1 021100000100000200", 2),
-        ("1-0-1", "0601000001010141", "2-0-1 0622000001010141", 2),
-        ("1-0-1", "0601000001010142", "2-0-1 0622000001010142", 2),
-        ("1-0-1", "0601000000010143", "2-0-1 0622000000010143", 2),
-        ("2-0-1", "0602000000010144", "1-0-1 0611000000010144", 2),
-        (
-            "1-0-1",
-            "040100001100000300",
-            "1-0-1 05110000010000 2-0-1 042200000200000300",
-            1,
-        ),
-        ("1-0-1", "0601000001010145", "", 1),
-        ("2-0-1", "020900003300000200", "2-0-1 0F33000000", 1),
-        ("2-0-1", "05020000220000", "", 0),
-    ];
-    assert_eq!(rt; wrong_line(rt.alloc(), &lines)?, None);
+    assert_eq!(rt; wrong_line(rt.alloc(), &MADE_USED_AND_RELEASED)?, None);
     Ok(())
 }
 
@@ -191,51 +200,56 @@ fn wrong_line_then(alloc: Global, lines: &[Line]) -> Result<Option<usize>, Fail>
     let plan = read(alloc, ONE_TARGET.as_bytes())?;
     let marking = Marking::new(alloc);
     let mut exchange = Exchange::new(alloc, 0);
-    first_wrong_then(alloc, &plan, &marking, &mut exchange, lines)
+    let place = first_wrong_then(alloc, &plan, &marking, &mut exchange, lines);
+    drop(exchange);
+    drop(marking);
+    drop(plan);
+    place
 }
+
+const AT_THE_LIMIT: [Line; 7] = [
+    (
+        "1-0-1",
+        "01FF07000202000B1206001204947101000021",
+        "2-0-1 010010000202000B5206001204947101000021",
+        4096,
+    ),
+    (
+        "1-0-1",
+        "010008000202000B1206001204947101000021",
+        "1-0-1 030008000700",
+        4096,
+    ),
+    (
+        "2-0-1",
+        "020200002200000200",
+        "1-0-1 020000000100000200",
+        4096,
+    ),
+    (
+        "1-0-1",
+        "040100000000000000",
+        "1-0-1 05000000010000 2-0-1 042200000200000000",
+        4095,
+    ),
+    (
+        "1-0-1",
+        "010008000202000B1206001204947101000021",
+        "1-0-1 030008000700",
+        4095,
+    ),
+    ("2-0-1", "05020000220000", "", 4094),
+    (
+        "1-0-1",
+        "010008000202000B1206001204947101000021",
+        "2-0-1 010200000202000B5206001204947101000021",
+        4096,
+    ),
+];
 
 /// With 4,094 sections a request goes on, with 4,095 it is refused.
 #[test]
 fn sections_come_to_their_limit(rt: HostRuntime) -> Result<(), Fail> {
-    let lines: [Line; 7] = [
-        (
-            "1-0-1",
-            "01FF07000202000B1206001204947101000021",
-            "2-0-1 010010000202000B5206001204947101000021",
-            4096,
-        ),
-        (
-            "1-0-1",
-            "010008000202000B1206001204947101000021",
-            "1-0-1 030008000700",
-            4096,
-        ),
-        (
-            "2-0-1",
-            "020200002200000200",
-            "1-0-1 020000000100000200",
-            4096,
-        ),
-        (
-            "1-0-1",
-            "040100000000000000",
-            "1-0-1 05000000010000 2-0-1 042200000200000000",
-            4095,
-        ),
-        (
-            "1-0-1",
-            "010008000202000B1206001204947101000021",
-            "1-0-1 030008000700",
-            4095,
-        ),
-        ("2-0-1", "05020000220000", "", 4094),
-        (
-            "1-0-1",
-            "010008000202000B1206001204947101000021",
-            "2-0-1 010200000202000B5206001204947101000021",
-            4096,
-        ),
-    ];
-    assert_eq!(rt; wrong_line_then(rt.alloc(), &lines)?, None);
+    assert_eq!(rt; wrong_line_then(rt.alloc(), &AT_THE_LIMIT)?, None);
     Ok(())
 }

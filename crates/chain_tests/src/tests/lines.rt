@@ -10,7 +10,7 @@ use std::test::Fail;
 
 /// What is done with a world.
 #[derive(Clone, Copy)]
-enum Turn {
+pub(crate) enum Turn {
     /// An end offers octets to a relay, and then links deliver until none holds a message.
     Sends(&'static str, &'static str, &'static str),
     /// An end offers octets to a relay.
@@ -19,6 +19,8 @@ enum Turn {
     Delivers(&'static str, &'static str),
     /// The line from an end's point and the reference that it gave is asked for.
     Line(&'static str, u32),
+    /// Whether no link holds a message is asked for, and whether no relay gave one own reference twice.
+    State,
 }
 
 /// Pieces, each behind a sign that more follow or that none do.
@@ -53,7 +55,11 @@ fn put_line_of(
 ) -> Result<(), Fail> {
     let reference = Reference::new(reference).ok_or("a reference")?;
     match world.line(point(from)?, reference)? {
-        Some(line) => put_line(alloc, text, &line),
+        Some(line) => {
+            let told = put_line(alloc, text, &line);
+            drop(line);
+            told
+        }
         None => Ok(text.push_str("none")?),
     }
 }
@@ -73,6 +79,16 @@ fn put_offer(
     }
 }
 
+/// Whether no link holds a message, and whether no relay gave one own reference twice.
+fn state_name(world: &World) -> &'static str {
+    match (world.settled(), world.fresh()) {
+        (true, true) => "settled, each given once",
+        (true, false) => "settled, one given again",
+        (false, true) => "unsettled, each given once",
+        (false, false) => "unsettled, one given again",
+    }
+}
+
 /// What is told of one turn.
 fn put_turn(alloc: Global, world: &mut World, text: &mut String, turn: &Turn) -> Result<(), Fail> {
     match turn {
@@ -83,6 +99,7 @@ fn put_turn(alloc: Global, world: &mut World, text: &mut String, turn: &Turn) ->
         Turn::Offers(from, to, octets) => put_offer(alloc, world, text, from, to, octets),
         Turn::Delivers(from, to) => deliver(alloc, world, text, point(from)?, point(to)?),
         Turn::Line(from, reference) => put_line_of(alloc, world, text, from, *reference),
+        Turn::State => Ok(text.push_str(state_name(world))?),
     }
 }
 
@@ -108,162 +125,175 @@ fn first_other(
 }
 
 /// The same of a new world of a plan's relays.
-fn other_turn(alloc: Global, plan: &str, turns: &[(Turn, &str)]) -> Result<Option<usize>, Fail> {
+pub(crate) fn other_turn(
+    alloc: Global,
+    plan: &str,
+    turns: &[(Turn, &str)],
+) -> Result<Option<usize>, Fail> {
     let plan = read(alloc, plan.as_bytes())?;
     let mut world = World::new(alloc, plan)?;
-    first_other(alloc, &mut world, turns)
+    let place = first_other(alloc, &mut world, turns);
+    drop(world);
+    place
 }
+
+const USED_AND_RELEASED: [(Turn, &str); 12] = [
+    (
+        Turn::Sends(
+            "1-0-1",
+            "1-0-2",
+            "0101000002020D0B120600120494710100002111010F00",
+        ),
+        "2-0-1 0102000002020D0B520600110310170000100211010D00",
+    ),
+    (Turn::Line("1-0-1", 1), "none"),
+    (
+        Turn::Sends("2-0-1", "1-0-3", "020200000200000200"),
+        "1-0-1 020100000100000200",
+    ),
+    (Turn::Line("1-0-1", 1), "0001 2-0-1 forth  of  back  of "),
+    (Turn::Line("1-0-2", 1), "none"),
+    (
+        Turn::Sends("1-0-1", "1-0-2", "0601000001010141"),
+        "2-0-1 0602000001010141",
+    ),
+    (
+        Turn::Sends("1-0-1", "1-0-2", "0601000000010142"),
+        "2-0-1 0602000000010142",
+    ),
+    (
+        Turn::Sends("2-0-1", "1-0-3", "0602000000010143"),
+        "1-0-1 0601000000010143",
+    ),
+    (
+        Turn::Line("1-0-1", 1),
+        "0001 2-0-1 forth +41.42 of +41.42 back .43 of .43",
+    ),
+    (
+        Turn::Sends("1-0-1", "1-0-2", "040100000100000000"),
+        "1-0-1 05010000010000 2-0-1 040200000200000000",
+    ),
+    (Turn::Sends("2-0-1", "1-0-3", "05020000020000"), ""),
+    (Turn::Line("1-0-1", 1), "none"),
+];
 
 /// There is no line before both sections of each pair have a remote, nor from a relay's point; then it has what went over it,
 /// both ways, with M; and none after the release.
 #[test]
 fn a_line_has_what_went_over_it(rt: HostRuntime) -> Result<(), Fail> {
-    let turns: [(Turn, &str); 12] = [
-        (
-            Turn::Sends(
-                "1-0-1",
-                "1-0-2",
-                "0101000002020D0B120600120494710100002111010F00",
-            ),
-            "2-0-1 0102000002020D0B520600110310170000100211010D00",
-        ),
-        (Turn::Line("1-0-1", 1), "none"),
-        (
-            Turn::Sends("2-0-1", "1-0-3", "020200000200000200"),
-            "1-0-1 020100000100000200",
-        ),
-        (Turn::Line("1-0-1", 1), "0001 2-0-1 forth  of  back  of "),
-        (Turn::Line("1-0-2", 1), "none"),
-        (
-            Turn::Sends("1-0-1", "1-0-2", "0601000001010141"),
-            "2-0-1 0602000001010141",
-        ),
-        (
-            Turn::Sends("1-0-1", "1-0-2", "0601000000010142"),
-            "2-0-1 0602000000010142",
-        ),
-        (
-            Turn::Sends("2-0-1", "1-0-3", "0602000000010143"),
-            "1-0-1 0601000000010143",
-        ),
-        (
-            Turn::Line("1-0-1", 1),
-            "0001 2-0-1 forth +41.42 of +41.42 back .43 of .43",
-        ),
-        (
-            Turn::Sends("1-0-1", "1-0-2", "040100000100000000"),
-            "1-0-1 05010000010000 2-0-1 040200000200000000",
-        ),
-        (Turn::Sends("2-0-1", "1-0-3", "05020000020000"), ""),
-        (Turn::Line("1-0-1", 1), "none"),
-    ];
-    assert_eq!(rt; other_turn(rt.alloc(), ROAMING, &turns)?, None);
+    assert_eq!(rt; other_turn(rt.alloc(), ROAMING, &USED_AND_RELEASED)?, None);
     Ok(())
 }
+
+const ON_THE_WAY: [(Turn, &str); 12] = [
+    (
+        Turn::Sends("1-0-1", "1-0-2", "010100000202000B1206001204947101000021"),
+        "2-0-1 010200000202000B5206001103101700001002",
+    ),
+    (
+        Turn::Sends("2-0-1", "1-0-3", "020200000200000200"),
+        "1-0-1 020100000100000200",
+    ),
+    (Turn::Offers("1-0-1", "1-0-2", "0601000001010141"), ""),
+    (Turn::Offers("1-0-1", "1-0-2", "0601000000010142"), ""),
+    (Turn::Line("1-0-1", 1), "0001 2-0-1 forth  of  back  of "),
+    (Turn::Delivers("1-0-1", "1-0-2"), ""),
+    (Turn::Delivers("1-0-1", "1-0-2"), ""),
+    (Turn::Delivers("1-0-2", "1-0-3"), ""),
+    (
+        Turn::Line("1-0-1", 1),
+        "0001 2-0-1 forth  of +41.42 back  of ",
+    ),
+    (Turn::Delivers("1-0-3", "2-0-1"), "2-0-1 0602000001010141"),
+    (Turn::Delivers("1-0-3", "2-0-1"), ""),
+    (
+        Turn::Line("1-0-1", 1),
+        "0001 2-0-1 forth +41 of +41.42 back  of ",
+    ),
+];
 
 /// What waits on a link has entered the line, and hasn't come out of it.
 #[test]
 fn what_comes_out_is_the_beginning(rt: HostRuntime) -> Result<(), Fail> {
-    let turns: [(Turn, &str); 12] = [
-        (
-            Turn::Sends("1-0-1", "1-0-2", "010100000202000B1206001204947101000021"),
-            "2-0-1 010200000202000B5206001103101700001002",
-        ),
-        (
-            Turn::Sends("2-0-1", "1-0-3", "020200000200000200"),
-            "1-0-1 020100000100000200",
-        ),
-        (Turn::Offers("1-0-1", "1-0-2", "0601000001010141"), ""),
-        (Turn::Offers("1-0-1", "1-0-2", "0601000000010142"), ""),
-        (Turn::Line("1-0-1", 1), "0001 2-0-1 forth  of  back  of "),
-        (Turn::Delivers("1-0-1", "1-0-2"), ""),
-        (Turn::Delivers("1-0-1", "1-0-2"), ""),
-        (Turn::Delivers("1-0-2", "1-0-3"), ""),
-        (
-            Turn::Line("1-0-1", 1),
-            "0001 2-0-1 forth  of +41.42 back  of ",
-        ),
-        (Turn::Delivers("1-0-3", "2-0-1"), "2-0-1 0602000001010141"),
-        (Turn::Delivers("1-0-3", "2-0-1"), ""),
-        (
-            Turn::Line("1-0-1", 1),
-            "0001 2-0-1 forth +41 of +41.42 back  of ",
-        ),
-    ];
-    assert_eq!(rt; other_turn(rt.alloc(), ROAMING, &turns)?, None);
+    assert_eq!(rt; other_turn(rt.alloc(), ROAMING, &ON_THE_WAY)?, None);
     Ok(())
 }
+
+const TWO_ENDS: [(Turn, &str); 12] = [
+    (
+        Turn::Sends("1-0-1", "1-0-2", "010100000202000B1206001204947101000021"),
+        "2-0-1 010200000202000B5206001103101700001002",
+    ),
+    (
+        Turn::Sends("1-0-4", "1-0-2", "010100000202000B1206001204947101000021"),
+        "2-0-1 010400000202000B5206001103101700001002",
+    ),
+    (
+        Turn::Sends("2-0-1", "1-0-3", "020400000300000200"),
+        "1-0-4 020100000300000200",
+    ),
+    (
+        Turn::Sends("2-0-1", "1-0-3", "020200000200000200"),
+        "1-0-1 020100000100000200",
+    ),
+    (Turn::Offers("1-0-1", "1-0-2", "0601000000010141"), ""),
+    (Turn::Offers("1-0-4", "1-0-2", "0603000000010151"), ""),
+    (Turn::Delivers("1-0-4", "1-0-2"), ""),
+    (Turn::Delivers("1-0-1", "1-0-2"), ""),
+    (Turn::Delivers("1-0-2", "1-0-3"), ""),
+    (Turn::Delivers("1-0-3", "2-0-1"), "2-0-1 0603000000010151"),
+    (Turn::Line("1-0-1", 1), "0001 2-0-1 forth  of .41 back  of "),
+    (
+        Turn::Line("1-0-4", 1),
+        "0001 2-0-1 forth .51 of .51 back  of ",
+    ),
+];
 
 /// Two ends' connections over the same relays, whose links are delivered in turn: each line has its own.
 #[test]
 fn each_line_has_its_own(rt: HostRuntime) -> Result<(), Fail> {
-    let turns: [(Turn, &str); 12] = [
-        (
-            Turn::Sends("1-0-1", "1-0-2", "010100000202000B1206001204947101000021"),
-            "2-0-1 010200000202000B5206001103101700001002",
-        ),
-        (
-            Turn::Sends("1-0-4", "1-0-2", "010100000202000B1206001204947101000021"),
-            "2-0-1 010400000202000B5206001103101700001002",
-        ),
-        (
-            Turn::Sends("2-0-1", "1-0-3", "020400000300000200"),
-            "1-0-4 020100000300000200",
-        ),
-        (
-            Turn::Sends("2-0-1", "1-0-3", "020200000200000200"),
-            "1-0-1 020100000100000200",
-        ),
-        (Turn::Offers("1-0-1", "1-0-2", "0601000000010141"), ""),
-        (Turn::Offers("1-0-4", "1-0-2", "0603000000010151"), ""),
-        (Turn::Delivers("1-0-4", "1-0-2"), ""),
-        (Turn::Delivers("1-0-1", "1-0-2"), ""),
-        (Turn::Delivers("1-0-2", "1-0-3"), ""),
-        (Turn::Delivers("1-0-3", "2-0-1"), "2-0-1 0603000000010151"),
-        (Turn::Line("1-0-1", 1), "0001 2-0-1 forth  of .41 back  of "),
-        (
-            Turn::Line("1-0-4", 1),
-            "0001 2-0-1 forth .51 of .51 back  of ",
-        ),
-    ];
-    assert_eq!(rt; other_turn(rt.alloc(), ROAMING, &turns)?, None);
+    assert_eq!(rt; other_turn(rt.alloc(), ROAMING, &TWO_ENDS)?, None);
     Ok(())
 }
+
+const FIFTEEN_AND_SIXTEEN: [(Turn, &str); 8] = [
+    (
+        Turn::Sends("1-0-1", "3-1-0", "010100000202000B1206001204947101000021"),
+        "2-0-1 010200000202000B5206001204947101000021",
+    ),
+    (
+        Turn::Sends("2-0-1", "3-15-0", "020200000200000200"),
+        "1-0-1 020100000100000200",
+    ),
+    (
+        Turn::Sends("1-0-1", "3-1-0", "0601000001010141"),
+        "2-0-1 0602000001010141",
+    ),
+    (
+        Turn::Line("1-0-1", 1),
+        "0102030405060708090A0B0C0D0E0F 2-0-1 forth +41 of +41 back  of ",
+    ),
+    (
+        Turn::Sends("1-0-4", "3-0-0", "010100000202000B1206001204947101000021"),
+        "2-0-1 010400000202000B5206001204947101000021",
+    ),
+    (
+        Turn::Sends("2-0-1", "3-15-0", "020400000300000200"),
+        "1-0-4 020100000100000200",
+    ),
+    (
+        Turn::Sends("1-0-4", "3-0-0", "0601000000010151"),
+        "2-0-1 0603000000010151",
+    ),
+    (Turn::Line("1-0-4", 1), "none"),
+];
 
 /// A line of fifteen pairs stands; over sixteen the data go on too, but no line stands.
 #[test]
 fn fifteen_pairs_at_most(rt: HostRuntime) -> Result<(), Fail> {
-    let turns: [(Turn, &str); 8] = [
-        (
-            Turn::Sends("1-0-1", "3-1-0", "010100000202000B1206001204947101000021"),
-            "2-0-1 010200000202000B5206001204947101000021",
-        ),
-        (
-            Turn::Sends("2-0-1", "3-15-0", "020200000200000200"),
-            "1-0-1 020100000100000200",
-        ),
-        (
-            Turn::Sends("1-0-1", "3-1-0", "0601000001010141"),
-            "2-0-1 0602000001010141",
-        ),
-        (
-            Turn::Line("1-0-1", 1),
-            "0102030405060708090A0B0C0D0E0F 2-0-1 forth +41 of +41 back  of ",
-        ),
-        (
-            Turn::Sends("1-0-4", "3-0-0", "010100000202000B1206001204947101000021"),
-            "2-0-1 010400000202000B5206001204947101000021",
-        ),
-        (
-            Turn::Sends("2-0-1", "3-15-0", "020400000300000200"),
-            "1-0-4 020100000100000200",
-        ),
-        (
-            Turn::Sends("1-0-4", "3-0-0", "0601000000010151"),
-            "2-0-1 0603000000010151",
-        ),
-        (Turn::Line("1-0-4", 1), "none"),
-    ];
-    assert_eq!(rt; other_turn(rt.alloc(), CHAIN_OF_SIXTEEN, &turns)?, None);
+    assert_eq!(rt;
+        other_turn(rt.alloc(), CHAIN_OF_SIXTEEN, &FIFTEEN_AND_SIXTEEN)?,
+        None
+    );
     Ok(())
 }
