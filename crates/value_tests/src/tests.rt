@@ -2,7 +2,9 @@
 mod checks;
 mod lookups;
 mod messages;
+mod replay_lines;
 mod segments;
 mod titles;
 mod traces;
 mod values;
+mod writing;
