@@ -1,5 +1,5 @@
 //! The test of a table of ranks, and the classes in it.
-use plan_check::{CheckFault, Longest, Ranks, RanksFault, check};
+use plan_check::{Accepted, CheckFault, Longest, Ranks, RanksFault, Unchecked, check};
 use plan_classes::Class;
 use plan_model::Spot;
 use plan_text::read;
@@ -44,56 +44,122 @@ fn longest(alloc: Global, hops: u8) -> Result<Longest, Fail> {
     })
 }
 
-/// The bound or the fault of a plan, where the titles of its first cover have this rank or none.
+/// The rank of the titles of the plan's first cover, where they have one.
+fn ranks(alloc: Global, rank: Option<u8>) -> Result<Ranks, Fail> {
+    let mut ranks = Ranks::new(alloc);
+    if let Some(rank) = rank {
+        ranks.put(first()?, rank)?;
+    }
+    Ok(ranks)
+}
+
+/// The bound or the fault that a check answers.
+fn bound_of(checked: Result<Accepted, Unchecked>) -> Result<u8, CheckFault> {
+    match checked {
+        Ok(accepted) => Ok(accepted.bound()),
+        Err(unchecked) => Err(unchecked.fault),
+    }
+}
+
+/// The bound or the fault of a plan by these ranks.
+fn told_by(
+    alloc: Global,
+    text: &str,
+    ranks: &Ranks,
+    hops: u8,
+) -> Result<Result<u8, CheckFault>, Fail> {
+    let plan = read(alloc, text.as_bytes())?;
+    match longest(alloc, hops) {
+        Ok(longest) => Ok(bound_of(check(alloc, plan, ranks, longest))),
+        Err(fault) => {
+            drop(plan);
+            Err(fault)
+        }
+    }
+}
+
+/// The same where the titles of the plan's first cover have this rank or none.
 fn told(
     alloc: Global,
     text: &str,
     rank: Option<u8>,
     hops: u8,
 ) -> Result<Result<u8, CheckFault>, Fail> {
-    let mut ranks = Ranks::new(alloc);
-    if let Some(rank) = rank {
-        ranks.put(first()?, rank)?;
+    let ranks = ranks(alloc, rank)?;
+    let told = told_by(alloc, text, &ranks, hops);
+    drop(ranks);
+    told
+}
+
+/// What is told of a check.
+#[derive(Clone, Copy)]
+enum Told {
+    Bound(u8),
+    NoStart,
+    NotTight,
+    NotLower,
+    BadEnd,
+    NoRank,
+}
+
+/// Whether this is told. A class that is named is that of the first cover's titles.
+fn is_told(got: &Result<u8, CheckFault>, want: Told) -> Result<bool, Fail> {
+    let want = match want {
+        Told::Bound(bound) => Ok(bound),
+        Told::NoStart => Err(CheckFault::NoStart(0)),
+        Told::NotTight => Err(CheckFault::NotTight),
+        Told::NotLower => Err(CheckFault::NotLower(first()?)),
+        Told::BadEnd => Err(CheckFault::BadEnd(first()?)),
+        Told::NoRank => Err(CheckFault::NoRank(first()?)),
+    };
+    Ok(*got == want)
+}
+
+/// A plan, the rank of the titles of its first cover, the hops of the longest route, and what is told.
+const CHECKS: [(&str, Option<u8>, u8, Told); 6] = [
+    (ONE_TARGET, Some(1), 1, Told::Bound(1)),
+    (ONE_TARGET, None, 1, Told::NoStart),
+    (ONE_TARGET, Some(0), 1, Told::NotLower),
+    (ONE_TARGET, Some(1), 0, Told::NotTight),
+    (BACKUP_FORBIDDEN, Some(1), 1, Told::BadEnd),
+    (ROW_OF_SOME, Some(1), 1, Told::NoRank),
+];
+
+/// The place of the first check of which something else is told.
+fn first_other(
+    alloc: Global,
+    checks: &[(&str, Option<u8>, u8, Told)],
+) -> Result<Option<usize>, Fail> {
+    for (place, (text, rank, hops, want)) in checks.iter().enumerate() {
+        let got = told(alloc, text, *rank, *hops)?;
+        if !is_told(&got, *want)? {
+            return Ok(Some(place));
+        }
     }
-    let plan = read(alloc, text.as_bytes())?;
-    match check(alloc, plan, &ranks, longest(alloc, hops)?) {
-        Ok(accepted) => Ok(Ok(accepted.bound())),
-        Err(unchecked) => Ok(Err(unchecked.fault)),
-    }
+    Ok(None)
 }
 
 #[test]
 fn tables_of_ranks_are_tested(rt: HostRuntime) -> Result<(), Fail> {
-    let alloc = rt.alloc();
-    for (text, rank, hops, want) in [
-        (ONE_TARGET, Some(1), 1, Ok(1)),
-        (ONE_TARGET, None, 1, Err(CheckFault::NoStart(0))),
-        (ONE_TARGET, Some(0), 1, Err(CheckFault::NotLower(first()?))),
-        (ONE_TARGET, Some(1), 0, Err(CheckFault::NotTight)),
-        (
-            BACKUP_FORBIDDEN,
-            Some(1),
-            1,
-            Err(CheckFault::BadEnd(first()?)),
-        ),
-        (ROW_OF_SOME, Some(1), 1, Err(CheckFault::NoRank(first()?))),
-    ] {
-        assert_eq!(rt;
-            told(alloc, text, rank, hops)?,
-            want,
-            "rank {rank:?}, {hops} hops"
-        );
-    }
+    assert_eq!(rt; first_other(rt.alloc(), &CHECKS)?, None);
     Ok(())
+}
+
+/// The rank that counts of two for the same titles, and of how many there are ranks then.
+fn put_twice(ranks: &mut Ranks) -> Result<(Option<u8>, usize), Fail> {
+    ranks.put(first()?, 3)?;
+    ranks.put(first()?, 2)?;
+    Ok((ranks.get(&first()?), ranks.len()))
 }
 
 #[test]
 fn the_latest_rank_counts(rt: HostRuntime) -> Result<(), Fail> {
     let mut ranks = Ranks::new(rt.alloc());
-    ranks.put(first()?, 3)?;
-    ranks.put(first()?, 2)?;
-    assert_eq!(rt; ranks.get(&first()?), Some(2));
-    assert_eq!(rt; ranks.len(), 1);
+    let told = put_twice(&mut ranks);
+    drop(ranks);
+    let (rank, count) = told?;
+    assert_eq!(rt; rank, Some(2));
+    assert_eq!(rt; count, 1);
     Ok(())
 }
 
@@ -107,13 +173,24 @@ fn full(alloc: Global) -> Result<Ranks, Fail> {
     Ok(ranks)
 }
 
+/// Whether a full table takes no further class, and another rank of one that it has; that rank; and how many there are.
+fn put_more(ranks: &mut Ranks) -> Result<(bool, bool, Option<u8>, usize), Fail> {
+    let further = ranks.put(class(0, 4, "49", 0, 0)?, 1) == Err(RanksFault::Full);
+    let again = ranks.put(class(9, 3, "49", 0, 0)?, 2) == Ok(());
+    let rank = ranks.get(&class(9, 3, "49", 0, 0)?);
+    Ok((further, again, rank, ranks.len()))
+}
+
 #[test]
 fn a_table_has_a_limit(rt: HostRuntime) -> Result<(), Fail> {
     let mut ranks = full(rt.alloc())?;
-    assert!(rt; ranks.put(class(0, 4, "49", 0, 0)?, 1) == Err(RanksFault::Full));
-    assert!(rt; ranks.put(class(9, 3, "49", 0, 0)?, 2).is_ok());
-    assert_eq!(rt; ranks.get(&class(9, 3, "49", 0, 0)?), Some(2));
-    assert_eq!(rt; ranks.len(), 262_144);
+    let told = put_more(&mut ranks);
+    drop(ranks);
+    let (further, again, rank, count) = told?;
+    assert!(rt; further);
+    assert!(rt; again);
+    assert_eq!(rt; rank, Some(2));
+    assert_eq!(rt; count, 262_144);
     Ok(())
 }
 

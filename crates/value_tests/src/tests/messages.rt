@@ -166,63 +166,79 @@ fn data_may_be_too_long(rt: HostRuntime) -> Result<(), Fail> {
     Ok(())
 }
 
-/// The fault of an XUDT with a calling address of four octets, 230 octets of data and one parameter, of so many octets.
-fn fault_of_xudt(
-    alloc: Global,
-    called: Address,
-    count: usize,
-) -> Result<Option<EncodeFault>, OutOfMemory> {
+/// The parameter 7F, of so many octets.
+fn one_parameter(alloc: Global, count: usize) -> Result<List<Param>, OutOfMemory> {
     let mut params = List::new(alloc);
     if let Some(param) = Param::new(0x7F, octets(alloc, count)?) {
         params.push(param)?;
     }
-    let message = Message::Xudt {
-        class: 0,
-        hops: 15,
-        called,
-        calling: Address {
-            pc: PointCode::new(2049),
-            ..by_number(8)
+    Ok(params)
+}
+
+/// The fault of an XUDT to these digits, with a calling address of four octets, 230 octets of data and one parameter, of so
+/// many octets.
+fn fault_of_xudt(alloc: Global, digits: &str, count: usize) -> Result<Option<EncodeFault>, Fail> {
+    let payload = octets(alloc, 230)?;
+    let params = one_parameter(alloc, count)?;
+    let called = by_digits(digits)?;
+    Ok(fault_of(
+        alloc,
+        Message::Xudt {
+            class: 0,
+            hops: 15,
+            called,
+            calling: Address {
+                pc: PointCode::new(2049),
+                ..by_number(8)
+            },
+            payload,
+            params,
         },
-        payload: octets(alloc, 230)?,
-        params,
-    };
-    Ok(fault_of(alloc, message))
+    ))
+}
+
+/// Digits, how many octets the parameter has, and the fault.
+const XUDTS: [(&str, usize, Option<EncodeFault>); 6] = [
+    ("444444444444444444444444", 1, None),
+    (
+        "4444444444444444444444444",
+        1,
+        Some(EncodeFault::PointerTooFar(3)),
+    ),
+    (
+        "44444444444444444444444444",
+        1,
+        Some(EncodeFault::PointerTooFar(3)),
+    ),
+    (
+        "4444444444444444444444444444",
+        1,
+        Some(EncodeFault::PointerTooFar(3)),
+    ),
+    ("4", 255, None),
+    (
+        "4444444444444444444444444444",
+        256,
+        Some(EncodeFault::TooLong(3)),
+    ),
+];
+
+/// The place of the first of these with another fault.
+fn first_other(
+    alloc: Global,
+    messages: &[(&str, usize, Option<EncodeFault>)],
+) -> Result<Option<usize>, Fail> {
+    for (place, (digits, count, want)) in messages.iter().enumerate() {
+        if fault_of_xudt(alloc, digits, *count)? != *want {
+            return Ok(Some(place));
+        }
+    }
+    Ok(None)
 }
 
 /// The pointer to the optional part reaches 255 octets. That a part is too long is told before a pointer that is too far.
 #[test]
 fn the_optional_part_may_be_too_far(rt: HostRuntime) -> Result<(), Fail> {
-    let alloc = rt.alloc();
-    for (digits, count, want) in [
-        ("444444444444444444444444", 1, None),
-        (
-            "4444444444444444444444444",
-            1,
-            Some(EncodeFault::PointerTooFar(3)),
-        ),
-        (
-            "44444444444444444444444444",
-            1,
-            Some(EncodeFault::PointerTooFar(3)),
-        ),
-        (
-            "4444444444444444444444444444",
-            1,
-            Some(EncodeFault::PointerTooFar(3)),
-        ),
-        ("4", 255, None),
-        (
-            "4444444444444444444444444444",
-            256,
-            Some(EncodeFault::TooLong(3)),
-        ),
-    ] {
-        assert_eq!(rt;
-            fault_of_xudt(alloc, by_digits(digits)?, count)?,
-            want,
-            "at {digits}"
-        );
-    }
+    assert_eq!(rt; first_other(rt.alloc(), &XUDTS)?, None);
     Ok(())
 }

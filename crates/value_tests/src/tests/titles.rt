@@ -1,6 +1,6 @@
 //! Which titles a cover has, and which title a step makes another one.
 use plan_classes::{Class, Image, carry_back, class_row, decided, image, start};
-use plan_model::{Plan, Spot};
+use plan_model::{Plan, Spot, covered};
 use plan_text::read;
 use sample_plans::{NO_ROWS, ROAMING};
 use sccp_base::{Digits, Selector};
@@ -22,28 +22,45 @@ fn spot(node: u8, nature: u8, digits: &str) -> Result<Spot, Fail> {
     })
 }
 
-#[test]
-fn covers_have_titles(rt: HostRuntime) -> Result<(), Fail> {
-    let alloc = rt.alloc();
-    for (node, nature, digits, want) in [
-        (0, 4, "490", true),
-        (0, 4, "4900", true),
-        (0, 4, "49", false),
-        (0, 4, "49000", false),
-        (0, 4, "480", false),
-        (0, 4, "49A", false),
-        (1, 4, "490", false),
-        (0, 3, "490", false),
-    ] {
-        let at = spot(node, nature, digits)?;
-        assert_eq!(rt; is_covered(alloc, NO_ROWS, &at)?, want, "at {digits}");
+/// A node, a nature of address and digits, and whether the cover of the plan without rows has that title.
+const TITLES: [(u8, u8, &str, bool); 8] = [
+    (0, 4, "490", true),
+    (0, 4, "4900", true),
+    (0, 4, "49", false),
+    (0, 4, "49000", false),
+    (0, 4, "480", false),
+    (0, 4, "49A", false),
+    (1, 4, "490", false),
+    (0, 3, "490", false),
+];
+
+/// The place of the first of these titles of which that isn't so.
+fn first_other(plan: &Plan, titles: &[(u8, u8, &str, bool)]) -> Result<Option<usize>, Fail> {
+    for (place, (node, nature, digits, want)) in titles.iter().enumerate() {
+        let at = spot(*node, *nature, digits)?;
+        if covered(plan, &at) != *want {
+            return Ok(Some(place));
+        }
     }
-    Ok(())
+    Ok(None)
 }
 
-fn is_covered(alloc: Global, text: &str, at: &Spot) -> Result<bool, Fail> {
+/// The same of a plan's text.
+fn other_title(
+    alloc: Global,
+    text: &str,
+    titles: &[(u8, u8, &str, bool)],
+) -> Result<Option<usize>, Fail> {
     let plan = read(alloc, text.as_bytes())?;
-    Ok(plan.covered(at))
+    let place = first_other(&plan, titles);
+    drop(plan);
+    place
+}
+
+#[test]
+fn covers_have_titles(rt: HostRuntime) -> Result<(), Fail> {
+    assert_eq!(rt; other_title(rt.alloc(), NO_ROWS, &TITLES)?, None);
+    Ok(())
 }
 
 /// The title that is made these digits by the class's first target.
@@ -62,14 +79,21 @@ fn back_from(plan: &Plan, class: &Class, digits: &Digits) -> Option<Digits> {
     None
 }
 
-/// The title of the first cover that is these digits at the next relay.
-fn carried_back(alloc: Global, text: &str, digits: &str) -> Result<Option<Digits>, Fail> {
-    let plan = read(alloc, text.as_bytes())?;
-    let digits = Digits::parse(digits.as_bytes())?;
+/// The title of a plan's first cover that is these digits at the next relay.
+fn first_back(plan: &Plan, digits: &Digits) -> Option<Digits> {
     if plan.covers().as_slice().is_empty() {
-        return Ok(None);
+        return None;
     }
-    Ok(back_from(&plan, &start(&plan, 0), &digits))
+    back_from(plan, &start(plan, 0), digits)
+}
+
+/// The same of a plan's text.
+fn carried_back(alloc: Global, text: &str, digits: &str) -> Result<Option<Digits>, Fail> {
+    let digits = Digits::parse(digits.as_bytes())?;
+    let plan = read(alloc, text.as_bytes())?;
+    let back = first_back(&plan, &digits);
+    drop(plan);
+    Ok(back)
 }
 
 #[test]

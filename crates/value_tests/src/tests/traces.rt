@@ -1,7 +1,7 @@
 //! Traces, fed in pieces.
 ghost use Rattle.std.specs.Prelude.{◌<◌};
 
-use std::alloc::Global;
+use std::alloc::{AllocError, Global};
 use std::test::Fail;
 use trace_text::{Line, LineFault, LineKind, Numbered, Reader};
 
@@ -12,124 +12,105 @@ msg a 4103 00ff\n\
 \n\
 fence";
 
-/// A line as text for a test: its number, a letter for its kind, and what it names.
-fn same(got: &Numbered, number: u32, kind: &[u8], value: usize) -> bool {
-    got.number == number && is_kind(&got.line, kind) && value_of(&got.line) == value
-}
-
-fn is_kind(line: &Line, kind: &[u8]) -> bool {
-    let name: &[u8] = match line {
-        Line::Msg { .. } => b"msg",
-        Line::Pause(..) => b"pause",
-        Line::Resume(..) => b"resume",
-        Line::NoSccp(..) => b"no-sccp",
-        Line::Up(..) => b"up",
-        Line::Down(..) => b"down",
-        Line::Tick(..) => b"tick",
-        Line::Plan(..) => b"plan",
-        Line::Fence => b"fence",
-        Line::Skip => b"skip",
-    };
-    name == kind
-}
-
-/// The point or the subsystem of a line, or how many octets its message or its file's name has.
-fn value_of(line: &Line) -> usize {
-    match line {
-        Line::Msg { octets, .. } => octets.as_slice().len(),
-        Line::Pause(_, point) | Line::Resume(_, point) | Line::NoSccp(_, point) => {
-            usize::from(point.value())
+/// Whether a line has this number, and is a message of so many octets from this point at the relay a.
+fn is_msg(got: &Numbered, number: u32, point: u16, count: usize) -> bool {
+    match &got.line {
+        Line::Msg {
+            node,
+            origin,
+            octets,
+        } => {
+            got.number == number
+                && node.as_slice() == b"a".as_slice()
+                && origin.value() == point
+                && octets.as_slice().len() == count
         }
-        Line::Up(_, ssn) | Line::Down(_, ssn) => usize::from(*ssn),
-        Line::Plan(name) => name.as_slice().len(),
-        _ => 0,
-    }
-}
-
-/// The node and the origin of a message.
-fn comes_from(line: &Line, name: &[u8], point: u16) -> bool {
-    match line {
-        Line::Msg { node, origin, .. } => node.as_slice() == name && origin.value() == point,
         _ => false,
     }
 }
 
-/// Feeds the text in pieces of a length.
-fn read(
-    alloc: Global,
+/// Whether a line has this number, and is the pause of this point at the relay a.
+fn is_pause(got: &Numbered, number: u32, point: u16) -> bool {
+    match &got.line {
+        Line::Pause(node, to) => {
+            got.number == number && node.as_slice() == b"a".as_slice() && to.value() == point
+        }
+        _ => false,
+    }
+}
+
+/// Whether these are the lines of the trace.
+fn are_all(lines: &[Numbered]) -> bool {
+    match lines {
+        [first, second, third, fourth, fifth] => {
+            is_msg(first, 1, 2049, 25)
+                && is_pause(second, 2, 4097)
+                && is_msg(third, 3, 4103, 2)
+                && fourth.number == 4
+                && matches!(&fourth.line, Line::Skip)
+                && fifth.number == 5
+                && matches!(&fifth.line, Line::Fence)
+        }
+        _ => false,
+    }
+}
+
+/// Appends what a reader tells of the text, in pieces of a length, and then of its end, whose fault it answers.
+fn read_into(
+    reader: &mut Reader,
+    lines: &mut Vec<Numbered>,
     text: &[u8],
     piece: usize,
-) -> Result<(Vec<Numbered>, Option<LineFault>), Fail>
+) -> Result<Option<LineFault>, Fail>
     requires { 0 < piece }
 {
-    let mut reader = Reader::new(alloc);
-    let mut lines = Vec::new(alloc);
     for part in text.chunks(piece) {
         lines.append(&mut reader.feed(part)?.lines.into_vec())?;
     }
     let end = reader.finish()?;
     lines.append(&mut end.lines.into_vec())?;
-    Ok((lines, end.fault))
+    Ok(end.fault)
+}
+
+/// Whether the trace is read so.
+fn is_read(alloc: Global, piece: usize) -> Result<bool, Fail>
+    requires { 0 < piece }
+{
+    let mut reader = Reader::new(alloc);
+    let mut lines = Vec::new(alloc);
+    let fault = read_into(&mut reader, &mut lines, TRACE, piece);
+    let same = are_all(&lines);
+    drop(lines);
+    drop(reader);
+    Ok(fault?.is_none() && same)
 }
 
 #[test]
 fn any_cutting_gives_the_same_lines(rt: HostRuntime) -> Result<(), Fail> {
     for piece in [1, 2, 7, 1000] {
-        let (lines, fault) = read(rt.alloc(), TRACE, piece)?;
-        assert!(rt; fault.is_none() && lines.len() == 5);
-        assert!(rt; same(&lines[0], 1, b"msg", 25) && same(&lines[1], 2, b"pause", 4097));
-        assert!(rt; same(&lines[2], 3, b"msg", 2) && same(&lines[3], 4, b"skip", 0));
-        assert!(rt; same(&lines[4], 5, b"fence", 0));
-        assert!(rt;
-            comes_from(&lines[0].line, b"a", 2049) && comes_from(&lines[2].line, b"a", 4103)
-        );
+        assert!(rt; is_read(rt.alloc(), piece)?);
     }
     Ok(())
 }
 
-/// A line, its kind, where it is one, and what it names.
-const FORMS: [(&[u8], &[u8], usize); 22] = [
-    (b"resume b_2-c 2-0-007", b"resume", 4103),
-    (b"no-sccp a 16383", b"no-sccp", 16383),
-    (b"up a 255", b"up", 255),
-    (b"down a 007", b"down", 7),
-    (b"tick seventeen-octet_s", b"", 0),
-    (b"tick sixteen_octets-_", b"tick", 0),
-    (b"plan q.toml", b"plan", 6),
-    (b"# plan ", b"skip", 0),
-    (b"#", b"skip", 0),
-    (b"what", b"", 0),
-    (b"fence ", b"", 0),
-    (b" fence", b"", 0),
-    (b"fence\r", b"", 0),
-    (b"up a 256", b"", 0),
-    (b"up a 0255", b"", 0),
-    (b"up  a 255", b"", 0),
-    (b"tick a b", b"", 0),
-    (b"plan a b", b"", 0),
-    (b"msg a 1-0-1 ", b"", 0),
-    (b"msg a 1-0-1 0", b"", 0),
-    (b"msg a 1-0-1 00 ", b"", 0),
-    (b"pause a 16384", b"", 0),
-];
+/// What a reader is handed.
+#[derive(Clone, Copy)]
+enum Turn {
+    /// A piece, which is this text so many times.
+    Feeds(&'static str, usize),
+    Ends,
+}
 
-#[test]
-fn each_form_is_read(rt: HostRuntime) -> Result<(), Fail> {
-    for (text, kind, value) in FORMS {
-        let (lines, fault) = read(rt.alloc(), text, 5)?;
-        if kind.is_empty() {
-            assert_eq!(rt;
-                fault,
-                Some(LineFault {
-                    number: 1,
-                    kind: LineKind::NotALine
-                })
-            );
-        } else {
-            assert!(rt; fault.is_none() && lines.len() == 1 && same(&lines[0], 1, kind, value));
-        }
+/// What a reader is handed, and how many lines it gives, with the fault behind them.
+type Step = (Turn, usize, Option<LineFault>);
+
+/// A text so many times.
+fn repeated(alloc: Global, text: &str, count: usize) -> Result<Vec<u8>, AllocError> {
+    let mut octets = Vec::new(alloc);
+    for _ in 0..count {
+        octets.extend_from_slice(text.as_bytes())?;
     }
-    Ok(())
+    Ok(octets)
 }
 
 /// How many lines a piece gives, and the fault behind them.
@@ -144,56 +125,89 @@ fn finished(reader: &mut Reader) -> Result<(usize, Option<LineFault>), Fail> {
     Ok((told.lines.as_slice().len(), told.fault))
 }
 
-#[test]
-fn a_fault_stands_from_its_octet_on(rt: HostRuntime) -> Result<(), Fail> {
-    let mut reader = Reader::new(rt.alloc());
-    assert!(rt; fed(&mut reader, b"fence\nfence\nwhat")? == (2, None));
-    let fault = Some(LineFault {
-        number: 3,
-        kind: LineKind::NotALine,
-    });
-    assert!(rt; fed(&mut reader, b"\nfence\n")? == (0, fault));
-    assert!(rt; fed(&mut reader, b"fence\n")?.1 == fault);
-    assert!(rt; finished(&mut reader)?.1 == fault);
-    Ok(())
+/// The same of a turn.
+fn told(
+    alloc: Global,
+    reader: &mut Reader,
+    turn: &Turn,
+) -> Result<(usize, Option<LineFault>), Fail> {
+    match turn {
+        Turn::Feeds(text, count) => {
+            let piece = repeated(alloc, text, *count)?;
+            fed(reader, &piece)
+        }
+        Turn::Ends => finished(reader),
+    }
 }
 
-#[test]
-fn limits_stand_at_their_octet(rt: HostRuntime) -> Result<(), Fail> {
-    let line = vec![in rt.alloc(); b'#'; 8192]?;
-    let mut reader = Reader::new(rt.alloc());
-    assert!(rt; fed(&mut reader, &line)?.1.is_none());
-    assert!(rt; fed(&mut reader, b"\n")?.0 == 1);
-    assert!(rt; fed(&mut reader, &line)?.1.is_none());
-    let fault = Some(LineFault {
-        number: 2,
-        kind: LineKind::TooLong,
-    });
-    assert!(rt; fed(&mut reader, b"\r")?.1 == fault);
-    assert!(rt; finished(&mut reader)?.1 == fault);
-    Ok(())
+/// The place of the first step of which something else is told.
+fn first_other(alloc: Global, reader: &mut Reader, steps: &[Step]) -> Result<Option<usize>, Fail> {
+    for (place, (turn, count, fault)) in steps.iter().enumerate() {
+        if told(alloc, reader, turn)? != (*count, *fault) {
+            return Ok(Some(place));
+        }
+    }
+    Ok(None)
 }
 
-#[test]
-fn the_line_past_the_last_is_refused(rt: HostRuntime) -> Result<(), Fail> {
-    let feeds = vec![in rt.alloc(); b'\n'; 1_000_000]?;
-    let mut reader = Reader::new(rt.alloc());
-    assert!(rt; fed(&mut reader, &feeds)?.0 == 1_000_000);
-    assert!(rt; fed(&mut reader, b"")?.1.is_none());
-    let fault = Some(LineFault {
-        number: 1_000_001,
-        kind: LineKind::TooMany,
-    });
-    assert!(rt; fed(&mut reader, b"f")?.1 == fault);
-    Ok(())
+/// The same of a new reader.
+fn other_step(alloc: Global, steps: &[Step]) -> Result<Option<usize>, Fail> {
+    let mut reader = Reader::new(alloc);
+    let place = first_other(alloc, &mut reader, steps);
+    drop(reader);
+    place
 }
 
+const NOT_A_LINE: Option<LineFault> = Some(LineFault {
+    number: 3,
+    kind: LineKind::NotALine,
+});
+
+const TOO_LONG: Option<LineFault> = Some(LineFault {
+    number: 2,
+    kind: LineKind::TooLong,
+});
+
+const TOO_MANY: Option<LineFault> = Some(LineFault {
+    number: 1_000_001,
+    kind: LineKind::TooMany,
+});
+
+const FAULT: [Step; 4] = [
+    (Turn::Feeds("fence\nfence\nwhat", 1), 2, None),
+    (Turn::Feeds("\nfence\n", 1), 0, NOT_A_LINE),
+    (Turn::Feeds("fence\n", 1), 0, NOT_A_LINE),
+    (Turn::Ends, 0, NOT_A_LINE),
+];
+
+const LONG: [Step; 5] = [
+    (Turn::Feeds("#", 8192), 0, None),
+    (Turn::Feeds("\n", 1), 1, None),
+    (Turn::Feeds("#", 8192), 0, None),
+    (Turn::Feeds("\r", 1), 0, TOO_LONG),
+    (Turn::Ends, 0, TOO_LONG),
+];
+
+const MANY: [Step; 3] = [
+    (Turn::Feeds("\n", 1_000_000), 1_000_000, None),
+    (Turn::Feeds("", 1), 0, None),
+    (Turn::Feeds("f", 1), 0, TOO_MANY),
+];
+
+const END: [Step; 4] = [
+    (Turn::Feeds("fence", 1), 0, None),
+    (Turn::Ends, 1, None),
+    (Turn::Feeds("fence\n", 1), 0, None),
+    (Turn::Ends, 0, None),
+];
+
+/// A fault stands from its line feed on, a limit at its octet, and nothing comes after the end.
 #[test]
-fn nothing_comes_after_the_end(rt: HostRuntime) -> Result<(), Fail> {
-    let mut reader = Reader::new(rt.alloc());
-    assert!(rt; fed(&mut reader, b"fence")?.0 == 0);
-    assert!(rt; finished(&mut reader)?.0 == 1);
-    assert!(rt; fed(&mut reader, b"fence\n")? == (0, None));
-    assert!(rt; finished(&mut reader)?.0 == 0);
+fn readers_are_handed_pieces(rt: HostRuntime) -> Result<(), Fail> {
+    let alloc = rt.alloc();
+    assert_eq!(rt; other_step(alloc, &FAULT)?, None);
+    assert_eq!(rt; other_step(alloc, &LONG)?, None);
+    assert_eq!(rt; other_step(alloc, &MANY)?, None);
+    assert_eq!(rt; other_step(alloc, &END)?, None);
     Ok(())
 }
