@@ -1,12 +1,12 @@
 //! Plans that are published while messages are routed by them: one relay, which sends titles of 49 to 2-0-1 under the first plan,
 //! and to 2-0-2 under the second.
-ghost use Rattle.std.specs.Prelude.{◌≡◌, ◌<◌, [], All, length, map, IfOk, OnOk};
+ghost use Rattle.std.specs.Prelude.{◌≡◌, ◌<◌, ◌+◌, ◌^◌, [], All, length, map, IfOk, OnOk};
 ghost use Rattle.std.specs.Arc.{arc_value};
 ghost use Rattle.live_plan.specs.Plans.{HaveNodes, nodes_of};
 ghost use Rattle.live_plan.specs.Tellers.{plans_of};
 
 use super::workers::Meeting;
-use live_plan::{Entry, ListPlace, Live, LivePlace, OpenGate, Teller, Worker, run_batch};
+use live_plan::{Entry, Gate, ListPlace, Live, LivePlace, OpenGate, Teller, Worker, run_batch};
 use plan_check::Accepted;
 use plan_text::read;
 use plan_verify::{Verdict, verify};
@@ -199,8 +199,10 @@ fn serves_three(
 fn a_refused_entry_keeps_the_plan(rt: HostRuntime) -> Result<(), Fail> {
     let mut worker = worker(rt.alloc())?;
     let told = serves_three(rt.alloc(), &mut worker);
+    let seen = worker.seen();
     drop(worker);
     let (first, second, third) = told?;
+    assert_eq!(rt; seen, 3);
     assert_eq!(rt; first, (2, 4098));
     assert_eq!(rt; second, (2, 4098));
     assert_eq!(rt; third, (3, 4097));
@@ -239,6 +241,27 @@ fn second(alloc: Global) -> Result<List<Accepted>, Fail>
     Ok(plans)
 }
 
+/// Two workers serve four jobs, while these plans are published.
+fn serve_four<R: Threads + Wait + Sync, G: Gate + Sync>(
+    rt: &R,
+    alloc: Global,
+    teller: &mut Teller,
+    workers: &mut List<Worker<LivePlace>>,
+    plans: List<Accepted>,
+    gate: &G,
+) -> Result<List<Served>, Fail>
+    requires nodes { teller.old.nodes ≡ 1 }
+    requires plans { HaveNodes 1 plans }
+    requires room { length (plans_of teller.old) + length plans < 2 ^ 32 }
+    requires count { length workers.old ≡ 2 }
+    requires made { All (λ w. w.place.nodes ≡ teller.old.nodes) workers.old }
+{
+    let net = states(alloc)?;
+    let jobs = jobs(alloc)?;
+    let states = net.states();
+    Ok(run_batch(rt, alloc, teller, workers, states, &jobs, plans, gate)?)
+}
+
 /// Two workers serve four jobs, while the second plan is published.
 fn meet<R: Threads + Wait + Sync>(
     rt: &R,
@@ -252,13 +275,10 @@ fn meet<R: Threads + Wait + Sync>(
     requires count { length workers.old ≡ 2 }
     requires made { All (λ w. w.place.nodes ≡ teller.old.nodes) workers.old }
 {
-    let net = states(alloc)?;
-    let jobs = jobs(alloc)?;
     let plans = second(alloc)?;
-    let states = net.states();
-    let answers = run_batch(rt, alloc, teller, workers, states, &jobs, plans, gate)?;
-    let met = are_met(answers.as_slice());
-    drop(answers);
+    let served = serve_four(rt, alloc, teller, workers, plans, gate)?;
+    let met = are_met(served.as_slice());
+    drop(served);
     Ok(met)
 }
 
@@ -278,5 +298,65 @@ fn publisher_and_workers_run_beside_each_other(rt: HostRuntime) -> Result<(), Fa
     assert!(rt; kept);
     assert_eq!(rt; number, 2);
     assert!(rt; met);
+    Ok(())
+}
+
+/// Whether a message went under a plan that sends it to 2-0-2, which the second and the third do.
+fn goes_elsewhere(served: &Served) -> bool {
+    let (number, point) = told(served);
+    number > 1 && point == 4098
+}
+
+/// Whether each of four messages did, while the second plan is published once more.
+fn go_elsewhere<R: Threads + Wait + Sync>(
+    rt: &R,
+    alloc: Global,
+    teller: &mut Teller,
+    workers: &mut List<Worker<LivePlace>>,
+) -> Result<bool, Fail>
+    requires nodes { teller.old.nodes ≡ 1 }
+    requires plans { length (plans_of teller.old) ≡ 2 }
+    requires count { length workers.old ≡ 2 }
+    requires made { All (λ w. w.place.nodes ≡ teller.old.nodes) workers.old }
+{
+    let plans = second(alloc)?;
+    let served = serve_four(rt, alloc, teller, workers, plans, &OpenGate)?;
+    let count = served.as_slice().len();
+    let all = served.as_slice().iter().all(|one| goes_elsewhere(one));
+    drop(served);
+    Ok(count == 4 && all)
+}
+
+/// Whether the second plan is published by itself under number 2, and no message of the next batch goes by the first.
+fn replaces_and_serves<R: Threads + Wait + Sync>(
+    rt: &R,
+    alloc: Global,
+    teller: &mut Teller,
+    workers: &mut List<Worker<LivePlace>>,
+) -> Result<bool, Fail>
+    requires nodes { teller.old.nodes ≡ 1 }
+    requires plans { length (plans_of teller.old) ≡ 1 }
+    requires count { length workers.old ≡ 2 }
+    requires made { All (λ w. w.place.nodes ≡ teller.old.nodes) workers.old }
+{
+    let next = one_relay(alloc, ELSEWHERE)?;
+    let number = teller.replace(rt, next)?;
+    if number != 2 {
+        return Err("the second plan")?;
+    }
+    go_elsewhere(rt, alloc, teller, workers)
+}
+
+#[test]
+fn a_plan_is_replaced(rt: HostRuntime) -> Result<(), Fail> {
+    let alloc = rt.alloc();
+    let first = one_relay(alloc, ONE_TARGET)?;
+    let (mut teller, mut workers) = Live::new(&rt, alloc, first, 2)?;
+    let served = replaces_and_serves(&rt, alloc, &mut teller, &mut workers);
+    let number = teller.number();
+    teller.end(&rt);
+    drop(workers);
+    assert_eq!(rt; number, 3);
+    assert!(rt; served?);
     Ok(())
 }
