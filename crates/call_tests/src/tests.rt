@@ -1,7 +1,6 @@
 //! Calls that no command over real files shows.
 mod calls;
 mod each_call;
-mod limits;
 mod live;
 mod memory_io;
 mod replays;

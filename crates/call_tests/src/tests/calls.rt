@@ -74,18 +74,6 @@ pub fn answer<R: Threads + Wait + Sync>(
     ))
 }
 
-/// The same status, and whether the text is this one.
-pub fn answers<R: Threads + Wait + Sync>(
-    rt: &R,
-    alloc: Global,
-    line: &str,
-    octets: &[u8],
-    want: &[u8],
-) -> Result<(Status, bool), Fail> {
-    let (status, text) = answer(rt, alloc, line, octets)?;
-    Ok((status, text.as_slice() == want))
-}
-
 /// The status where this call on the files fails, and whether the text is that of a read fault.
 fn at_failing_call<R: Threads + Wait + Sync>(
     rt: &R,

@@ -1,4 +1,4 @@
-//! Replays of traces whose files give few octets at a time, and of a long one.
+//! A replay of a trace whose file gives few octets at a time.
 use super::calls::words_of;
 use sample_plans::BACKED;
 use sccp_io::{InPieces, SoundFiles, SoundSink};
@@ -58,24 +58,5 @@ fn a_trace_may_come_in_pieces(rt: HostRuntime) -> Result<(), Fail> {
             "in pieces of {most}"
         );
     }
-    Ok(())
-}
-
-#[test]
-fn a_trace_may_be_longer_than_another_file(rt: HostRuntime) -> Result<(), Fail> {
-    let alloc = rt.alloc();
-    let mut trace = Vec::new(alloc);
-    for _ in 0..1_000_000_u32 {
-        trace.extend_from_slice(b"#\n")?;
-    }
-    assert!(rt;
-        prints(
-            &rt,
-            alloc,
-            &trace,
-            4096,
-            "plan 1 f accepted bound 1\nend 1000000\n"
-        )?
-    );
     Ok(())
 }
