@@ -4,5 +4,4 @@ mod each_call;
 mod live;
 mod memory_io;
 mod replays;
-mod wide_plans;
 mod workers;

@@ -5,7 +5,6 @@ ghost use Rattle.sccp_tool.specs.Commands.{task_of, texts};
 ghost use Rattle.sccp_tool.specs.Run.{HasNamedFiles};
 
 use sample_plans::BACKED;
-use sccp_base::Octets;
 use sccp_io::{Files, MemoryFiles, MemorySink, Sink, SoundFiles, SoundSink};
 use sccp_tool::{Status, run};
 use std::alloc::{AllocError, Global};
@@ -55,23 +54,6 @@ fn run_over_sound_files<R: Threads + Wait + Sync, K: Sink>(
 {
     let mut files = SoundFiles::new(files);
     run(rt, alloc, words, &mut files, out)
-}
-
-/// The status and the text of these words, over one file named `f`.
-pub fn answer<R: Threads + Wait + Sync>(
-    rt: &R,
-    alloc: Global,
-    line: &str,
-    octets: &[u8],
-) -> Result<(Status, Octets), Fail> {
-    let words = words_of(alloc, line)?;
-    let mut files = SoundFiles::new(one_file(alloc, octets)?);
-    let mut out = SoundSink::new(alloc);
-    let status = run_into_sound_sink(rt, alloc, &words, &mut files, &mut out);
-    Ok((
-        status,
-        Octets::from_vec(Vec::from_slice(alloc, out.taken())?),
-    ))
 }
 
 /// The status where this call on the files fails, and whether the text is that of a read fault.
