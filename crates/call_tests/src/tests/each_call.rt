@@ -81,28 +81,46 @@ fn ends_at_reading<R: Threads + Wait + Sync>(
     Ok(status == Status::ReadFault && told && next == Err(IoFault::Failed))
 }
 
-/// A plan is begun, taken and found to be at its end by a call each. The trace is begun and taken whole; before its end the
-/// later plan is read beside it.
-#[test]
-fn each_call_on_the_files_may_fail(rt: HostRuntime) -> Result<(), Fail> {
-    for (call, lines) in [
-        (0, 0),
-        (1, 0),
-        (2, 0),
-        (3, 1),
-        (4, 1),
-        (5, 2),
-        (6, 2),
-        (7, 2),
-        (8, 3),
-    ] {
-        for line in ["replay f g 1", "replay f g 4"] {
-            assert!(rt;
-                ends_at_reading(&rt, rt.alloc(), line, call, lines)?,
-                "at call {call}"
-            );
+/// A call on the files, and how many lines are printed before its fault's own. A plan is begun, taken and found to be at its
+/// end by a call each. The trace is begun and taken whole; before its end the later plan is read beside it.
+const READINGS: [(u8, usize); 9] = [
+    (0, 0),
+    (1, 0),
+    (2, 0),
+    (3, 1),
+    (4, 1),
+    (5, 2),
+    (6, 2),
+    (7, 2),
+    (8, 3),
+];
+
+/// The first of these calls on the files at whose failure that isn't so.
+fn first_other_reading<R: Threads + Wait + Sync>(
+    rt: &R,
+    alloc: Global,
+    line: &str,
+    calls: &[(u8, usize)],
+) -> Result<Option<u8>, Fail> {
+    for (call, lines) in calls {
+        if !ends_at_reading(rt, alloc, line, *call, *lines)? {
+            return Ok(Some(*call));
         }
     }
+    Ok(None)
+}
+
+#[test]
+fn each_call_on_the_files_may_fail(rt: HostRuntime) -> Result<(), Fail> {
+    let alloc = rt.alloc();
+    assert_eq!(rt;
+        first_other_reading(&rt, alloc, "replay f g 1", &READINGS)?,
+        None
+    );
+    assert_eq!(rt;
+        first_other_reading(&rt, alloc, "replay f g 4", &READINGS)?,
+        None
+    );
     Ok(())
 }
 
@@ -124,28 +142,51 @@ fn ends_at_writing<R: Threads + Wait + Sync>(
     Ok(status == Status::WriteFault && told && out.put(b"x") == Err(IoFault::Failed))
 }
 
-/// The first plan's line is written for itself, then each batch with the line behind it, and the last one with the last line.
-#[test]
-fn each_call_on_the_sink_may_fail(rt: HostRuntime) -> Result<(), Fail> {
-    for (call, lines) in [(0, 0), (1, 1), (2, 2), (3, 3)] {
-        for line in ["replay f g 1", "replay f g 4"] {
-            assert!(rt;
-                ends_at_writing(&rt, rt.alloc(), line, call, lines)?,
-                "at call {call}"
-            );
+/// A call on the sink, and how many lines are printed before. The first plan's line is written for itself, then each batch with
+/// the line behind it, and the last one with the last line.
+const WRITINGS: [(u8, usize); 4] = [(0, 0), (1, 1), (2, 2), (3, 3)];
+
+/// The first of these calls on the sink at whose failure that isn't so.
+fn first_other_writing<R: Threads + Wait + Sync>(
+    rt: &R,
+    alloc: Global,
+    line: &str,
+    calls: &[(u8, usize)],
+) -> Result<Option<u8>, Fail> {
+    for (call, lines) in calls {
+        if !ends_at_writing(rt, alloc, line, *call, *lines)? {
+            return Ok(Some(*call));
         }
     }
+    Ok(None)
+}
+
+#[test]
+fn each_call_on_the_sink_may_fail(rt: HostRuntime) -> Result<(), Fail> {
+    let alloc = rt.alloc();
+    assert_eq!(rt;
+        first_other_writing(&rt, alloc, "replay f g 1", &WRITINGS)?,
+        None
+    );
+    assert_eq!(rt;
+        first_other_writing(&rt, alloc, "replay f g 4", &WRITINGS)?,
+        None
+    );
     Ok(())
+}
+
+/// Whether all is done and printed where call 9 on the files and call 4 on the sink are to fail.
+fn makes_no_further_call<R: Threads + Wait + Sync>(rt: &R, alloc: Global) -> Result<bool, Fail> {
+    let words = words_of(alloc, "replay f g 1")?;
+    let mut files = MemoryFiles::new(files(alloc)?, vec![in alloc; 9]?);
+    let mut out = MemorySink::new(alloc, vec![in alloc; 4]?);
+    let status = run(rt, alloc, &words, &mut files, &mut out);
+    Ok(status == Status::Done && out.taken() == TOLD.as_bytes())
 }
 
 /// No call is left out above: where the next one is to fail, none does.
 #[test]
 fn no_further_call_is_made(rt: HostRuntime) -> Result<(), Fail> {
-    let alloc = rt.alloc();
-    let words = words_of(alloc, "replay f g 1")?;
-    let mut files = MemoryFiles::new(files(alloc)?, vec![in alloc; 9]?);
-    let mut out = MemorySink::new(alloc, vec![in alloc; 4]?);
-    assert_eq!(rt; run(&rt, alloc, &words, &mut files, &mut out), Status::Done);
-    assert_eq!(rt; out.taken(), TOLD.as_bytes());
+    assert!(rt; makes_no_further_call(&rt, rt.alloc())?);
     Ok(())
 }
