@@ -104,7 +104,12 @@ fn put_turn(alloc: Global, world: &mut World, text: &mut String, turn: &Turn) ->
 }
 
 /// Whether this and nothing else is told of a turn.
-fn is_told(alloc: Global, world: &mut World, turn: &Turn, told: &str) -> Result<bool, Fail> {
+pub(crate) fn is_told(
+    alloc: Global,
+    world: &mut World,
+    turn: &Turn,
+    told: &str,
+) -> Result<bool, Fail> {
     let mut text = String::new(alloc);
     put_turn(alloc, world, &mut text, turn)?;
     Ok(text.as_str() == told)
@@ -125,11 +130,7 @@ fn first_other(
 }
 
 /// The same of a new world of a plan's relays.
-pub(crate) fn other_turn(
-    alloc: Global,
-    plan: &str,
-    turns: &[(Turn, &str)],
-) -> Result<Option<usize>, Fail> {
+fn other_turn(alloc: Global, plan: &str, turns: &[(Turn, &str)]) -> Result<Option<usize>, Fail> {
     let plan = read(alloc, plan.as_bytes())?;
     let mut world = World::new(alloc, plan)?;
     let place = first_other(alloc, &mut world, turns);
