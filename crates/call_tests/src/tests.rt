@@ -3,5 +3,6 @@ mod calls;
 mod each_call;
 mod live;
 mod memory_io;
+mod plans;
 mod replays;
 mod workers;

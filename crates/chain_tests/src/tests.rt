@@ -4,10 +4,11 @@ mod connecting;
 mod couplings;
 mod given_again;
 mod lines;
+mod plans;
 
 use chain_world::World;
 use couple_chain::{Delivered, OfferFault};
-use plan_text::read;
+use plans::plan_of;
 use sample_plans::ROAMING;
 use sccp_base::{Octets, PointCode, Reference};
 use sccp_message::{Message, decode, encode};
@@ -144,7 +145,7 @@ fn first_wrong(alloc: Global, world: &mut World, lines: &[Line]) -> Result<Optio
 }
 
 fn new_world(alloc: Global) -> Result<World, Fail> {
-    let plan = read(alloc, ROAMING.as_bytes())?;
+    let plan = plan_of(alloc, ROAMING)?;
     Ok(World::new(alloc, plan)?)
 }
 

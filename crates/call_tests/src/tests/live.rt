@@ -5,10 +5,10 @@ ghost use Rattle.std.specs.Arc.{arc_value};
 ghost use Rattle.live_plan.specs.Plans.{HaveNodes, nodes_of};
 ghost use Rattle.live_plan.specs.Tellers.{plans_of};
 
+use super::plans::plan_of;
 use super::workers::Meeting;
 use live_plan::{Entry, Gate, ListPlace, Live, LivePlace, OpenGate, Teller, Worker, run_batch};
 use plan_check::Accepted;
-use plan_text::read;
 use plan_verify::{Verdict, verify};
 use relay_net::{End, Job, Net, NodeState, Served};
 use sample_plans::ONE_TARGET;
@@ -41,7 +41,7 @@ const MESSAGE: &str = "0900030E120B1206001204947101000021044301080802AABB";
 
 /// The plan of a text, accepted.
 fn accepted(alloc: Global, text: &str) -> Result<Accepted, Fail> {
-    let plan = read(alloc, text.as_bytes())?;
+    let plan = plan_of(alloc, text)?;
     match verify(alloc, plan)? {
         Verdict::Accepted(accepted) => Ok(accepted),
         other => {

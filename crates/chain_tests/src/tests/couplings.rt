@@ -1,8 +1,8 @@
 //! Coupled connections at 1-0-2, the first relay of a plan.
 ghost use Rattle.sccp_message.specs.Reads.{Reads};
 
+use super::plans::plan_of;
 use plan_model::Plan;
-use plan_text::read;
 use sample_plans::ONE_TARGET;
 use sccp_base::{List, Marking, OutOfMemory, PointCode};
 use sccp_couple::{Exchange, is_connection, vouch_short};
@@ -124,7 +124,7 @@ fn first_wrong(
 
 /// The same from no sections on.
 fn wrong_line(alloc: Global, lines: &[Line]) -> Result<Option<usize>, Fail> {
-    let plan = read(alloc, ONE_TARGET.as_bytes())?;
+    let plan = plan_of(alloc, ONE_TARGET)?;
     let marking = Marking::new(alloc);
     let mut exchange = Exchange::new(alloc, 0);
     let place = first_wrong(alloc, &plan, &marking, &mut exchange, lines);
@@ -197,7 +197,7 @@ fn first_wrong_then(
 
 /// The same from no sections on.
 fn wrong_line_then(alloc: Global, lines: &[Line]) -> Result<Option<usize>, Fail> {
-    let plan = read(alloc, ONE_TARGET.as_bytes())?;
+    let plan = plan_of(alloc, ONE_TARGET)?;
     let marking = Marking::new(alloc);
     let mut exchange = Exchange::new(alloc, 0);
     let place = first_wrong_then(alloc, &plan, &marking, &mut exchange, lines);

@@ -1,7 +1,7 @@
 //! A relay gives a reference again, and a line's far end is handed data that nobody sent over that line.
 use super::lines::{Turn, is_told};
+use super::plans::plan_of;
 use chain_world::World;
-use plan_text::read;
 use std::alloc::Global;
 use std::test::Fail;
 
@@ -150,7 +150,7 @@ fn other_line(
     plan: &str,
     history: &'static str,
 ) -> Result<Option<&'static str>, Fail> {
-    let plan = read(alloc, plan.as_bytes())?;
+    let plan = plan_of(alloc, plan)?;
     let mut world = World::new(alloc, plan)?;
     let line = first_other(alloc, &mut world, history);
     drop(world);

@@ -1,8 +1,8 @@
 //! The lines of connections: what went in at an end, and what the other one was handed.
 use super::chain_of_sixteen::CHAIN_OF_SIXTEEN;
+use super::plans::plan_of;
 use super::{deliver, fault_name, offer, point, point_name, settle};
 use chain_world::{Line, Piece, World};
-use plan_text::read;
 use sample_plans::ROAMING;
 use sccp_base::Reference;
 use std::alloc::Global;
@@ -131,7 +131,7 @@ fn first_other(
 
 /// The same of a new world of a plan's relays.
 fn other_turn(alloc: Global, plan: &str, turns: &[(Turn, &str)]) -> Result<Option<usize>, Fail> {
-    let plan = read(alloc, plan.as_bytes())?;
+    let plan = plan_of(alloc, plan)?;
     let mut world = World::new(alloc, plan)?;
     let place = first_other(alloc, &mut world, turns);
     drop(world);

@@ -1,8 +1,8 @@
 //! The test of a table of ranks, and the classes in it.
+use super::plans::plan_of;
 use plan_check::{Accepted, CheckFault, Longest, Ranks, RanksFault, Unchecked, check};
 use plan_classes::Class;
 use plan_model::Spot;
-use plan_text::read;
 use sample_plans::{BACKUP_FORBIDDEN, ONE_TARGET, ROW_OF_SOME};
 use sccp_base::{Digits, List, Marking, Selector};
 use std::alloc::Global;
@@ -68,7 +68,7 @@ fn told_by(
     ranks: &Ranks,
     hops: u8,
 ) -> Result<Result<u8, CheckFault>, Fail> {
-    let plan = read(alloc, text.as_bytes())?;
+    let plan = plan_of(alloc, text)?;
     match longest(alloc, hops) {
         Ok(longest) => Ok(bound_of(check(alloc, plan, ranks, longest))),
         Err(fault) => {

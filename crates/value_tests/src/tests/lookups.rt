@@ -1,9 +1,9 @@
 //! Look-ups in a relay's rows with the rows counted that are looked at.
 ghost use Rattle.std.specs.Prelude.{◌≡◌, ◌≤◌, ◌<◌, ◌+◌, length};
 
+use super::plans::plan_of;
 use plan_model::Plan;
 use plan_rules::{Steps, Table};
-use plan_text::read;
 use sample_plans::NESTED_PREFIXES;
 use sccp_base::{Digits, Selector};
 use std::alloc::Global;
@@ -89,7 +89,7 @@ fn other_title(
     text: &str,
     titles: &[(&str, Option<usize>)],
 ) -> Result<Option<usize>, Fail> {
-    let plan = read(alloc, text.as_bytes())?;
+    let plan = plan_of(alloc, text)?;
     let place = first_other(&plan, titles);
     drop(plan);
     place

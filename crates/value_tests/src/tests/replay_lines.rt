@@ -1,6 +1,6 @@
 //! Lines of a replay by themselves, each in a text of its own.
+use super::plans::plan_of;
 use plan_model::Plan;
-use plan_text::read;
 use relay_net::{End, Journey, Outcome, Served};
 use sample_plans::BACKED;
 use sccp_base::{List, Name, Octets, OutOfMemory, PointCode};
@@ -59,7 +59,7 @@ fn text_of_down(alloc: Global, plan: &Plan, name: &str) -> Result<Octets, Fail> 
 
 /// The two texts over a plan whose relay is named a.
 fn texts(alloc: Global, name: &str) -> Result<(Octets, Octets), Fail> {
-    let plan = read(alloc, BACKED.as_bytes())?;
+    let plan = plan_of(alloc, BACKED)?;
     let cut = text_of_cut(alloc, &plan);
     let down = text_of_down(alloc, &plan, name);
     drop(plan);

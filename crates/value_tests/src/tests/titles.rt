@@ -1,7 +1,7 @@
 //! Which titles a cover has, and which title a step makes another one.
+use super::plans::plan_of;
 use plan_classes::{Class, Image, carry_back, class_row, decided, image, start};
 use plan_model::{Plan, Spot, covered};
-use plan_text::read;
 use sample_plans::{NO_ROWS, ROAMING};
 use sccp_base::{Digits, Selector};
 use std::alloc::Global;
@@ -51,7 +51,7 @@ fn other_title(
     text: &str,
     titles: &[(u8, u8, &str, bool)],
 ) -> Result<Option<usize>, Fail> {
-    let plan = read(alloc, text.as_bytes())?;
+    let plan = plan_of(alloc, text)?;
     let place = first_other(&plan, titles);
     drop(plan);
     place
@@ -90,7 +90,7 @@ fn first_back(plan: &Plan, digits: &Digits) -> Option<Digits> {
 /// The same of a plan's text.
 fn carried_back(alloc: Global, text: &str, digits: &str) -> Result<Option<Digits>, Fail> {
     let digits = Digits::parse(digits.as_bytes())?;
-    let plan = read(alloc, text.as_bytes())?;
+    let plan = plan_of(alloc, text)?;
     let back = first_back(&plan, &digits);
     drop(plan);
     Ok(back)
