@@ -79,7 +79,7 @@ fn told_by(
 }
 
 /// The same where the titles of the plan's first cover have this rank or none.
-fn told(
+fn answer_of(
     alloc: Global,
     text: &str,
     rank: Option<u8>,
@@ -131,7 +131,7 @@ fn first_other(
     checks: &[(&str, Option<u8>, u8, Told)],
 ) -> Result<Option<usize>, Fail> {
     for (place, (text, rank, hops, want)) in checks.iter().enumerate() {
-        let got = told(alloc, text, *rank, *hops)?;
+        let got = answer_of(alloc, text, *rank, *hops)?;
         if !is_told(&got, *want)? {
             return Ok(Some(place));
         }
