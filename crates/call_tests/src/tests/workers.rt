@@ -80,7 +80,7 @@ impl Gate for Meeting {
 }
 
 /// Two messages, a later plan and two messages more.
-const MEETING: &str = "msg a 1-0-1 0980030E120B1206001204947101000021044301080802AABB
+const MESSAGES: &str = "msg a 1-0-1 0980030E120B1206001204947101000021044301080802AABB
 msg a 1-0-1 0980030E120B1206001204947101000021044301080802AABB
 plan f
 msg a 1-0-1 0980030E120B1206001204947101000021044301080802AABB
@@ -90,7 +90,7 @@ msg a 1-0-1 0980030E120B1206001204947101000021044301080802AABB
 /// Whether the replay of that trace is done, with the last two messages under plan 2.
 fn are_met<R: Threads + Wait + Sync>(rt: &R, alloc: Global, gate: &Meeting) -> Result<bool, Fail> {
     let words = words_of(alloc, "replay f g 2")?;
-    let mut files = with_trace(alloc, MEETING.as_bytes())?;
+    let mut files = with_trace(alloc, MESSAGES.as_bytes())?;
     let mut out = SoundSink::new(alloc);
     let status = run_gated(rt, alloc, &words, &mut files, &mut out, gate);
     let told = match std::str::from_utf8(out.taken()) {
@@ -141,7 +141,7 @@ fn are_lawful(text: &str) -> bool {
 /// Whether the replay of that trace is done, and its numbers are lawful.
 fn is_lawful<R: Threads + Wait + Sync>(rt: &R, alloc: Global) -> Result<bool, Fail> {
     let words = words_of(alloc, "replay f g 2")?;
-    let mut files = with_trace(alloc, MEETING.as_bytes())?;
+    let mut files = with_trace(alloc, MESSAGES.as_bytes())?;
     let mut out = SoundSink::new(alloc);
     let status = run(rt, alloc, &words, &mut files, &mut out);
     let lawful = match std::str::from_utf8(out.taken()) {
