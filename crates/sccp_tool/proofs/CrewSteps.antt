@@ -56,6 +56,13 @@ entries_fit plan i (Routes line entry origin octets before ∷ settled) fits =
     All-cons (λ (job : Job). job.entry < length plan.nodes) _ (jobs_from (i + 1) (map settled_in settled)) (All-head (ComesToNode plan) one settled fits)
     (entries_fit plan (i + 1) settled (All-tail (ComesToNode plan) one settled fits))
 
+-- a line gives one job at most
+pub one_job : (jobs after : List Job) (s : Settled) → after ≡ jobs ++ jobs_from (length jobs) (s ∷ []) → length after ≤ length jobs + 1
+one_job jobs after s is = let e : length after ≡ length (jobs ++ jobs_from (length jobs) (s ∷ [])) = ap length is in omega (arith, e, length-append jobs (jobs_from (length jobs) (s ∷ [])), at_most s) where
+  at_most : (t : Settled) → length (jobs_from (length jobs) (t ∷ [])) ≤ 1
+  at_most (prints text) = omega arith
+  at_most (routes line x before) = omega arith
+
 pub job_added : (jobs after : List Job) (s : Settled) (left : List Settled) → after ≡ jobs ++ jobs_from (length jobs) (s ∷ []) → after ++ jobs_from (length after) left ≡ jobs ++ jobs_from (length jobs) (s ∷ left)
 job_added jobs after (prints text) left is = ap (λ js. js ++ jobs_from (length js) left) (is ∙ append-nil jobs)
 job_added jobs after (routes line x before) left is =

@@ -5,6 +5,7 @@ mod ChangeLemmas
 mod ConnectLemmas
 mod CrewSteps
 mod CutsLemmas
+mod Fed
 mod Finishing
 mod Gathering
 mod ImportLemmas
@@ -27,6 +28,7 @@ mod SettleSteps
 mod Settling
 mod ShowHexLemmas
 mod ShowLemmas
+mod Skipping
 mod Streaming
 mod TakeSteps
 mod TellSteps

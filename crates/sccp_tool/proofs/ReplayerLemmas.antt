@@ -20,7 +20,7 @@ use Rattle.sccp_base.specs.declared.mark.Mark.{Mark}
 use Rattle.live_plan.specs.Plans.{HasPlan}
 use Rattle.sccp_tool.specs.Replay.{Standing, accepted, latest, plan_at, journey_by}
 use Rattle.sccp_tool.specs.Replayers.{IsRouted, IsStanding}
-use Rattle.sccp_tool.specs.Routings.{Routing, ArePlans, IsPlanOf, IsRouting, ahead, plan_in, routing, standing}
+use Rattle.sccp_tool.specs.Routings.{Routing, ArePlans, AtMostOneMore, HasRoom, IsPlanOf, IsRouting, ahead, plan_in, routing, standing}
 
 -- ---- the first plan alone
 
@@ -52,12 +52,21 @@ pub more_ahead : (at : Standing) (coming : List Verified) (plan : Verified) → 
 more_ahead at coming plan =
     ap (λ l. record at { later = l }) (ap (λ l. at.later ++ l) (map-append plan_in coming (plan ∷ [])) ∙ sym (append_assoc at.later (map plan_in coming) (plan.plan ∷ [])))
 
-pub comes_or_not : {E : Type 0} (r : Result (Unit {0}) E) (at : Standing) (coming coming' : List Verified) (plan : Verified) → ArePlans at.first (ahead at coming).later → length (ahead at coming).later + 3 < 2 ^ 32
-    → IsPlan plan.plan → SameNodes at.first plan.plan → OnOk r (coming' ≡ coming ++ plan ∷ []) → OnOk r (ArePlans at.first (ahead at coming').later)
-comes_or_not (Ok done) at coming coming' plan are few is same e =
-    subst (λ cs. ArePlans at.first (ahead at cs).later) (sym e)
-    (subst (λ (a : Standing). ArePlans at.first a.later) (sym (more_ahead at coming plan)) (more_plans at.first (ahead at coming).later plan.plan are few is same))
-comes_or_not (Err fault) at coming coming' plan are few is same e = tt
+one_more_plan : (first : Network) (later : List Network) (plan : Network) → HasRoom first later → IsPlan plan → SameNodes first plan → AtMostOneMore first later (later ++ plan ∷ [])
+one_more_plan first later plan room is same =
+    let few = room.few in
+    record { plans = more_plans first later plan room.plans (omega (arith, few)) is same; few = omega (arith, length-append later (plan ∷ [])) }
+
+pub comes_or_not : {E : Type 0} (r : Result (Unit {0}) E) (at : Standing) (coming coming' : List Verified) (plan : Verified) → HasRoom at.first (ahead at coming).later
+    → IsPlan plan.plan → SameNodes at.first plan.plan → OnOk r (coming' ≡ coming ++ plan ∷ []) → OnOk r (AtMostOneMore at.first (ahead at coming).later (ahead at coming').later)
+comes_or_not (Ok done) at coming coming' plan room is same e =
+    subst (λ cs. AtMostOneMore at.first (ahead at coming).later (ahead at cs).later) (sym e)
+    (subst (λ (a : Standing). AtMostOneMore at.first (ahead at coming).later a.later) (sym (more_ahead at coming plan)) (one_more_plan at.first (ahead at coming).later plan.plan room is same))
+comes_or_not (Err fault) at coming coming' plan room is same e = tt
+
+-- no plan comes
+pub none_more : (first : Network) (later : List Network) → HasRoom first later → AtMostOneMore first later later
+none_more first later room = record { plans = room.plans; few = omega arith }
 
 -- the plans that come in a batch are accepted
 pub all_ahead : (workers : ℕ) (first : Verified) (later coming : List Verified) (states : List State) → standing (routing workers first (later ++ coming)) states ≡ ahead (standing (routing workers first later) states) coming

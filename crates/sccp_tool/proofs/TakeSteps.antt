@@ -134,6 +134,13 @@ takes_alone at at' batch batch' line d (Ok done) first now e stands none = λ ne
 takes_alone at at' batch batch' line d (Err stop) first now e stands none = λ next.
     subst (λ k. Works (line_work at (lines_in batch) line k next) (Err stop) first now) e (stands (λ a. next a []))
 
+-- by itself, whatever lines come behind
+pub one_taken : (at at' : Standing) (batch batch' : List Numbered) (line : Numbered) (r : Result (Unit {0}) Stop) (first now : Moment) → TakesLine at batch line r at' batch' first now
+    → TakesLines at batch (line ∷ []) r at' batch' first now
+unfolding lines_work
+one_taken at at' batch batch' line (Ok done) first now takes = λ closing more. takes (λ a b. lines_work closing a b more)
+one_taken at at' batch batch' line (Err stop) first now takes = λ closing more. takes (λ a b. lines_work closing a b more)
+
 -- ---- more lines
 
 -- the lines were taken, up to these
@@ -141,16 +148,14 @@ abbrev pub LinesLeft : Standing → List Numbered → List Numbered → Standing
 LinesLeft at batch lines at' batch' left first now = (closing : Status × List ℕ) (more : List Numbered) → EndsAs (lines_work closing at batch (lines ++ more)) (lines_work closing at' batch' (left ++ more)) first now
 
 pub line_taken : (at at' at'' : Standing) (batch batch' batch'' lines left : List Numbered) (line : Numbered) (first mid now : Moment) → LinesLeft at batch lines at' batch' (line ∷ left) first mid
-    → TakesLine {T = Unit {0}} at' batch' line (Ok tt) at'' batch'' mid now → LinesLeft at batch lines at'' batch'' left first now
-unfolding lines_work
+    → TakesLines {T = Unit {0}} at' batch' (line ∷ []) (Ok tt) at'' batch'' mid now → LinesLeft at batch lines at'' batch'' left first now
 line_taken at at' at'' batch batch' batch'' lines left line first mid now all takes = λ closing more result after h.
-    all closing more result after (takes (λ a b. lines_work closing a b (left ++ more)) result after h)
+    all closing more result after (takes closing (left ++ more) result after h)
 
 pub line_stopped : (at at' at'' : Standing) (batch batch' batch'' lines left : List Numbered) (line : Numbered) (stop : Stop) (first mid now : Moment) → LinesLeft at batch lines at' batch' (line ∷ left) first mid
-    → TakesLine {T = Unit {0}} at' batch' line (Err stop) at'' batch'' mid now → TakesLines {T = Unit {0}} at batch lines (Err stop) at'' batch'' first now
-unfolding lines_work
+    → TakesLines {T = Unit {0}} at' batch' (line ∷ []) (Err stop) at'' batch'' mid now → TakesLines {T = Unit {0}} at batch lines (Err stop) at'' batch'' first now
 line_stopped at at' at'' batch batch' batch'' lines left line stop first mid now all takes = λ closing more.
-    all closing more (Err stop) now (takes (λ a b. lines_work closing a b (left ++ more)))
+    all closing more (Err stop) now (takes closing (left ++ more))
 
 -- ---- a piece of the trace
 

@@ -1,5 +1,5 @@
 -- The steps of the loop over a trace that comes in pieces.
-use Rattle.std.proofs.Common.{◌≡◌, ℕ, ◌+◌, List, [], ◌++◌, length, take, Bool, true, false, Option, Some, None, Result, Ok, Err, IsTrue, sym, ◌∙◌, ap, subst}
+use Rattle.std.proofs.Common.{◌≡◌, ℕ, ◌+◌, List, [], ◌++◌, length, take, Bool, true, false, Option, Some, None, Result, Ok, Err, IsTrue, refl, sym, ◌∙◌, ap, subst}
 use Rattle.std.specs.Prelude.{is_some}
 use Rattle.std.specs.Io.KnownBytes.{prepend_known}
 use Rattle.sccp_io.specs.Faults.{Rose, HasCause}
@@ -121,6 +121,11 @@ end_found work count at batch reader n buffer left left' result first b m after 
     let nothing : take n buffer ≡ [] = ap (λ k. take k buffer) none in
     let may : MayCome left [] = subst (λ l. MayCome l []) (sym takes.next) (subst (λ p. MayCome (prepend_known p left') []) (sym nothing) (may_more [] [] left' (may_end left' (takes.end none)))) in
     all [] may result after (Works-moved (rest_work count at batch [] reader []) result b m after (moves (Ok n) b m takes.cause u) (λ sound. (takes.spared sound).same) h)
+
+-- no fault was told
+pub no_fault : (fault : Option LineFault) → false ≡ is_some fault → fault ≡ None
+no_fault None e = refl
+no_fault (Some fault) e = absurd cc
 
 -- a fault stands, and the last batch is done
 pub fault_stands : (work : Work) (count : ℕ) (at : Standing) (batch : List Numbered) (reader : reading.Standing) (left : Option (List ℕ)) (fault : Option LineFault) (result : Result Status Stop) (first mid now : Moment)

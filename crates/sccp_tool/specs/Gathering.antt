@@ -1,10 +1,12 @@
 -- The lines of a batch that has begun.
-use Rattle.std.specs.Prelude.{◌≡◌, ℕ, ◌≤◌, Bool, false, List, length, filter, map}
+use Rattle.std.specs.Prelude.{◌≡◌, ℕ, ◌+◌, ◌≤◌, Bool, true, false, List, length, filter, map}
 use Rattle.std.specs.List.{All}
 use Rattle.plan_model.specs.Network.{Network}
 use Rattle.sccp_report.specs.Roles.{Role, routed, later, aside, incoming, role_of, StandsIn}
+use Rattle.trace_text.specs.declared.line.Line.{Line}
+use Rattle.trace_text.specs.declared.line.Line.TheVariants.{Skip}
 use Rattle.trace_text.specs.declared.line.Numbered.{Numbered}
-use Rattle.sccp_tool.specs.Replay.{is_message, is_full}
+use Rattle.sccp_tool.specs.Replay.{Standing, is_message, is_full}
 use Rattle.sccp_tool.specs.declared.joined.Joined.{Joined}
 use Rattle.sccp_tool.specs.declared.joined.Joining.{Joining}
 use Rattle.sccp_tool.specs.declared.joined.Joining.TheVariants.{Routed, Later, Aside}
@@ -40,3 +42,30 @@ pub record AreGathered (batch : List Joined) (messages : ℕ) : Type 0 where
 pub record IsBegun (plan : Network) (batch : List Joined) : Type 0 where
   pub few : is_full (lines_in batch) ≡ false
   pub joined : All (IsJoined plan) batch
+
+-- a line that a batch may leave out
+abbrev pub is_skipped : Line → Bool
+is_skipped Skip = true
+is_skipped line = false
+
+-- ---- each later plan has a line of its own, and a trace has at most 1,000,000
+
+-- a batch that may be done
+pub record MayBeDone (at : Standing) (batch : List Joined) : Type 0 where
+  pub joined : All (IsJoined at.first) batch
+  pub few : length at.later + length batch ≤ 1000000
+
+-- a batch that so many more lines may join or end
+pub record MayTake (lines : ℕ) (at : Standing) (batch : List Joined) : Type 0 where
+  pub begun : IsBegun at.first batch
+  pub few : length at.later + length batch + lines ≤ 1000000
+
+-- so many lines joined or ended it
+pub record HasTaken (lines : ℕ) (at : Standing) (batch : List Joined) (at' : Standing) (batch' : List Joined) : Type 0 where
+  pub begun : IsBegun at'.first batch'
+  pub few : length at'.later + length batch' ≤ length at.later + length batch + lines
+
+-- so many lines of the trace were taken so far
+pub record IsCounted (count : ℕ) (at : Standing) (batch : List Joined) : Type 0 where
+  pub begun : IsBegun at.first batch
+  pub few : length at.later + length batch ≤ count

@@ -1,6 +1,6 @@
 -- What the code of a replay keeps, as a standing, and what it makes of a batch.
-use Rattle.std.specs.Prelude.{◌≡◌, ℕ, ◌+◌, ◌<◌, List, [], ◌∷◌, ◌++◌, length, map}
-use Rattle.std.specs.List.{filter_map}
+use Rattle.std.specs.Prelude.{◌≡◌, ℕ, ◌+◌, ◌<◌, ◌≤◌, List, [], ◌∷◌, ◌++◌, length, map}
+use Rattle.std.specs.List.{All, filter_map}
 use Rattle.plan_model.specs.Network.{Network}
 use Rattle.relay_net.specs.States.{State, markings_of}
 use Rattle.relay_net.specs.declared.job.Job.{Job}
@@ -29,6 +29,11 @@ settled_in (Routes line entry origin octets before) = routes line (incoming entr
 abbrev pub ComesToNode : Network → code.Settled.Settled → Type 0
 ComesToNode plan (Prints text) = Unit {0}
 ComesToNode plan (Routes line entry origin octets before) = entry < length plan.nodes
+
+-- each message comes to a node of the plan, and a batch has no more lines than a trace
+pub record MayBeRouted (plan : Network) (settled : List code.Settled.Settled) : Type 0 where
+  pub fits : All (ComesToNode plan) settled
+  pub few : length settled ≤ 1000000
 
 -- under which plans one worker takes the messages
 abbrev pub numbers_of : List Settled → List ℕ

@@ -1,6 +1,6 @@
 -- What the code of a replay gives, whatever the replay goes on with.
-use Rattle.std.specs.Prelude.{◌≡◌, ℕ, ◌+◌, true, List, [], ◌++◌, length, Option, Some, None, Result}
-use Rattle.trace_text.specs.Told.{ahead}
+use Rattle.std.specs.Prelude.{◌≡◌, ℕ, ◌+◌, ◌≤◌, true, false, List, [], ◌++◌, length, Option, Some, None, Result}
+use Rattle.trace_text.specs.Told.{HasRead, ahead, told, with_front}
 use Rattle.trace_text.specs.Told as reading
 use Rattle.trace_text.specs.declared.fed.Fed.{Fed}
 use Rattle.trace_text.specs.declared.line.Numbered.{Numbered}
@@ -43,3 +43,19 @@ rest_work count at batch waiting reader rest = work_behind count at batch waitin
 abbrev pub GoesOn : Work → ℕ → Standing → List Numbered → List Numbered → reading.Standing → Option (List ℕ) → Moment → Moment → Type 0
 GoesOn whole count at batch waiting reader left first now =
     (rest : List ℕ) → MayCome left rest → EndsAs whole (rest_work count at batch waiting reader rest) first now
+
+-- the reader was fed this text in so many pieces of at least one octet: it told so many lines, and no fault
+pub record HasFed (reader : reading.Standing) (count pieces : ℕ) (text : List ℕ) : Type 0 where
+  pub read : HasRead reader text
+  pub lines : count ≡ length (told false text).lines
+  pub sound : (told false text).fault ≡ None
+  pub long : pieces ≤ length text
+
+-- so it was fed some text
+abbrev pub IsFed : reading.Standing → ℕ → ℕ → Type 0
+IsFed reader count pieces = (text : List ℕ) × HasFed reader count pieces text
+
+-- what a call of the reader gives, whatever it was fed before: behind the text and this piece these lines follow those before
+abbrev pub FeedsOn : reading.Standing → reading.Standing → List ℕ → Fed → Type 0
+FeedsOn reader reader' piece fed =
+    (text : List ℕ) → HasRead reader text → HasRead reader' (text ++ piece) × (told false (text ++ piece) ≡ with_front (told false text).lines fed)

@@ -36,6 +36,16 @@ pub record ArePlans (first : Network) (later : List Network) : Type 0 where
   pub sound : IsPlan first
   pub alike : All (IsPlanOf (length first.nodes)) later
 
+-- one more later plan may come: each has a line of its own in a trace of at most 1,000,000 lines
+pub record HasRoom (first : Network) (later : List Network) : Type 0 where
+  pub plans : ArePlans first later
+  pub few : length later < 1000000
+
+-- at most one more came
+pub record AtMostOneMore (first : Network) (before later : List Network) : Type 0 where
+  pub plans : ArePlans first later
+  pub few : length later ≤ length before + 1
+
 abbrev pub IsRouting : Routing → Type 0
 IsRouting r = ArePlans r.first.plan (map plan_in r.later)
 

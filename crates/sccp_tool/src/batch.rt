@@ -1,6 +1,6 @@
 //! A batch of lines.
-ghost use Rattle.std.specs.Prelude.{◌≡◌, All, OnOk};
-ghost use Rattle.sccp_tool.specs.Gathering.{IsJoined, lines_in};
+ghost use Rattle.std.specs.Prelude.{◌≡◌, ◌+◌, ◌≤◌, length, OnOk};
+ghost use Rattle.sccp_tool.specs.Gathering.{MayBeDone, lines_in};
 ghost use Rattle.sccp_tool.specs.Moment.{moment};
 ghost use Rattle.sccp_tool.specs.Settling.{GivesBatch};
 
@@ -29,11 +29,12 @@ pub fn batch_text<R: Threads + Wait + Sync, G: Gate + Sync, F: Files, K: Sink>(
     files: &mut F,
     out: &mut K,
 ) -> Result<Text, Stop>
-    requires { All (IsJoined at.old.first) joined }
+    requires { MayBeDone at.old joined }
     ensures gives { GivesBatch at.old (lines_in joined) result at.new
         (moment F.contents F.sound F.faults K.taken K.faults files.old out.old)
         (moment F.contents F.sound F.faults K.taken K.faults files.new out.new) }
     ensures first { OnOk result (at.new.first ≡ at.old.first) }
+    ensures few { OnOk result (length at.new.later ≤ length at.old.later + length joined) }
     ensures left { F.left files.new ≡ F.left files.old }
 {
     // It ensures that the plans are sound.

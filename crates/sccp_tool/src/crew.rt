@@ -1,7 +1,7 @@
 //! Several workers.
-ghost use Rattle.std.specs.Prelude.{◌≡◌, ◌+◌, ◌^◌, ◌<◌, ◌≤◌, [], ◌∷◌, ◌++◌, All, map, length, IfOk, OnOk};
+ghost use Rattle.std.specs.Prelude.{◌≡◌, ◌+◌, ◌^◌, ◌<◌, ◌≤◌, [], ◌∷◌, ◌++◌, map, length, IfOk, OnOk};
 ghost use Rattle.sccp_tool.specs.Replay.{latest};
-ghost use Rattle.sccp_tool.specs.Replayers.{ComesToNode, RoutesBatch, jobs_from, settled_in};
+ghost use Rattle.sccp_tool.specs.Replayers.{MayBeRouted, RoutesBatch, jobs_from, settled_in};
 ghost use Rattle.sccp_tool.specs.Routings.{ArePlans, IsRouting, ahead, routing, standing};
 
 use crate::settled::Settled;
@@ -37,6 +37,7 @@ impl Model for Crew {
 
 /// A message that is to be routed becomes the next job.
 fn add_job(alloc: Global, one: &Settled, jobs: &mut List<Job>) -> Result<(), OutOfMemory>
+    requires { length jobs.old < 2 ^ 32 }
     ensures { OnOk result (jobs.new ≡ jobs.old ++ jobs_from (length jobs.old) (settled_in one.now ∷ [])) }
 {
     match one {
@@ -47,10 +48,7 @@ fn add_job(alloc: Global, one: &Settled, jobs: &mut List<Job>) -> Result<(), Out
             octets,
             ..
         } => {
-            // No batch has so many messages.
-            let Ok(index) = u32::try_from(jobs.as_slice().len()) else {
-                return Err(OutOfMemory);
-            };
+            let index = jobs.as_slice().len() as u32;
             jobs.push(Job {
                 index,
                 entry: *entry,
@@ -63,6 +61,7 @@ fn add_job(alloc: Global, one: &Settled, jobs: &mut List<Job>) -> Result<(), Out
 
 /// The messages of a batch that are to be routed.
 fn jobs_of(alloc: Global, settled: &[Settled]) -> Result<List<Job>, OutOfMemory>
+    requires { length settled.now ≤ 1000000 }
     ensures { IfOk result (λ jobs. jobs ≡ jobs_from 0 (map settled_in settled.now)) }
 {
     let mut jobs = List::new(alloc);
@@ -133,7 +132,7 @@ impl Crew {
     ) -> Result<List<Served>, OutOfMemory>
         requires plans { ArePlans self.old.first.plan (ahead (standing self.old states.now) coming).later }
         requires states { length states.now ≡ length self.old.first.plan.nodes }
-        requires fits { All (ComesToNode self.old.first.plan) settled.now }
+        requires fits { MayBeRouted self.old.first.plan settled.now }
         ensures first { self.new.first ≡ self.old.first }
         ensures plans { IsRouting self.new }
         ensures at { OnOk result (standing self.new states.now ≡ ahead (standing self.old states.now) coming) }

@@ -1,14 +1,14 @@
 //! Where a replay stands.
-ghost use Rattle.std.specs.Prelude.{◌≡◌, ◌<◌, ◌≤◌, ◌+◌, ◌^◌, ◌++◌, [], ◌∷◌, All, map, length, IfOk, OnOk, OnErr, Some};
+ghost use Rattle.std.specs.Prelude.{◌≡◌, ◌<◌, ◌≤◌, ◌+◌, ◌^◌, ◌++◌, [], ◌∷◌, map, length, IfOk, OnOk, OnErr, Some};
 ghost use Rattle.plan_model.specs.Network.{IsPlan};
 ghost use Rattle.plan_model.specs.SameNodes.{SameNodes};
 ghost use Rattle.relay_net.specs.Batches.{CanBeDone, applied_after, due_after};
 ghost use Rattle.std.specs.Option.{option_map};
 ghost use Rattle.sccp_report.specs.Roles.{StandsIn, alone, as_due, incoming};
 ghost use Rattle.sccp_tool.specs.Replay.{accepted, done_alone, start};
-ghost use Rattle.sccp_tool.specs.Replayers.{ComesToNode, IsStanding, RoutesBatch, settled_in};
+ghost use Rattle.sccp_tool.specs.Replayers.{IsStanding, MayBeRouted, RoutesBatch, settled_in};
 ghost use Rattle.sccp_tool.specs.Routers.{routing_of};
-ghost use Rattle.sccp_tool.specs.Routings.{ArePlans, ahead, standing};
+ghost use Rattle.sccp_tool.specs.Routings.{ArePlans, AtMostOneMore, HasRoom, ahead, standing};
 
 use crate::router::Router;
 use crate::settled::Settled;
@@ -102,15 +102,11 @@ impl Replayer {
 
     /// One more plan comes in this batch.
     pub fn accept(&self, coming: &mut List<Accepted>, plan: Accepted) -> Result<(), OutOfMemory>
-        requires plans { ArePlans self.now.first (ahead self.now coming.old).later }
+        requires plans { HasRoom self.now.first (ahead self.now coming.old).later }
         requires same { SameNodes self.now.first plan.plan }
-        ensures plans { OnOk result (ArePlans self.now.first (ahead self.now coming.new).later) }
+        ensures plans { OnOk result (AtMostOneMore self.now.first (ahead self.now coming.old).later (ahead self.now coming.new).later) }
         ensures ok { OnOk result (ahead self.now coming.new ≡ record (ahead self.now coming.old) { later = (ahead self.now coming.old).later ++ plan.plan ∷ [] }) }
     {
-        // No trace has so many lines.
-        if self.accepted(coming) >= 1_000_000 {
-            return Err(OutOfMemory);
-        }
         // It ensures that this is a plan.
         let _plan = plan.plan();
         coming.push(plan)
@@ -125,7 +121,7 @@ impl Replayer {
         coming: List<Accepted>,
     ) -> Result<List<Served>, OutOfMemory>
         requires plans { ArePlans self.old.first (ahead self.old coming).later }
-        requires fits { All (ComesToNode self.old.first) settled.now }
+        requires fits { MayBeRouted self.old.first settled.now }
         ensures at { OnOk result (self.new ≡ ahead self.old coming) }
         ensures served { IfOk result (RoutesBatch self.old (ahead self.old coming) (map settled_in settled.now)) }
     {

@@ -1,6 +1,6 @@
-ghost use Rattle.std.specs.Prelude.{◌≡◌, ◌+◌, ◌≤◌, [], All, map, length, IfOk, OnOk};
+ghost use Rattle.std.specs.Prelude.{◌≡◌, ◌+◌, ◌≤◌, [], map, length, IfOk, OnOk};
 ghost use Rattle.sccp_tool.specs.Replay.{latest};
-ghost use Rattle.sccp_tool.specs.Replayers.{ComesToNode, RoutesBatch, settled_in};
+ghost use Rattle.sccp_tool.specs.Replayers.{MayBeRouted, RoutesBatch, settled_in};
 ghost use Rattle.sccp_tool.specs.Routers.{routing_of};
 ghost use Rattle.sccp_tool.specs.Routings.{ArePlans, IsRouting, ahead, routing, standing};
 
@@ -84,7 +84,7 @@ impl Router {
     ) -> Result<List<Served>, OutOfMemory>
         requires plans { ArePlans (routing_of self.old).first.plan (ahead (standing (routing_of self.old) states.now) coming).later }
         requires states { length states.now ≡ length (routing_of self.old).first.plan.nodes }
-        requires fits { All (ComesToNode (routing_of self.old).first.plan) settled.now }
+        requires fits { MayBeRouted (routing_of self.old).first.plan settled.now }
         ensures first { (routing_of self.new).first ≡ (routing_of self.old).first }
         ensures plans { IsRouting (routing_of self.new) }
         ensures at { OnOk result (standing (routing_of self.new) states.now ≡ ahead (standing (routing_of self.old) states.now) coming) }

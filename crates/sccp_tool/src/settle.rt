@@ -1,5 +1,5 @@
 //! The plan lines of a batch are settled before its messages are routed.
-ghost use Rattle.std.specs.Prelude.{◌≡◌, ◌+◌, ◌++◌, [], ◌∷◌, All, IfOk, OnOk};
+ghost use Rattle.std.specs.Prelude.{◌≡◌, ◌+◌, ◌≤◌, ◌++◌, [], ◌∷◌, length, IfOk, OnOk};
 ghost use Rattle.plan_model.specs.Network.{IsPlan, Network};
 ghost use Rattle.plan_model.specs.SameNodes.{SameNodes};
 ghost use Rattle.plan_text.specs.PlanText.{plan_of as read_plan};
@@ -7,12 +7,12 @@ ghost use Rattle.plan_verify.specs.Lawful.{IsLawful, plan_of};
 ghost use Rattle.sccp_report.specs.Events.{event_text};
 ghost use Rattle.sccp_report.specs.Roles.{StandsIn, role_of};
 ghost use Rattle.sccp_report.specs.Verdicts.{verdict_text};
-ghost use Rattle.sccp_tool.specs.Gathering.{IsJoined, joining_role, lines_in};
+ghost use Rattle.sccp_tool.specs.Gathering.{MayBeDone, joining_role, lines_in};
 ghost use Rattle.sccp_tool.specs.LaterPlans.{accepted_plan_line, refused_plan_head};
 ghost use Rattle.sccp_tool.specs.Moment.{moment};
 ghost use Rattle.sccp_tool.specs.Replay.{accepted, prints};
-ghost use Rattle.sccp_tool.specs.Replayers.{ComesToNode, settled_in};
-ghost use Rattle.sccp_tool.specs.Routings.{ArePlans, ahead};
+ghost use Rattle.sccp_tool.specs.Replayers.{ComesToNode, MayBeRouted, settled_in};
+ghost use Rattle.sccp_tool.specs.Routings.{ArePlans, AtMostOneMore, HasRoom, ahead};
 ghost use Rattle.sccp_tool.specs.Settling.{JudgesLine, GivesPlanLine, GivesPlanFile, GivesLine, GivesSettled};
 
 use crate::joined::{Joined, Joining};
@@ -40,9 +40,9 @@ fn accept_later(
     name: &str,
     plan: Accepted,
 ) -> Result<Settled, OutOfMemory>
-    requires plans { ArePlans at.now.first (ahead at.now coming.old).later }
+    requires plans { HasRoom at.now.first (ahead at.now coming.old).later }
     requires same { SameNodes at.now.first plan.plan }
-    ensures plans { OnOk result (ArePlans at.now.first (ahead at.now coming.new).later) }
+    ensures plans { OnOk result (AtMostOneMore at.now.first (ahead at.now coming.old).later (ahead at.now coming.new).later) }
     ensures text { IfOk result (λ s. settled_in s ≡ prints (accepted_plan_line line (accepted (ahead at.now coming.old) + 1) name.now plan.bound)) }
     ensures at { OnOk result (ahead at.now coming.new ≡ record (ahead at.now coming.old) { later = (ahead at.now coming.old).later ++ plan.plan ∷ [] }) }
     ensures fits { IfOk result (ComesToNode at.now.first) }
@@ -77,7 +77,7 @@ fn refuse_later(
 }
 
 /// The verdict on a later plan of the same relays.
-#[tactic(auto, using(crate::proofs::LaterSteps::accepted_judges, crate::proofs::LaterSteps::refused_judges, crate::proofs::LaterSteps::wide_judges))]
+#[tactic(auto, using(crate::proofs::LaterSteps::accepted_judges, crate::proofs::LaterSteps::refused_judges, crate::proofs::LaterSteps::wide_judges, crate::proofs::ReplayerLemmas::none_more))]
 fn judge_later(
     alloc: Global,
     at: &Replayer,
@@ -88,8 +88,8 @@ fn judge_later(
 ) -> Result<Settled, OutOfMemory>
     requires plan { IsPlan plan }
     requires same { SameNodes at.now.first plan }
-    requires plans { ArePlans at.now.first (ahead at.now coming.old).later }
-    ensures plans { OnOk result (ArePlans at.now.first (ahead at.now coming.new).later) }
+    requires plans { HasRoom at.now.first (ahead at.now coming.old).later }
+    ensures plans { OnOk result (AtMostOneMore at.now.first (ahead at.now coming.old).later (ahead at.now coming.new).later) }
     ensures gives { IfOk result (λ s. JudgesLine (ahead at.now coming.old) line name.now plan (ahead at.now coming.new) (settled_in s)) }
     ensures fits { IfOk result (ComesToNode at.now.first) }
 {
@@ -104,7 +104,7 @@ fn judge_later(
 
 /// What a plan line is settled to, whose file has this text: the text is refused where it is no plan, a plan of other relays
 /// next, and then by its verdict.
-#[tactic(auto, using(crate::proofs::LaterSteps::same_reads, crate::proofs::LaterSteps::other_reads, crate::proofs::LaterSteps::bad_reads))]
+#[tactic(auto, using(crate::proofs::LaterSteps::same_reads, crate::proofs::LaterSteps::other_reads, crate::proofs::LaterSteps::bad_reads, crate::proofs::ReplayerLemmas::none_more))]
 fn read_later(
     alloc: Global,
     at: &Replayer,
@@ -113,8 +113,8 @@ fn read_later(
     name: &str,
     text: &[u8],
 ) -> Result<Settled, OutOfMemory>
-    requires plans { ArePlans at.now.first (ahead at.now coming.old).later }
-    ensures plans { OnOk result (ArePlans at.now.first (ahead at.now coming.new).later) }
+    requires plans { HasRoom at.now.first (ahead at.now coming.old).later }
+    ensures plans { OnOk result (AtMostOneMore at.now.first (ahead at.now coming.old).later (ahead at.now coming.new).later) }
     ensures gives { IfOk result (λ s. GivesPlanLine (ahead at.now coming.old) line name.now (read_plan text.now) (ahead at.now coming.new) (settled_in s)) }
     ensures fits { IfOk result (ComesToNode at.now.first) }
 {
@@ -141,8 +141,8 @@ fn settle_plan<F: Files, K: Sink>(
     files: &mut F,
     out: &mut K,
 ) -> Result<Settled, Stop>
-    requires plans { ArePlans at.now.first (ahead at.now coming.old).later }
-    ensures plans { OnOk result (ArePlans at.now.first (ahead at.now coming.new).later) }
+    requires plans { HasRoom at.now.first (ahead at.now coming.old).later }
+    ensures plans { OnOk result (AtMostOneMore at.now.first (ahead at.now coming.old).later (ahead at.now coming.new).later) }
     ensures gives { GivesPlanFile (ahead at.now coming.old) line name.now result (ahead at.now coming.new)
         (moment F.contents F.sound F.faults K.taken K.faults files.old out.old)
         (moment F.contents F.sound F.faults K.taken K.faults files.new out.new) }
@@ -174,8 +174,8 @@ fn settle_named<F: Files, K: Sink>(
     files: &mut F,
     out: &mut K,
 ) -> Result<Settled, Stop>
-    requires plans { ArePlans at.now.first (ahead at.now coming.old).later }
-    ensures plans { OnOk result (ArePlans at.now.first (ahead at.now coming.new).later) }
+    requires plans { HasRoom at.now.first (ahead at.now coming.old).later }
+    ensures plans { OnOk result (AtMostOneMore at.now.first (ahead at.now coming.old).later (ahead at.now coming.new).later) }
     ensures gives { GivesPlanFile (ahead at.now coming.old) line name.now result (ahead at.now coming.new)
         (moment F.contents F.sound F.faults K.taken K.faults files.old out.old)
         (moment F.contents F.sound F.faults K.taken K.faults files.new out.new) }
@@ -189,7 +189,7 @@ fn settle_named<F: Files, K: Sink>(
 }
 
 /// What a line of a batch is settled to.
-#[tactic(auto, using(crate::proofs::LaterSteps::routed_gives, crate::proofs::LaterSteps::named_gives, crate::proofs::LaterSteps::aside_gives, crate::proofs::TakeSteps::works_memory))]
+#[tactic(auto, using(crate::proofs::LaterSteps::routed_gives, crate::proofs::LaterSteps::named_gives, crate::proofs::LaterSteps::aside_gives, crate::proofs::TakeSteps::works_memory, crate::proofs::ReplayerLemmas::none_more))]
 fn settle_line<F: Files, K: Sink>(
     alloc: Global,
     at: &Replayer,
@@ -198,10 +198,10 @@ fn settle_line<F: Files, K: Sink>(
     files: &mut F,
     out: &mut K,
 ) -> Result<Settled, Stop>
-    requires plans { ArePlans at.now.first (ahead at.now coming.old).later }
+    requires plans { HasRoom at.now.first (ahead at.now coming.old).later }
     requires role { joining_role one.joining ≡ role_of at.now.first one.line.line }
     requires stands { StandsIn at.now.first (joining_role one.joining) }
-    ensures plans { OnOk result (ArePlans at.now.first (ahead at.now coming.new).later) }
+    ensures plans { OnOk result (AtMostOneMore at.now.first (ahead at.now coming.old).later (ahead at.now coming.new).later) }
     ensures gives { GivesLine (ahead at.now coming.old) one.line result (ahead at.now coming.new)
         (moment F.contents F.sound F.faults K.taken K.faults files.old out.old)
         (moment F.contents F.sound F.faults K.taken K.faults files.new out.new) }
@@ -239,12 +239,13 @@ pub fn settle<F: Files, K: Sink>(
     out: &mut K,
 ) -> Result<List<Settled>, Stop>
     requires plans { ArePlans at.now.first (ahead at.now coming.old).later }
-    requires joined { All (IsJoined at.now.first) joined }
+    requires joined { MayBeDone (ahead at.now coming.old) joined }
     ensures plans { OnOk result (ArePlans at.now.first (ahead at.now coming.new).later) }
     ensures gives { GivesSettled (ahead at.now coming.old) (lines_in joined) result (ahead at.now coming.new)
         (moment F.contents F.sound F.faults K.taken K.faults files.old out.old)
         (moment F.contents F.sound F.faults K.taken K.faults files.new out.new) }
-    ensures fits { IfOk result (λ settled. All (ComesToNode at.now.first) settled) }
+    ensures few { OnOk result (length (ahead at.now coming.new).later ≤ length (ahead at.now coming.old).later + length joined) }
+    ensures fits { IfOk result (MayBeRouted at.now.first) }
     ensures left { F.left files.new ≡ F.left files.old }
 {
     let mut settled = List::new(alloc);

@@ -1,9 +1,9 @@
 //! One line of a trace after the other.
-ghost use Rattle.std.specs.Prelude.{◌≡◌, ◌++◌, [], All, IfOk, OnOk};
+ghost use Rattle.std.specs.Prelude.{◌≡◌, ◌+◌, ◌≤◌, ◌++◌, [], ◌∷◌, length, IfOk, OnOk};
 ghost use Rattle.std.specs.Option.{option_map};
 ghost use Rattle.sccp_report.specs.Events.{event_text};
 ghost use Rattle.sccp_report.specs.Roles.{StandsIn, alone, as_due, role_of};
-ghost use Rattle.sccp_tool.specs.Gathering.{IsBegun, IsJoined, joining_role, lines_in};
+ghost use Rattle.sccp_tool.specs.Gathering.{HasTaken, MayBeDone, MayTake, is_skipped, joining_role, lines_in};
 ghost use Rattle.sccp_tool.specs.Moment.{moment};
 ghost use Rattle.sccp_tool.specs.Replay.{done_alone};
 ghost use Rattle.sccp_tool.specs.Settling.{TakesLine, TakesLines, WritesBatch, Gathers, StandsAlone, IsPlaced};
@@ -21,7 +21,7 @@ use sccp_report::{Due, Role, Text, put_event, role_of};
 use std::alloc::Global;
 use std::sync::Wait;
 use std::thread::Threads;
-use trace_text::Numbered;
+use trace_text::{Line, Numbered};
 
 /// A full batch is done, and its text written.
 #[tactic(auto, using(crate::proofs::TakeSteps::batch_stopped, crate::proofs::TakeSteps::batch_written))]
@@ -34,11 +34,12 @@ fn write_full<R: Threads + Wait + Sync, G: Gate + Sync, F: Files, K: Sink>(
     files: &mut F,
     out: &mut K,
 ) -> Result<(), Stop>
-    requires { All (IsJoined at.old.first) batch.old }
+    requires { MayBeDone at.old batch.old }
     ensures gives { WritesBatch at.old (lines_in batch.old) result at.new
         (moment F.contents F.sound F.faults K.taken K.faults files.old out.old)
         (moment F.contents F.sound F.faults K.taken K.faults files.new out.new) }
     ensures none { OnOk result (batch.new ≡ []) }
+    ensures few { OnOk result (length at.new.later ≤ length at.old.later + length batch.old) }
     ensures left { F.left files.new ≡ F.left files.old }
 {
     let text = batch_text(rt, gate, alloc, at, batch.take(alloc), files, out)?;
@@ -46,7 +47,7 @@ fn write_full<R: Threads + Wait + Sync, G: Gate + Sync, F: Files, K: Sink>(
 }
 
 /// A line joins the batch that has begun, which is done where it is full.
-#[tactic(auto, using(crate::proofs::TakeSteps::gathers_full, crate::proofs::TakeSteps::gathers_more, crate::proofs::TakeSteps::works_memory, crate::proofs::Gathering::more_joined, crate::proofs::Gathering::more_begun, crate::proofs::Gathering::none_begun))]
+#[tactic(auto, using(crate::proofs::TakeSteps::gathers_full, crate::proofs::TakeSteps::gathers_more, crate::proofs::TakeSteps::works_memory, crate::proofs::Gathering::more_joined, crate::proofs::Gathering::more_begun, crate::proofs::Gathering::full_begun))]
 fn gather<R: Threads + Wait + Sync, G: Gate + Sync, F: Files, K: Sink>(
     rt: &R,
     gate: &G,
@@ -57,13 +58,13 @@ fn gather<R: Threads + Wait + Sync, G: Gate + Sync, F: Files, K: Sink>(
     files: &mut F,
     out: &mut K,
 ) -> Result<(), Stop>
-    requires begun { IsBegun at.old.first batch.old }
+    requires begun { MayTake 1 at.old batch.old }
     requires role { joining_role one.joining ≡ role_of at.old.first one.line.line }
     requires stands { StandsIn at.old.first (joining_role one.joining) }
     ensures gives { Gathers at.old (lines_in batch.old) one.line result at.new (lines_in batch.new)
         (moment F.contents F.sound F.faults K.taken K.faults files.old out.old)
         (moment F.contents F.sound F.faults K.taken K.faults files.new out.new) }
-    ensures begun { OnOk result (IsBegun at.new.first batch.new) }
+    ensures begun { OnOk result (HasTaken 1 at.old batch.old at.new batch.new) }
     ensures left { F.left files.new ≡ F.left files.old }
 {
     batch.push(one)?;
@@ -106,12 +107,13 @@ fn stand_alone<R: Threads + Wait + Sync, G: Gate + Sync, F: Files, K: Sink>(
     files: &mut F,
     out: &mut K,
 ) -> Result<(), Stop>
-    requires joined { All (IsJoined at.old.first) batch.old }
+    requires joined { MayBeDone at.old batch.old }
     requires stands { StandsIn at.old.first (alone (option_map as_due due)) }
     ensures gives { StandsAlone at.old (lines_in batch.old) line.now (option_map as_due due) result at.new
         (moment F.contents F.sound F.faults K.taken K.faults files.old out.old)
         (moment F.contents F.sound F.faults K.taken K.faults files.new out.new) }
     ensures none { OnOk result (batch.new ≡ []) }
+    ensures few { OnOk result (length at.new.later ≤ length at.old.later + length batch.old) }
     ensures left { F.left files.new ≡ F.left files.old }
 {
     match batch_text(rt, gate, alloc, at, batch.take(alloc), files, out) {
@@ -155,9 +157,9 @@ fn place_of(alloc: Global, at: &Replayer, line: &Numbered) -> Result<Place, OutO
     }
 }
 
-/// One more line of a trace.
-#[tactic(auto, using(crate::proofs::TakeSteps::takes_gathered, crate::proofs::TakeSteps::takes_alone, crate::proofs::TakeSteps::works_memory, crate::proofs::Gathering::none_begun))]
-fn take_line<R: Threads + Wait + Sync, G: Gate + Sync, F: Files, K: Sink>(
+/// One more line of a trace, which isn't skipped.
+#[tactic(auto, using(crate::proofs::TakeSteps::takes_gathered, crate::proofs::TakeSteps::takes_alone, crate::proofs::TakeSteps::works_memory, crate::proofs::Gathering::may_be_done, crate::proofs::Gathering::alone_begun))]
+fn take_kept<R: Threads + Wait + Sync, G: Gate + Sync, F: Files, K: Sink>(
     rt: &R,
     gate: &G,
     alloc: Global,
@@ -167,11 +169,11 @@ fn take_line<R: Threads + Wait + Sync, G: Gate + Sync, F: Files, K: Sink>(
     files: &mut F,
     out: &mut K,
 ) -> Result<(), Stop>
-    requires { IsBegun at.old.first batch.old }
+    requires { MayTake 1 at.old batch.old }
     ensures takes { TakesLine at.old (lines_in batch.old) line result at.new (lines_in batch.new)
         (moment F.contents F.sound F.faults K.taken K.faults files.old out.old)
         (moment F.contents F.sound F.faults K.taken K.faults files.new out.new) }
-    ensures begun { OnOk result (IsBegun at.new.first batch.new) }
+    ensures begun { OnOk result (HasTaken 1 at.old batch.old at.new batch.new) }
     ensures left { F.left files.new ≡ F.left files.old }
 {
     match place_of(alloc, at, &line)? {
@@ -183,7 +185,40 @@ fn take_line<R: Threads + Wait + Sync, G: Gate + Sync, F: Files, K: Sink>(
     }
 }
 
+fn is_skipped(line: &Line) -> bool
+    ensures { result ≡ is_skipped line.now }
+{
+    matches!(line, Line::Skip)
+}
+
+/// One more line of a trace. A skipped one adds nothing to a batch, and isn't kept.
+#[tactic(auto, using(crate::proofs::Skipping::skipped_taken, crate::proofs::TakeSteps::one_taken, crate::proofs::Gathering::none_taken))]
+fn take_line<R: Threads + Wait + Sync, G: Gate + Sync, F: Files, K: Sink>(
+    rt: &R,
+    gate: &G,
+    alloc: Global,
+    at: &mut Replayer,
+    batch: &mut Gathered,
+    line: Numbered,
+    files: &mut F,
+    out: &mut K,
+) -> Result<(), Stop>
+    requires { MayTake 1 at.old batch.old }
+    ensures takes { TakesLines at.old (lines_in batch.old) (line ∷ []) result at.new (lines_in batch.new)
+        (moment F.contents F.sound F.faults K.taken K.faults files.old out.old)
+        (moment F.contents F.sound F.faults K.taken K.faults files.new out.new) }
+    ensures begun { OnOk result (HasTaken 1 at.old batch.old at.new batch.new) }
+    ensures left { F.left files.new ≡ F.left files.old }
+{
+    if is_skipped(&line.line) {
+        drop(line);
+        return Ok(());
+    }
+    take_kept(rt, gate, alloc, at, batch, line, files, out)
+}
+
 /// More lines of a trace, in their order.
+#[tactic(auto, using(crate::proofs::Gathering::begun_taken))]
 pub fn take_lines<R: Threads + Wait + Sync, G: Gate + Sync, F: Files, K: Sink>(
     rt: &R,
     gate: &G,
@@ -194,11 +229,11 @@ pub fn take_lines<R: Threads + Wait + Sync, G: Gate + Sync, F: Files, K: Sink>(
     files: &mut F,
     out: &mut K,
 ) -> Result<(), Stop>
-    requires { IsBegun at.old.first batch.old }
+    requires { MayTake (length lines) at.old batch.old }
     ensures takes { TakesLines at.old (lines_in batch.old) lines result at.new (lines_in batch.new)
         (moment F.contents F.sound F.faults K.taken K.faults files.old out.old)
         (moment F.contents F.sound F.faults K.taken K.faults files.new out.new) }
-    ensures begun { OnOk result (IsBegun at.new.first batch.new) }
+    ensures begun { OnOk result (HasTaken (length lines) at.old batch.old at.new batch.new) }
     ensures left { F.left files.new ≡ F.left files.old }
 {
     for line in lines.into_vec() {

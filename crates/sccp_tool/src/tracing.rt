@@ -1,10 +1,10 @@
 //! A trace that is read and replayed in pieces.
-ghost use Rattle.std.specs.Prelude.{◌≡◌, ◌+◌, ◌++◌, [], All, length, IfOk, OnOk};
+ghost use Rattle.std.specs.Prelude.{◌≡◌, ◌+◌, ◌≤◌, ◌++◌, [], length, IfOk, OnOk};
 ghost use Rattle.sccp_tool.specs.Ending.{Works};
-ghost use Rattle.sccp_tool.specs.Gathering.{IsBegun, IsJoined, lines_in};
+ghost use Rattle.sccp_tool.specs.Gathering.{IsCounted, MayBeDone, lines_in};
 ghost use Rattle.sccp_tool.specs.Moment.{moment};
 ghost use Rattle.sccp_tool.specs.Replay.{closing_of, end_line, lines_work, trace_work};
-ghost use Rattle.sccp_tool.specs.Replaying.{rest_work};
+ghost use Rattle.sccp_tool.specs.Replaying.{IsFed, rest_work};
 ghost use Rattle.sccp_tool.specs.Settling.{TakesLines};
 ghost use Rattle.sccp_tool.specs.Trace.{trace_of};
 ghost use Rattle.sccp_tool.specs.Work.{read};
@@ -30,7 +30,7 @@ use trace_text::{LineFault, Numbered, Reader};
 /// How many octets are taken at a time.
 const PIECE: usize = 4096;
 
-/// More than the octets of any trace: a line that is too long or one too many ends it before.
+/// More than the octets of any trace: before so many were read, a line is too long or one too many.
 const MOST_PIECES: u64 = 8_200_000_000;
 
 #[tactic(auto, unfolding(crate::specs::Replay::end_line))]
@@ -76,7 +76,7 @@ fn write_last<R: Threads + Wait + Sync, G: Gate + Sync, F: Files, K: Sink>(
     files: &mut F,
     out: &mut K,
 ) -> Result<Status, Stop>
-    requires { All (IsJoined at.old.first) batch.old }
+    requires { MayBeDone at.old batch.old }
     ensures { Works (lines_work (closing_of count fault) at.old (lines_in batch.old) []) result
         (moment F.contents F.sound F.faults K.taken K.faults files.old out.old)
         (moment F.contents F.sound F.faults K.taken K.faults files.new out.new) }
@@ -87,6 +87,7 @@ fn write_last<R: Threads + Wait + Sync, G: Gate + Sync, F: Files, K: Sink>(
 }
 
 /// Lines that were told are taken, and counted.
+#[tactic(auto, using(crate::proofs::Gathering::may_take, crate::proofs::Gathering::counted))]
 fn take_told<R: Threads + Wait + Sync, G: Gate + Sync, F: Files, K: Sink>(
     rt: &R,
     gate: &G,
@@ -98,23 +99,22 @@ fn take_told<R: Threads + Wait + Sync, G: Gate + Sync, F: Files, K: Sink>(
     files: &mut F,
     out: &mut K,
 ) -> Result<usize, Stop>
-    requires { IsBegun at.old.first batch.old }
+    requires begun { IsCounted count at.old batch.old }
+    requires few { count + length lines ≤ 1000000 }
     ensures takes { TakesLines at.old (lines_in batch.old) lines result at.new (lines_in batch.new)
         (moment F.contents F.sound F.faults K.taken K.faults files.old out.old)
         (moment F.contents F.sound F.faults K.taken K.faults files.new out.new) }
     ensures count { IfOk result (λ n. n ≡ count + length lines) }
-    ensures begun { OnOk result (IsBegun at.new.first batch.new) }
+    ensures begun { IfOk result (λ n. IsCounted n at.new batch.new) }
     ensures left { F.left files.new ≡ F.left files.old }
 {
-    let Some(more) = count.checked_add(lines.as_slice().len()) else {
-        return Err(Stop::Memory);
-    };
+    let more = count + lines.as_slice().len();
     take_lines(rt, gate, alloc, at, batch, lines, files, out)?;
     Ok(more)
 }
 
 /// The end of the trace: its last line, where no line feed ends it, and what is written then.
-#[tactic(auto, using(crate::proofs::TakeSteps::last_taken, crate::proofs::TakeSteps::last_stopped, crate::proofs::TakeSteps::works_memory))]
+#[tactic(auto, using(crate::proofs::TakeSteps::last_taken, crate::proofs::TakeSteps::last_stopped, crate::proofs::TakeSteps::works_memory, crate::proofs::Fed::last_few))]
 fn take_end<R: Threads + Wait + Sync, G: Gate + Sync, F: Files, K: Sink>(
     rt: &R,
     gate: &G,
@@ -126,7 +126,8 @@ fn take_end<R: Threads + Wait + Sync, G: Gate + Sync, F: Files, K: Sink>(
     files: &mut F,
     out: &mut K,
 ) -> Result<Status, Stop>
-    requires { IsBegun at.old.first batch.old }
+    requires begun { IsCounted count at.old batch.old }
+    requires fed { IsFed reader.old count 0 }
     ensures { Works (rest_work count at.old (lines_in batch.old) [] reader.old []) result
         (moment F.contents F.sound F.faults K.taken K.faults files.old out.old)
         (moment F.contents F.sound F.faults K.taken K.faults files.new out.new) }
@@ -136,7 +137,7 @@ fn take_end<R: Threads + Wait + Sync, G: Gate + Sync, F: Files, K: Sink>(
     write_last(rt, gate, alloc, at, batch, count, fed.fault, files, out)
 }
 
-/// Replays the trace of a file: its lines in batches, each written as soon as it is done.
+/// Replays the trace of a file: its lines in batches, each written as soon as it is done. No later plan was accepted yet.
 pub fn replay_trace<R: Threads + Wait + Sync, G: Gate + Sync, F: Files, K: Sink>(
     rt: &R,
     gate: &G,
@@ -146,6 +147,7 @@ pub fn replay_trace<R: Threads + Wait + Sync, G: Gate + Sync, F: Files, K: Sink>
     files: &mut F,
     out: &mut K,
 ) -> Result<Status, Stop>
+    requires { at.old.later ≡ [] }
     ensures { Works (read name.now (λ octets. trace_work at.old (trace_of octets))) result
         (moment F.contents F.sound F.faults K.taken K.faults files.old out.old)
         (moment F.contents F.sound F.faults K.taken K.faults files.new out.new) }
@@ -157,7 +159,7 @@ pub fn replay_trace<R: Threads + Wait + Sync, G: Gate + Sync, F: Files, K: Sink>
     let mut batch = Gathered::new(alloc);
     let mut count = 0;
     let mut piece = [0u8; PIECE];
-    for _ in 0..MOST_PIECES {
+    for _turn in 0..MOST_PIECES {
         let taken = match files.take(&mut piece) {
             Ok(taken) => taken,
             Err(fault) => return Err(stopped(fault)),
@@ -185,5 +187,5 @@ pub fn replay_trace<R: Threads + Wait + Sync, G: Gate + Sync, F: Files, K: Sink>
             );
         }
     }
-    Err(Stop::Memory)
+    unreachable!()
 }

@@ -1,6 +1,6 @@
-use Rattle.std.proofs.Common.{◌≡◌, ℕ, List, [], ◌∙◌, Err, map, ap, subst}
+use Rattle.std.proofs.Common.{◌≡◌, ℕ, List, [], ◌∙◌, Err, length, map, sym, ap, subst, arith}
 use Rattle.std.proofs.lemmas.Result.{err_from_is_err_and}
-use Rattle.sccp_tool.specs.Gathering.{lines_in}
+use Rattle.sccp_tool.specs.Gathering.{MayBeDone, lines_in}
 use Rattle.sccp_tool.specs.Moment.{Moment, moment}
 use Rattle.sccp_tool.specs.Numbers.{AreNumbers}
 use Rattle.sccp_tool.specs.Replay.{Standing, Settled, batch_of, told_at}
@@ -10,6 +10,18 @@ use Rattle.sccp_tool.specs.Routings.{ahead}
 use Rattle.sccp_tool.proofs.BatchSteps.{settled_memory, batch_told}
 use Rattle.sccp_tool.proofs.ReplayerLemmas.{none_ahead}
 use Rattle.sccp_tool.proofs.batch.batch_text.Goals as goal
+
+pub settle-requires-clause-joined : goal.settle-requires-clause-joined
+settle-requires-clause-joined g c κs within =
+    subst (λ (a : Standing). MayBeDone a c.args.joined) (sym (ap (ahead c.args.at.now) c.new-coming.ensures ∙ none_ahead c.args.at.now)) c.requires
+
+pub returns-clause-few : goal.returns-clause-few
+returns-clause-few g c =
+    let none = ap (λ (a : Standing). length a.later) (ap (ahead c.args.at.now) c.new-coming.ensures ∙ none_ahead c.args.at.now) in
+    let routed = ap (λ (a : Standing). length a.later) c.in_ok-served.ensures.at in
+    let told = ap (λ (a : Standing). length a.later) c.in_ok-text.ensures.at in
+    let few = c.in_ok-settled.ensures.few in
+    omega (arith, none, routed, told, few)
 
 pub returns-in_err-settled-clause-gives : goal.returns-in_err-settled-clause-gives
 returns-in_err-settled-clause-gives g c =

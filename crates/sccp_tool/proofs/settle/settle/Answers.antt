@@ -1,4 +1,4 @@
-use Rattle.std.proofs.Common.{◌≡◌, ◌+◌, [], ◌∷◌, ◌++◌, List, length, map, drop, sym, ◌∙◌, ap, subst, Err, length-append}
+use Rattle.std.proofs.Common.{◌≡◌, ◌+◌, [], ◌∷◌, ◌++◌, List, length, map, drop, sym, ◌∙◌, ap, subst, Err, length-append, arith}
 use Rattle.std.proofs.lemmas.Iterator.Adapters.{YieldsList-from_vec}
 use Rattle.std.proofs.lemmas.Iterator.Consumers.{YieldsList-turn}
 use Rattle.std.proofs.lemmas.List.{map-append}
@@ -14,6 +14,16 @@ use Rattle.sccp_tool.specs.declared.joined.Joined.{Joined}
 use Rattle.sccp_tool.proofs.BatchSteps.{dropped, settled_memory}
 use Rattle.sccp_tool.proofs.SettleSteps.{one_settled, stopped_at}
 use Rattle.sccp_tool.proofs.settle.settle.Goals as goal
+
+pub settle_line-requires-clause-plans : goal.settle_line-requires-clause-plans
+settle_line-requires-clause-plans g c κs within =
+    let v = c.into_vec-one-items in
+    let it = c.into_iter-one-iterator in
+    let t = YieldsList-turn (YieldsList-from_vec {s = it.result} c.args.joined (it.ensures.into_iter_gives.0 ∙ v.ensures) (it.ensures.into_iter_gives.1 ∙ v.result.ok.0 ∙ ap length v.ensures)) c.loop-one.yielded c.loop-one.one-iterator c.loop-one.yielded_by _ c.next.new.self c.in-Some.one c.in-Some.is c.next.ensures.steps in
+    let turn = t.0 in
+    let so_far = c.loop-one.invariant.few in
+    let most = c.requires.joined.few in
+    record { plans = c.loop-one.invariant.plans; few = omega (arith, turn, so_far, most) }
 
 pub returns-in_err-settle_line-clause-gives : goal.returns-in_err-settle_line-clause-gives
 returns-in_err-settle_line-clause-gives g c =
@@ -69,13 +79,19 @@ loop-one-preserved g c =
     let kept = c.loop-one.invariant in
     let e = c.in_ok-settle_line.ensures in
     let count : length (c.loop-one.yielded ++ c.in-Some.one ∷ []) ≡ length c.loop-one.yielded + 1 = length-append c.loop-one.yielded (c.in-Some.one ∷ []) in
+    let so_far = kept.few in
+    let one = e.plans.few in
+    let as_many = kept.as_many in
+    let pushed : length c.push.new.self ≡ length c.loop-one.settled + 1 = ap length c.in_ok-push.ensures.ok ∙ length-append c.loop-one.settled (c.in_ok-settle_line.field-0 ∷ []) in
     let more : map settled_in c.push.new.self ≡ ss ++ s ∷ [] = ap (map settled_in) c.in_ok-push.ensures.ok ∙ map-append settled_in c.loop-one.settled (c.in_ok-settle_line.field-0 ∷ []) in
     record {
       settles = rw count (subst (λ ts. SettlesTo first (lines_in c.args.joined) next ts (lines_in left) b a) (sym more)
           (one_settled first (lines_in c.args.joined) now next ss c.in-Some.one.line (lines_in left) s b m a
           (subst (λ l. SettlesTo first (lines_in c.args.joined) now ss (lines_in l) b m) (dropped c.args.joined (length c.loop-one.yielded) c.in-Some.one t.0 t.1) kept.settles)
           e.gives));
-      plans = e.plans;
+      plans = e.plans.plans;
+      few = omega (arith, count, so_far, one);
+      as_many = omega (arith, count, pushed, as_many);
       fits = All-same (ComesToNode c.args.at.now.first) _ _ c.in_ok-push.ensures.ok
           (All-push (ComesToNode c.args.at.now.first) c.loop-one.settled c.in_ok-settle_line.field-0 kept.fits e.fits);
       left = e.left ∙ kept.left;

@@ -1,4 +1,4 @@
-use Rattle.std.proofs.Common.{◌≡◌, drop, length, map}
+use Rattle.std.proofs.Common.{◌≡◌, ◌+◌, ◌≤◌, drop, length, map}
 use Rattle.std.specs.List.{All}
 use Rattle.sccp_tool.specs.Gathering.{lines_in}
 use Rattle.sccp_tool.specs.Moment.{moment}
@@ -14,6 +14,8 @@ invariant-loop-one g l = record {
       (moment g.F.Files.contents g.F.Files.sound g.F.Files.faults g.K.Sink.taken g.K.Sink.faults l.fn.files l.fn.out)
       (moment g.F.Files.contents g.F.Files.sound g.F.Files.faults g.K.Sink.taken g.K.Sink.faults l.files l.out);
   plans : ArePlans l.fn.at.first (ahead l.fn.at l.coming).later;
+  few : length (ahead l.fn.at l.coming).later ≤ length (ahead l.fn.at l.fn.coming).later + length l.yielded;
+  as_many : length l.settled ≡ length l.yielded;
   fits : All (ComesToNode l.fn.at.first) l.settled;
   left : g.F.Files.left l.files ≡ g.F.Files.left l.fn.files;
 }

@@ -6,8 +6,16 @@ use Rattle.trace_text.specs.declared.line.Numbered.{Numbered}
 use Rattle.sccp_tool.specs.Gathering.{lines_in}
 use Rattle.sccp_tool.specs.Moment.{Moment, moment}
 use Rattle.sccp_tool.proofs.BatchSteps.{dropped}
+use Rattle.sccp_tool.proofs.Gathering.{may_go_on, more_taken}
 use Rattle.sccp_tool.proofs.TakeSteps.{LinesLeft, line_taken, line_stopped}
 use Rattle.sccp_tool.proofs.taking.take_lines.Goals as goal
+
+pub take_line-requires : goal.take_line-requires
+take_line-requires g c κs within =
+    let v = c.into_vec-line-items in
+    let it = c.into_iter-line-iterator in
+    let t = YieldsList-turn (YieldsList-from_vec {s = it.result} c.args.lines (it.ensures.into_iter_gives.0 ∙ v.ensures) (it.ensures.into_iter_gives.1 ∙ v.result.ok.0 ∙ ap length v.ensures)) c.loop-line.yielded c.loop-line.line-iterator c.loop-line.yielded_by _ c.next.new.self c.in-Some.line c.in-Some.is c.next.ensures.steps in
+    may_go_on (length c.args.lines) (length c.loop-line.yielded) c.args.at.now c.loop-line.at c.args.batch.now c.loop-line.batch c.requires c.loop-line.invariant.begun t.0
 
 pub returns-in_err-take_line-clause-takes : goal.returns-in_err-take_line-clause-takes
 returns-in_err-take_line-clause-takes g c =
@@ -37,6 +45,6 @@ loop-line-preserved g c =
       lines = rw more (line_taken c.args.at.now c.loop-line.at c.take_line.new.at (lines_in c.args.batch.now) (lines_in c.loop-line.batch) (lines_in c.take_line.new.batch) c.args.lines left c.in-Some.line b m a
           (subst (λ l. LinesLeft c.args.at.now (lines_in c.args.batch.now) c.args.lines c.loop-line.at (lines_in c.loop-line.batch) l b m) (dropped c.args.lines (length c.loop-line.yielded) c.in-Some.line t.0 t.1) c.loop-line.invariant.lines)
           c.in_ok-take_line.ensures.takes);
-      begun = c.in_ok-take_line.ensures.begun;
+      begun = rw more (more_taken (length c.loop-line.yielded) c.args.at.now c.loop-line.at c.take_line.new.at c.args.batch.now c.loop-line.batch c.take_line.new.batch c.loop-line.invariant.begun c.in_ok-take_line.ensures.begun);
       left = c.in_ok-take_line.ensures.left ∙ c.loop-line.invariant.left;
     }

@@ -1,5 +1,5 @@
 use Rattle.std.proofs.Common.{◌≡◌, drop, length}
-use Rattle.sccp_tool.specs.Gathering.{IsBegun, lines_in}
+use Rattle.sccp_tool.specs.Gathering.{HasTaken, lines_in}
 use Rattle.sccp_tool.specs.Moment.{moment}
 use Rattle.sccp_tool.proofs.TakeSteps.{LinesLeft}
 use Rattle.sccp_tool.proofs.taking.take_lines.Given as goal
@@ -10,6 +10,6 @@ invariant-loop-line g l = record {
   lines : LinesLeft l.fn.at (lines_in l.fn.batch) l.fn.lines l.at (lines_in l.batch) (drop (length l.yielded) l.fn.lines)
       (moment g.F.Files.contents g.F.Files.sound g.F.Files.faults g.K.Sink.taken g.K.Sink.faults l.fn.files l.fn.out)
       (moment g.F.Files.contents g.F.Files.sound g.F.Files.faults g.K.Sink.taken g.K.Sink.faults l.files l.out);
-  begun : IsBegun l.at.first l.batch;
+  begun : HasTaken (length l.yielded) l.fn.at l.fn.batch l.at l.batch;
   left : g.F.Files.left l.files ≡ g.F.Files.left l.fn.files;
 }

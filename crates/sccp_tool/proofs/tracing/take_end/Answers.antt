@@ -1,8 +1,17 @@
+use Rattle.std.proofs.Common.{arith}
 use Rattle.std.proofs.lemmas.Result.{err_from_is_err_and}
 use Rattle.sccp_tool.specs.Gathering.{lines_in}
 use Rattle.sccp_tool.specs.Moment.{Moment, moment}
+use Rattle.sccp_tool.proofs.Fed.{last_few}
+use Rattle.sccp_tool.proofs.Gathering.{counted_done}
 use Rattle.sccp_tool.proofs.TakeSteps.{last_stopped}
 use Rattle.sccp_tool.proofs.tracing.take_end.Goals as goal
+
+pub write_last-requires : goal.write_last-requires
+write_last-requires g c κs within =
+    let counted = c.in_ok-count.ensures.count in
+    let few = last_few c.args.reader.now c.args.count c.in_ok-fed.fed c.requires.fed c.in_ok-fed.ensures.text in
+    counted_done c.in_ok-count.count c.take_told.new.at c.take_told.new.batch c.in_ok-count.ensures.begun (omega (arith, counted, few))
 
 pub returns-in_err-count : goal.returns-in_err-count
 returns-in_err-count g c =

@@ -9,7 +9,7 @@ use Rattle.sccp_tool.proofs.crew.Crew.route.Goals as goal
 
 pub serve_jobs-requires-clause-entries : goal.serve_jobs-requires-clause-entries
 serve_jobs-requires-clause-entries g c κs within =
-    crew_entries c.args.self.now.first.plan c.self.inside.teller.nodes c.args.settled.now c.in_ok-jobs.jobs (c.self.invariant.0.nodes_are ∙ ap (λ (r : Routing). length r.first.plan.nodes) c.self.view_is) c.in_ok-jobs.ensures c.requires.fits
+    crew_entries c.args.self.now.first.plan c.self.inside.teller.nodes c.args.settled.now c.in_ok-jobs.jobs (c.self.invariant.0.nodes_are ∙ ap (λ (r : Routing). length r.first.plan.nodes) c.self.view_is) c.in_ok-jobs.ensures c.requires.fits.fits
 
 pub serve_jobs-requires-clause-nodes : goal.serve_jobs-requires-clause-nodes
 serve_jobs-requires-clause-nodes g c κs within =
@@ -38,4 +38,4 @@ returns-clause-at g c =
 pub returns-clause-served : goal.returns-clause-served
 returns-clause-served g c =
     crew_served c.serve_jobs.result (plans_of c.self.inside.teller) (plans_of c.serve_jobs.new.teller) c.args.coming (length c.self.inside.workers) (entry_plan c.self.inside.first) c.args.states.now c.args.self.now c.args.settled.now c.in_ok-jobs.jobs
-    c.self.invariant.0.several c.self.invariant.0.begins c.self.view_is c.serve_jobs.ensures.published c.in_ok-jobs.ensures c.requires.plans c.requires.fits c.serve_jobs.ensures.served
+    c.self.invariant.0.several c.self.invariant.0.begins c.self.view_is c.serve_jobs.ensures.published c.in_ok-jobs.ensures c.requires.plans c.requires.fits.fits c.serve_jobs.ensures.served
