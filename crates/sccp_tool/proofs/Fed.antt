@@ -1,10 +1,10 @@
 -- How many lines and octets a reader can be fed before it tells a fault.
-use Rattle.std.proofs.Common.{◌≡◌, ◌<◌, ◌≤◌, ◌+◌, ◌*◌, ℕ, suc, List, [], ◌∷◌, ◌++◌, length, Bool, true, false, cond, Option, Some, None, Result, Ok, Err, refl, sym, ◌∙◌, ap, subst, arith, ltb, length-append, append-nil}
+use Rattle.std.proofs.Common.{◌≡◌, ◌<◌, ◌≤◌, ◌+◌, ◌*◌, ℕ, List, [], ◌∷◌, ◌++◌, length, Bool, true, false, cond, Option, Some, None, Result, Ok, Err, refl, ◌∙◌, ap, arith, ltb, length-append}
 use Rattle.std.specs.Prelude.{◌||◌}
 use Rattle.std.specs.List.{slice_split, onto_first, count_by}
 use Rattle.std.proofs.lemmas.Bool.{ltb-false}
 use Rattle.std.proofs.lemmas.List.Splits.{length-slice_split}
-use Rattle.trace_text.specs.Lines.{TextLine, text_line, is_line_feed, last_line, lines_of_parts, lines_of, limit_of, held, content_of}
+use Rattle.trace_text.specs.Lines.{TextLine, text_line, is_line_feed, lines_of_parts, lines_of, limit_of, held, content_of}
 use Rattle.trace_text.specs.Told.{HasRead, numbered, numbered_content, and_then, only, told, told_lines, with_front}
 use Rattle.trace_text.specs.Told as reading
 use Rattle.trace_text.specs.declared.fed.Fed.{Fed}
@@ -133,13 +133,15 @@ pub fed_on : (reader reader' : reading.Standing) (count n pieces : ℕ) (piece :
 fed_on reader reader' count n pieces piece fed is goes some none e =
     let text : List ℕ = is.0 in
     let has : HasFed reader count pieces text = is.1 in
-    let long = has.long in
-    (text ++ piece, record {
-      read = (goes text has.read).0;
-      lines = e ∙ told_count false count text (text ++ piece) fed has.lines (goes text has.read).1;
-      sound = ap (λ (f : Fed). f.fault) (goes text has.read).1 ∙ none;
-      long = omega (arith, some, long, length-append text piece);
-    })
+    let long = has.long in (
+      text ++ piece,
+      record {
+        read = (goes text has.read).0;
+        lines = e ∙ told_count false count text (text ++ piece) fed has.lines (goes text has.read).1;
+        sound = ap (λ (f : Fed). f.fault) (goes text has.read).1 ∙ none;
+        long = omega (arith, some, long, length-append text piece);
+      },
+    )
 
 -- the end was told
 pub last_few : (reader : reading.Standing) (count : ℕ) (fed : Fed) → IsFed reader count 0 → ((text : List ℕ) → HasRead reader text → told true text ≡ with_front (told false text).lines fed) → count + length fed.lines ≤ 1000000

@@ -1,8 +1,8 @@
 -- A skipped line adds nothing to a batch, so a batch may leave it out.
-use Rattle.std.proofs.Common.{◌≡◌, ◌+◌, ℕ, List, [], ◌∷◌, ◌++◌, length, Bool, true, false, cond, Option, None, Result, Ok, refl, sym, ◌∙◌, ap, subst, append-nil, append_assoc}
+use Rattle.std.proofs.Common.{◌≡◌, ◌+◌, ℕ, List, [], ◌∷◌, ◌++◌, length, true, false, cond, Ok, refl, sym, ◌∙◌, ap, subst, append-nil, append_assoc}
 use Rattle.std.proofs.Math.Path.{fun_ext}
 use Rattle.std.proofs.lemmas.List.Elements.{filter-append, filter_map-append}
-use Rattle.std.specs.List.{filter, filter_map}
+use Rattle.std.specs.List.{filter_map}
 use Rattle.std.specs.Prelude.{nat_le}
 use Rattle.relay_net.specs.Batches.{Incoming, applied_after}
 use Rattle.relay_net.specs.States.{Applied, State, markings_of}
@@ -72,9 +72,9 @@ nothing_done at front back (line ∷ lines) next over =
     let g : Standing → Settled → Work = λ at' s. settle at' ((front ++ back) ++ s ∷ []) lines next in
     let same : f ≡ g =
     fun_ext (λ at'. fun_ext (λ s.
-        ap (λ done. settle at' done lines next) (append_assoc front (prints [] ∷ back) (s ∷ []))
-        ∙ nothing_done at' front (back ++ s ∷ []) lines next over
-        ∙ sym (ap (λ done. settle at' done lines next) (append_assoc front back (s ∷ []))))) in
+    ap (λ done. settle at' done lines next) (append_assoc front (prints [] ∷ back) (s ∷ []))
+    ∙ nothing_done at' front (back ++ s ∷ []) lines next over
+    ∙ sym (ap (λ done. settle at' done lines next) (append_assoc front back (s ∷ []))))) in
     ap (settle_line at line (role_of at.first line.line)) same
 
 skipped_first : (at : Standing) (done : List Settled) (number : ℕ) (lines : List Numbered) (next : Standing → List Settled → Work) → Overlooks next

@@ -114,7 +114,7 @@ fn take_told<R: Threads + Wait + Sync, G: Gate + Sync, F: Files, K: Sink>(
 }
 
 /// The end of the trace: its last line, where no line feed ends it, and what is written then.
-#[tactic(auto, using(crate::proofs::TakeSteps::last_taken, crate::proofs::TakeSteps::last_stopped, crate::proofs::TakeSteps::works_memory, crate::proofs::Fed::last_few))]
+#[tactic(auto, using(crate::proofs::TakeSteps::last_taken, crate::proofs::TakeSteps::last_stopped, crate::proofs::TakeSteps::works_memory))]
 fn take_end<R: Threads + Wait + Sync, G: Gate + Sync, F: Files, K: Sink>(
     rt: &R,
     gate: &G,

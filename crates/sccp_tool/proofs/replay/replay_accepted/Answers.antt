@@ -3,7 +3,7 @@ use Rattle.std.proofs.lemmas.Result.{err_from_is_err_and}
 use Rattle.sccp_tool.specs.Ending.{Works}
 use Rattle.sccp_tool.specs.LaterPlans.{first_plan_line}
 use Rattle.sccp_tool.specs.Moment.{Moment, moment}
-use Rattle.sccp_tool.specs.Replay.{start, trace_work}
+use Rattle.sccp_tool.specs.Replay.{Standing, start, trace_work}
 use Rattle.sccp_tool.specs.Trace.{trace_of}
 use Rattle.sccp_tool.specs.Work.{Work, print, read}
 use Rattle.sccp_tool.specs.Writing.{Writes}
@@ -40,6 +40,9 @@ returns-in_err-at g c =
     rw (p.1, p.2) (printed t work (Ok tt) b m
     (subst (λ s. Writes {T = Unit {0}} s (Ok tt) b.taken m.taken b.write_faults m.write_faults) (c.as_slice.ensures ∙ c.in_ok-line.ensures) c.in_ok-put_all.ensures)
     (record { contents = refl; sound = refl; read_faults = refl }) (Err Memory) m (Works-memory work m))
+
+pub replay_trace-answered-requires : goal.replay_trace-answered-requires
+replay_trace-answered-requires g c κs within = ap (λ (a : Standing). a.later) c.in_ok-at.ensures
 
 pub returns : goal.returns
 returns g c =

@@ -1,6 +1,6 @@
 use Rattle.std.proofs.Common.{◌≡◌, ◌+◌, [], ◌∷◌, ◌++◌, List, length, map, drop, sym, ◌∙◌, ap, subst, Err, length-append, arith}
 use Rattle.std.proofs.lemmas.Iterator.Adapters.{YieldsList-from_vec}
-use Rattle.std.proofs.lemmas.Iterator.Consumers.{YieldsList-turn}
+use Rattle.std.proofs.lemmas.Iterator.Consumers.{YieldsList-turn, YieldsList-end}
 use Rattle.std.proofs.lemmas.List.{map-append}
 use Rattle.std.proofs.lemmas.List.Elements.{All-push, All-same}
 use Rattle.std.proofs.lemmas.Result.{err_from_is_err_and}
@@ -96,3 +96,22 @@ loop-one-preserved g c =
           (All-push (ComesToNode c.args.at.now.first) c.loop-one.settled c.in_ok-settle_line.field-0 kept.fits e.fits);
       left = e.left ∙ kept.left;
     }
+
+pub returns-clause-few : goal.returns-clause-few
+returns-clause-few g c =
+    let v = c.into_vec-one-items in
+    let it = c.into_iter-one-iterator in
+    let e = YieldsList-end (YieldsList-from_vec {s = it.result} c.args.joined (it.ensures.into_iter_gives.0 ∙ v.ensures) (it.ensures.into_iter_gives.1 ∙ v.result.ok.0 ∙ ap length v.ensures)) c.loop-one.yielded c.loop-one.one-iterator c.loop-one.yielded_by _ c.next.new.self c.in-None.is c.next.ensures.steps in
+    let as_many : length c.loop-one.yielded ≡ length c.args.joined = e.1 in
+    let few = c.loop-one.invariant.few in
+    omega (arith, as_many, few)
+
+pub returns-clause-fits : goal.returns-clause-fits
+returns-clause-fits g c =
+    let v = c.into_vec-one-items in
+    let it = c.into_iter-one-iterator in
+    let e = YieldsList-end (YieldsList-from_vec {s = it.result} c.args.joined (it.ensures.into_iter_gives.0 ∙ v.ensures) (it.ensures.into_iter_gives.1 ∙ v.result.ok.0 ∙ ap length v.ensures)) c.loop-one.yielded c.loop-one.one-iterator c.loop-one.yielded_by _ c.next.new.self c.in-None.is c.next.ensures.steps in
+    let all : length c.loop-one.yielded ≡ length c.args.joined = e.1 in
+    let as_many = c.loop-one.invariant.as_many in
+    let most = c.requires.joined.few in
+    record { fits = c.loop-one.invariant.fits; few = omega (arith, all, as_many, most) }

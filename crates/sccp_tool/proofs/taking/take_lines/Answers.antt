@@ -1,9 +1,9 @@
 use Rattle.std.proofs.Common.{◌≡◌, ◌+◌, ◌∙◌, ◌∷◌, ◌++◌, [], List, length, drop, ap, subst, length-append}
 use Rattle.std.proofs.lemmas.Iterator.Adapters.{YieldsList-from_vec}
-use Rattle.std.proofs.lemmas.Iterator.Consumers.{YieldsList-turn}
+use Rattle.std.proofs.lemmas.Iterator.Consumers.{YieldsList-turn, YieldsList-end}
 use Rattle.std.proofs.lemmas.Result.{err_from_is_err_and}
 use Rattle.trace_text.specs.declared.line.Numbered.{Numbered}
-use Rattle.sccp_tool.specs.Gathering.{lines_in}
+use Rattle.sccp_tool.specs.Gathering.{HasTaken, lines_in}
 use Rattle.sccp_tool.specs.Moment.{Moment, moment}
 use Rattle.sccp_tool.proofs.BatchSteps.{dropped}
 use Rattle.sccp_tool.proofs.Gathering.{may_go_on, more_taken}
@@ -48,3 +48,10 @@ loop-line-preserved g c =
       begun = rw more (more_taken (length c.loop-line.yielded) c.args.at.now c.loop-line.at c.take_line.new.at c.args.batch.now c.loop-line.batch c.take_line.new.batch c.loop-line.invariant.begun c.in_ok-take_line.ensures.begun);
       left = c.in_ok-take_line.ensures.left ∙ c.loop-line.invariant.left;
     }
+
+pub returns-clause-begun : goal.returns-clause-begun
+returns-clause-begun g c =
+    let v = c.into_vec-line-items in
+    let it = c.into_iter-line-iterator in
+    let e = YieldsList-end (YieldsList-from_vec {s = it.result} c.args.lines (it.ensures.into_iter_gives.0 ∙ v.ensures) (it.ensures.into_iter_gives.1 ∙ v.result.ok.0 ∙ ap length v.ensures)) c.loop-line.yielded c.loop-line.line-iterator c.loop-line.yielded_by _ c.next.new.self c.in-None.is c.next.ensures.steps in
+    subst (λ n. HasTaken n c.args.at.now c.args.batch.now c.loop-line.at c.loop-line.batch) e.1 c.loop-line.invariant.begun

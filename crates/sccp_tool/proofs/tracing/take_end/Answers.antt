@@ -7,6 +7,9 @@ use Rattle.sccp_tool.proofs.Gathering.{counted_done}
 use Rattle.sccp_tool.proofs.TakeSteps.{last_stopped}
 use Rattle.sccp_tool.proofs.tracing.take_end.Goals as goal
 
+pub take_told-requires-clause-few : goal.take_told-requires-clause-few
+take_told-requires-clause-few g c κs within = last_few c.args.reader.now c.args.count c.in_ok-fed.fed c.requires.fed c.in_ok-fed.ensures.text
+
 pub write_last-requires : goal.write_last-requires
 write_last-requires g c κs within =
     let counted = c.in_ok-count.ensures.count in
