@@ -66,7 +66,7 @@ few_told whole text =
 -- ---- how many octets they have
 
 -- with the line feed behind each part
-octets_in : List (List ℕ) → ℕ
+abbrev pub octets_in : List (List ℕ) → ℕ
 octets_in [] = 0
 octets_in (part ∷ parts) = length part + 1 + octets_in parts
 

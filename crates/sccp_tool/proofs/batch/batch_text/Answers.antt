@@ -12,7 +12,7 @@ use Rattle.sccp_tool.proofs.ReplayerLemmas.{none_ahead}
 use Rattle.sccp_tool.proofs.batch.batch_text.Goals as goal
 
 pub settle-requires-clause-joined : goal.settle-requires-clause-joined
-settle-requires-clause-joined g c κs within =
+settle-requires-clause-joined g c =
     subst (λ (a : Standing). MayBeDone a c.args.joined) (sym (ap (ahead c.args.at.now) c.new-coming.ensures ∙ none_ahead c.args.at.now)) c.requires
 
 pub returns-clause-few : goal.returns-clause-few

@@ -42,7 +42,7 @@ returns-in_err-at g c =
     (record { contents = refl; sound = refl; read_faults = refl }) (Err Memory) m (Works-memory work m))
 
 pub replay_trace-answered-requires : goal.replay_trace-answered-requires
-replay_trace-answered-requires g c κs within = ap (λ (a : Standing). a.later) c.in_ok-at.ensures
+replay_trace-answered-requires g c = ap (λ (a : Standing). a.later) c.in_ok-at.ensures
 
 pub returns : goal.returns
 returns g c =

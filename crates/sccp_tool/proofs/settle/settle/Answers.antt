@@ -16,7 +16,7 @@ use Rattle.sccp_tool.proofs.SettleSteps.{one_settled, stopped_at}
 use Rattle.sccp_tool.proofs.settle.settle.Goals as goal
 
 pub settle_line-requires-clause-plans : goal.settle_line-requires-clause-plans
-settle_line-requires-clause-plans g c κs within =
+settle_line-requires-clause-plans g c =
     let v = c.into_vec-one-items in
     let it = c.into_iter-one-iterator in
     let t = YieldsList-turn (YieldsList-from_vec {s = it.result} c.args.joined (it.ensures.into_iter_gives.0 ∙ v.ensures) (it.ensures.into_iter_gives.1 ∙ v.result.ok.0 ∙ ap length v.ensures)) c.loop-one.yielded c.loop-one.one-iterator c.loop-one.yielded_by _ c.next.new.self c.in-Some.one c.in-Some.is c.next.ensures.steps in

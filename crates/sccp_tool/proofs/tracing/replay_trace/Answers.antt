@@ -75,7 +75,7 @@ take_told-requires-clause-few g c κs within =
     few_fed c.loop-turn.reader c.feed.new.self c.loop-turn.count c.loop-turn._turn (take c.in-Ok.taken c.take.new.buffer) c.in_ok-fed.fed c.loop-turn.invariant.fed c.in_ok-fed.ensures.text
 
 pub write_last-requires : goal.write_last-requires
-write_last-requires g c κs within =
+write_last-requires g c =
     let counted = c.in_ok-count.ensures.count in
     let few = few_fed c.loop-turn.reader c.feed.new.self c.loop-turn.count c.loop-turn._turn (take c.in-Ok.taken c.take.new.buffer) c.in_ok-fed.fed c.loop-turn.invariant.fed c.in_ok-fed.ensures.text in
     counted_done c.in_ok-count.count c.take_told.new.at c.take_told.new.batch c.in_ok-count.ensures.begun (omega (arith, counted, few))
