@@ -203,7 +203,7 @@ fn take_line<R: Threads + Wait + Sync, G: Gate + Sync, F: Files, K: Sink>(
     files: &mut F,
     out: &mut K,
 ) -> Result<(), Stop>
-    requires { MayTake 1 at.old batch.old }
+    requires begun { MayTake 1 at.old batch.old }
     ensures takes { TakesLines at.old (lines_in batch.old) (line ∷ []) result at.new (lines_in batch.new)
         (moment F.contents F.sound F.faults K.taken K.faults files.old out.old)
         (moment F.contents F.sound F.faults K.taken K.faults files.new out.new) }

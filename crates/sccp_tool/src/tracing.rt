@@ -76,7 +76,7 @@ fn write_last<R: Threads + Wait + Sync, G: Gate + Sync, F: Files, K: Sink>(
     files: &mut F,
     out: &mut K,
 ) -> Result<Status, Stop>
-    requires { MayBeDone at.old batch.old }
+    requires joined { MayBeDone at.old batch.old }
     ensures { Works (lines_work (closing_of count fault) at.old (lines_in batch.old) []) result
         (moment F.contents F.sound F.faults K.taken K.faults files.old out.old)
         (moment F.contents F.sound F.faults K.taken K.faults files.new out.new) }
@@ -147,7 +147,7 @@ pub fn replay_trace<R: Threads + Wait + Sync, G: Gate + Sync, F: Files, K: Sink>
     files: &mut F,
     out: &mut K,
 ) -> Result<Status, Stop>
-    requires { at.old.later ≡ [] }
+    requires none { at.old.later ≡ [] }
     ensures { Works (read name.now (λ octets. trace_work at.old (trace_of octets))) result
         (moment F.contents F.sound F.faults K.taken K.faults files.old out.old)
         (moment F.contents F.sound F.faults K.taken K.faults files.new out.new) }

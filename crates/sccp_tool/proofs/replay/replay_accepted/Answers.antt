@@ -41,8 +41,8 @@ returns-in_err-at g c =
     (subst (λ s. Writes {T = Unit {0}} s (Ok tt) b.taken m.taken b.write_faults m.write_faults) (c.as_slice.ensures ∙ c.in_ok-line.ensures) c.in_ok-put_all.ensures)
     (record { contents = refl; sound = refl; read_faults = refl }) (Err Memory) m (Works-memory work m))
 
-pub replay_trace-answered-requires : goal.replay_trace-answered-requires
-replay_trace-answered-requires g c = ap (λ (a : Standing). a.later) c.in_ok-at.ensures
+pub replay_trace-answered-requires-clause-none : goal.replay_trace-answered-requires-clause-none
+replay_trace-answered-requires-clause-none g c κs within = ap (λ (a : Standing). a.later) c.in_ok-at.ensures
 
 pub returns : goal.returns
 returns g c =

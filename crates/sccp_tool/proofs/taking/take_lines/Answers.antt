@@ -10,8 +10,8 @@ use Rattle.sccp_tool.proofs.Gathering.{may_go_on, more_taken}
 use Rattle.sccp_tool.proofs.TakeSteps.{LinesLeft, line_taken, line_stopped}
 use Rattle.sccp_tool.proofs.taking.take_lines.Goals as goal
 
-pub take_line-requires : goal.take_line-requires
-take_line-requires g c =
+pub take_line-requires-clause-begun : goal.take_line-requires-clause-begun
+take_line-requires-clause-begun g c κs within =
     let v = c.into_vec-line-items in
     let it = c.into_iter-line-iterator in
     let t = YieldsList-turn (YieldsList-from_vec {s = it.result} c.args.lines (it.ensures.into_iter_gives.0 ∙ v.ensures) (it.ensures.into_iter_gives.1 ∙ v.result.ok.0 ∙ ap length v.ensures)) c.loop-line.yielded c.loop-line.line-iterator c.loop-line.yielded_by _ c.next.new.self c.in-Some.line c.in-Some.is c.next.ensures.steps in

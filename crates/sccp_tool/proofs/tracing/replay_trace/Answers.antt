@@ -30,7 +30,7 @@ loop-turn-init g c =
     record {
       goes = trace_begun c.args.name.now c.args.at.now (lines_in c.new-batch.result) c.new-reader.result (g.F.Files.left c.args.files.now) (g.F.Files.left c.begin.new.self) b m e.begins
           (record { contents = e.contents; sound = e.soundness; taken = refl; write_faults = refl }) (ap lines_in c.new-batch.ensures) c.new-reader.ensures.start;
-      begun = none_counted c.args.at.now c.new-batch.result c.requires c.new-batch.ensures;
+      begun = none_counted c.args.at.now c.new-batch.result c.requires.none c.new-batch.ensures;
       fed = nothing_fed c.new-reader.result c.new-reader.ensures.text;
     }
 
@@ -74,8 +74,8 @@ pub take_told-requires-clause-few : goal.take_told-requires-clause-few
 take_told-requires-clause-few g c κs within =
     few_fed c.loop-turn.reader c.feed.new.self c.loop-turn.count c.loop-turn._turn (take c.in-Ok.taken c.take.new.buffer) c.in_ok-fed.fed c.loop-turn.invariant.fed c.in_ok-fed.ensures.text
 
-pub write_last-requires : goal.write_last-requires
-write_last-requires g c =
+pub write_last-requires-clause-joined : goal.write_last-requires-clause-joined
+write_last-requires-clause-joined g c κs within =
     let counted = c.in_ok-count.ensures.count in
     let few = few_fed c.loop-turn.reader c.feed.new.self c.loop-turn.count c.loop-turn._turn (take c.in-Ok.taken c.take.new.buffer) c.in_ok-fed.fed c.loop-turn.invariant.fed c.in_ok-fed.ensures.text in
     counted_done c.in_ok-count.count c.take_told.new.at c.take_told.new.batch c.in_ok-count.ensures.begun (omega (arith, counted, few))

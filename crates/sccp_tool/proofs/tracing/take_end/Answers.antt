@@ -10,8 +10,8 @@ use Rattle.sccp_tool.proofs.tracing.take_end.Goals as goal
 pub take_told-requires-clause-few : goal.take_told-requires-clause-few
 take_told-requires-clause-few g c κs within = last_few c.args.reader.now c.args.count c.in_ok-fed.fed c.requires.fed c.in_ok-fed.ensures.text
 
-pub write_last-requires : goal.write_last-requires
-write_last-requires g c =
+pub write_last-requires-clause-joined : goal.write_last-requires-clause-joined
+write_last-requires-clause-joined g c κs within =
     let counted = c.in_ok-count.ensures.count in
     let few = last_few c.args.reader.now c.args.count c.in_ok-fed.fed c.requires.fed c.in_ok-fed.ensures.text in
     counted_done c.in_ok-count.count c.take_told.new.at c.take_told.new.batch c.in_ok-count.ensures.begun (omega (arith, counted, few))
