@@ -1,9 +1,9 @@
 -- The messages of a batch that several workers routed, or one.
-use Rattle.std.proofs.Common.{◌≡◌, ◌≢◌, ◌<◌, ◌≤◌, ◌+◌, ◌%◌, ℕ, zero, suc, List, [], ◌∷◌, ◌++◌, length, map, drop, Option, Some, None, Result, Ok, Err, refl, sym, ◌∙◌, ap, subst, arith, inl, inr, length-append, append_assoc, append-nil, get_or}
+use Rattle.std.proofs.Common.{◌≡◌, ◌<◌, ◌≤◌, ◌+◌, ◌%◌, ℕ, zero, suc, List, [], ◌∷◌, ◌++◌, length, map, drop, Some, Result, Ok, Err, refl, sym, ◌∙◌, ap, subst, arith, inr, length-append, append_assoc, append-nil}
 use Rattle.std.proofs.lemmas.List.{length-map, map-append}
-use Rattle.std.proofs.lemmas.List.Elements.{All-nil, All-cons, All-append, All-head, All-tail, All-from_get_or, All-get_or}
-use Rattle.std.proofs.lemmas.Option.{slice_get_within, slice_get_read}
-use Rattle.std.specs.List.{All, AllByRecursion, filter_map}
+use Rattle.std.proofs.lemmas.List.Elements.{All-nil, All-cons, All-head, All-tail, All-from_get_or, All-get_or}
+use Rattle.std.proofs.lemmas.Option.{slice_get_within}
+use Rattle.std.specs.List.{All, AllByRecursion}
 use Rattle.std.specs.Prelude.{IfOk, OnOk, slice_get, slice_index, slice_index_or}
 use mathlib.Core.List.{IsPrefix}
 use Rattle.plan_check.specs.Verified.{Verified}
@@ -17,8 +17,8 @@ use Rattle.sccp_base.specs.declared.mark.Mark.{Mark}
 use Rattle.live_plan.specs.Batches.{AreServed}
 use Rattle.live_plan.specs.Plans.{HaveNodes}
 use Rattle.live_plan.proofs.Passed.{has_within}
-use Rattle.sccp_tool.specs.Numbers.{AreNumbers, NeverFall}
-use Rattle.sccp_tool.specs.Replay.{Standing, Settled, prints, routes, accepted, accepted_before, batch_of, plan_at}
+use Rattle.sccp_tool.specs.Numbers.{NeverFall}
+use Rattle.sccp_tool.specs.Replay.{Standing, Settled, prints, routes, accepted, plan_at}
 use Rattle.sccp_tool.specs.Replayers.{AreRouted, ComesToNode, IsRouted, RoutesBatch, RoutesLine, job_of, jobs_from, number_in, numbers_of, settled_in}
 use Rattle.sccp_tool.specs.Routings.{Routing, ArePlans, IsCrew, IsPlanOf, ahead, plan_in, routing, standing}
 use Rattle.sccp_tool.specs.declared.settled as code

@@ -4,7 +4,7 @@ use Rattle.std.proofs.lemmas.List.{map-append, length-set, length-map}
 use Rattle.std.proofs.lemmas.List.Elements.{All-nil, All-cons, All-append, All-head, All-tail}
 use Rattle.std.proofs.lemmas.Option.{slice_get-map}
 use Rattle.std.specs.List.{All}
-use Rattle.std.specs.Prelude.{IfOk, OnOk, OnErr, slice_get, unwrap_or}
+use Rattle.std.specs.Prelude.{OnOk, OnErr, slice_get, unwrap_or}
 use Rattle.std.specs.Option.{option_map}
 use Rattle.plan_check.specs.Verified.{Verified}
 use Rattle.plan_model.specs.Network.{Network, IsPlan}
@@ -20,7 +20,7 @@ use Rattle.sccp_base.specs.declared.mark.Mark.{Mark}
 use Rattle.live_plan.specs.Plans.{HasPlan}
 use Rattle.sccp_tool.specs.Replay.{Standing, accepted, latest, plan_at, journey_by}
 use Rattle.sccp_tool.specs.Replayers.{IsRouted, IsStanding}
-use Rattle.sccp_tool.specs.Routings.{Routing, ArePlans, AtMostOneMore, HasRoom, IsPlanOf, IsRouting, ahead, plan_in, routing, standing}
+use Rattle.sccp_tool.specs.Routings.{Routing, ArePlans, AtMostOneMore, HasRoom, IsPlanOf, ahead, plan_in, routing, standing}
 
 -- ---- the first plan alone
 

@@ -1,10 +1,10 @@
 -- A skipped line adds nothing to a batch, so a batch may leave it out.
-use Rattle.std.proofs.Common.{◌≡◌, ◌+◌, ℕ, List, [], ◌∷◌, ◌++◌, length, true, false, cond, Ok, refl, sym, ◌∙◌, ap, subst, append-nil, append_assoc}
+use Rattle.std.proofs.Common.{◌≡◌, ℕ, List, [], ◌∷◌, ◌++◌, length, true, false, cond, Ok, refl, sym, ◌∙◌, ap, subst, append-nil, append_assoc}
 use Rattle.std.proofs.Math.Path.{fun_ext}
 use Rattle.std.proofs.lemmas.List.Elements.{filter-append, filter_map-append}
 use Rattle.std.specs.List.{filter_map}
 use Rattle.std.specs.Prelude.{nat_le}
-use Rattle.relay_net.specs.Batches.{Incoming, applied_after}
+use Rattle.relay_net.specs.Batches.{applied_after}
 use Rattle.relay_net.specs.States.{Applied, State, markings_of}
 use Rattle.relay_net.specs.declared.travelled.Journey.{Journey}
 use Rattle.sccp_base.specs.declared.mark.Mark.{Mark}

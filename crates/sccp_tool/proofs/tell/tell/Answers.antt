@@ -1,7 +1,5 @@
-use Rattle.std.proofs.Common.{◌+◌, List, drop, subst}
+use Rattle.std.proofs.Common.{◌+◌, drop, subst}
 use Rattle.std.proofs.lemmas.List.{drop_all}
-use Rattle.relay_net.specs.declared.served.Served.{Served}
-use Rattle.sccp_tool.specs.declared.settled as code
 use Rattle.sccp_tool.proofs.BatchSteps.{dropped}
 use Rattle.sccp_tool.proofs.TellSteps.{Telling, next_follows, more_told, all_told}
 use Rattle.sccp_tool.proofs.tell.tell.Goals as goal

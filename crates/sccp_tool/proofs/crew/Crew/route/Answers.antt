@@ -1,9 +1,8 @@
-use Rattle.std.proofs.Common.{length, drop, ◌∙◌, sym, ap, subst}
+use Rattle.std.proofs.Common.{length, ◌∙◌, sym, ap, subst}
 use Rattle.live_plan.specs.Entries.{entry_plan}
-use Rattle.plan_check.specs.Verified.{Verified}
 use Rattle.live_plan.specs.Plans.{HaveNodes}
 use Rattle.live_plan.specs.Tellers.{plans_of}
-use Rattle.sccp_tool.specs.Routings.{Routing, ArePlans, ahead, routing, standing}
+use Rattle.sccp_tool.specs.Routings.{Routing, ArePlans, ahead, standing}
 use Rattle.sccp_tool.proofs.CrewSteps.{all_last, coming_nodes, crew_at, crew_entries, crew_served, crew_stays}
 use Rattle.sccp_tool.proofs.crew.Crew.route.Goals as goal
 
