@@ -1,15 +1,15 @@
 #!/usr/bin/env python3
 """Measures how long a replay takes to serve each batch of 1,024 messages over six relays, by 1, 2, 4 and 16 workers.
 
-The kernel notes the times (uprobes) at functions of the program. Several workers serve a batch from where it is told how many
+The kernel notes the times (uprobes) at functions of the program. Several workers serve a batch from the call that gets how many
 threads there may be until the octets of its first message are put into the output: the threads are made, the messages take
 their journeys, and the answers are put in order. One worker serves it from its first journey until the same. A probe there
-would take longer than some journeys, so that time is the one from where the batch is taken up, less the middle of what comes
-before the first journey, which other runs tell. Neither the reading of the trace nor the copying of messages is in it, and of
+would take longer than some journeys, so that time is the one from the taking up of the batch, less the middle of what passes
+before the first journey, which other runs measure. Neither the reading of the trace nor the copying of messages is in it, and of
 the printing one line.
 
-So each run gives a time for each of its 97 whole batches, where bench/workers.py has one for all, and those that the host
-disturbs don't hide the others. Told are the time in the middle of all batches and the quartiles, and how many times as fast as
+So each run gives a time for each of its 97 whole batches, while bench/workers.py has one for all, and those that the host
+disturbs do not hide the others. It reports the time in the middle of all batches and the quartiles, and how many times as fast as
 one worker that is, middle by middle and quartile by quartile. Replays with one worker and with several are made in turn.
 
 Run it as root from anywhere: bench/batches.py [--awake] [PROGRAM]. It wants tracefs and nm, and builds nothing: run ./sccp --prove
@@ -46,7 +46,7 @@ def write(name, text, flag=os.O_TRUNC):
 
 
 def places(program):
-    """Where the code of each probe stands in the program's file."""
+    """The place of the code of each probe in the program's file."""
     with open(program, "rb") as file:
         octets = file.read()
     start, size, count = struct.unpack_from("<Q", octets, 32)[0], *struct.unpack_from("<HH", octets, 54)
@@ -63,7 +63,7 @@ def places(program):
 
 
 def times(program, folder, count, begin, end):
-    """The microseconds of each whole batch from one probe to the first hit of the other, in a replay by so many workers."""
+    """The microseconds of each whole batch from one probe to the first hit of the other, in a replay by this number of workers."""
     write("trace", "")
     for probe in (begin, end):
         write(f"events/uprobes/{probe}/enable", "1")

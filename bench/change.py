@@ -1,11 +1,11 @@
 #!/usr/bin/env python3
-"""Measures what tells whether relays may hold either of two plans: time and peak memory of `change`, and of `verify` on each
+"""Measures what decides whether relays may hold either of two plans: time and peak memory of `change`, and of `verify` on each
 of the two plans beside it.
 
 The plans are made so: fourteen relays n0, n1 and so on, each with a hundred rows of two decimal digits; covers at n0 of
 exactly two digits, each for a subsystem number of its own, so that each meets one of the other plan. In the old plan each row
 relays to the next relay. In the new one, one row in ten relays to the one after the next. The last relay has the destination.
-A cover has 1,411 classes in the old plan: 111 at n0, with no, one or two known digits, and 100 at each relay behind it. A
+A cover has 1,411 classes in the old plan: 111 at n0, with no, one or two known digits, and 100 at each relay after it. A
 second pair is the old plan with itself. The time has to grow as the number of classes does.
 
 Run it from anywhere: bench/change.py [PROGRAM]. It builds nothing: run ./sccp --prove before.
@@ -25,7 +25,7 @@ CHILD = ("import resource, subprocess, sys, time; start = time.monotonic(); "
 
 
 def target(relay, row, new):
-    """Where a row leads: to the next relay, or in the new plan in one row of ten to the one after."""
+    """What a row leads to: to the next relay, or in the new plan in one row of ten to the one after."""
     to = relay + (2 if new and row % 10 == 0 else 1)
     return f'{{ relay = "n{to}" }}' if to < NODES else '{ final = "2-0-1", ssn = 6 }'
 

@@ -16,9 +16,9 @@ Of each kind N inputs are made (100,000 if not given) and handed over through fi
 - messages to `send-on`, one a call, over two plans: every third one drawn as above, the others with a called title of the
   plan, most of them long. What is printed has to be what the second maker (send_on.py) says, to the octet, and the status 0.
 
-A kind whose command the program hasn't is left out, and said so. Nothing may come on standard error, no call may end by a
+A kind whose command the program does not have is left out, and said so. Nothing may be printed on standard error, no call may end by a
 signal or take more than a minute, twice. The first ten faults are printed with the file that shows each, which is kept; the last
-line counts, and the status is 0 where no fault came.
+line counts, and the status is 0 if there was no fault.
 
 It builds nothing: run ./sccp --prove before.
 """
@@ -111,7 +111,7 @@ def address(draw):
 
 
 def message(draw):
-    """A message of a drawn type, whose parts stand in pointer order."""
+    """A message of a drawn type, whose parts are in pointer order."""
     code = draw.choice(list(reference.ROWS))
     _, fixed, addresses, data, known = reference.ROWS[code]
     long = code in reference.LONG
@@ -229,7 +229,7 @@ def trace(draw):
 
 
 class Faults:
-    """What came that may not come, with the files that show it."""
+    """What may not happen and did, with the files that show it."""
 
     def __init__(self, keep):
         self.keep, self.count = keep, 0
@@ -243,8 +243,8 @@ class Faults:
 
 
 def call(program, folder, *words):
-    """The status, the output, and a word for what may not come of any call. One that took a minute is made once more, for a
-    machine may stand still."""
+    """The status, the output, and a word for what no call may do. One that took a minute is made once more, for a
+    machine may pause."""
     for again in (True, False):
         try:
             done = subprocess.run([program, *words], cwd=folder, capture_output=True, timeout=60)

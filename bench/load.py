@@ -3,7 +3,7 @@
 
 Run from anywhere:
   bench/load.py NUMBER SIZE             prints the four lines that `load NUMBER SIZE WORKERS` has to print
-  bench/load.py --trace NUMBER SIZE PLAN TRACE    writes the plan and the trace that the load stands for, to be replayed
+  bench/load.py --trace NUMBER SIZE PLAN TRACE    writes the plan and the trace that is the same as the load, to be replayed
   bench/load.py [PROGRAM]               compares the program's lines with these, for drawn numbers, by one worker and by a
                                         drawn number of workers, and measures it
 

@@ -259,7 +259,7 @@ def address_octets(a):
 
 
 def written(b):
-    """The octets that are written of the message that these are, or None where a part or a pointer doesn't fit."""
+    """The octets that are written of the message that these are, or None if a part or a pointer does not fit."""
     row, found, data, params = decode(b)
     long = b[0] in LONG
     fixed = list(b[1:1 + row[1]])

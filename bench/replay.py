@@ -1,8 +1,8 @@
 #!/usr/bin/env python3
 """Measures how fast the built program replays a trace, by one thread: lines a second, and the peak memory.
 
-The plan has two relays: a hands titles that begin with 49 to b, which brings them to 2-0-1, or to 2-0-2 where that is closed.
-Every line of a trace is a message of 40 octets (UDT with 17 octets of data) for a title that is drawn, which comes to a from
+The plan has two relays: a hands titles that begin with 49 to b, which brings them to 2-0-1, or to 2-0-2 if that is closed.
+Every line of a trace is a message of 40 octets (UDT with 17 octets of data) for a title that is drawn, which reaches a from
 1-0-1; but each hundredth line is `pause b 2-0-1` or `resume b 2-0-1` in turn. A second kind has events on every second line,
 so that each batch is one message. The output goes to a file, whose lines are counted by their kinds. The time has to grow as
 the number of lines does, and the memory not at all.
@@ -57,7 +57,7 @@ def message(draw, number):
 
 
 def write_trace(path, lines, between):
-    """A trace of so many lines, of which one in so many is an event."""
+    """A trace of `count` lines, of which one in `each` is an event."""
     draw = random.Random(1)
     with open(path, "w") as made:
         for i in range(1, lines + 1):

@@ -6,7 +6,7 @@ own of five digits and is followed by a comment that brings the file to half a m
 half as many rows, too. The time for the longer file has to be about twice that for the shorter one.
 
 Two more kinds are of version 2, written in no order. Nested: 315 numbers of three digits, each followed by up to twelve times
-the digit 1, so that a prefix begins up to twelve others. Named: every prefix of five digits stands in a row for subsystem 6
+the digit 1, so that a prefix begins up to twelve others. Named: every prefix of five digits is in a row for subsystem 6
 and in a row for any.
 
 Run it from anywhere: bench/route.py [PROGRAM]. It builds nothing: run ./sccp --prove before.
@@ -24,7 +24,7 @@ PROGRAM = os.path.abspath(sys.argv[1]) if len(sys.argv) > 1 else os.path.join(TO
 
 
 def plan(nodes, rows, size):
-    """A plan of so many nodes with so many rows each, as near to the size as whole comments bring it."""
+    """A plan of this number of nodes and of rows in each, as near to the size as whole comments bring it."""
     lines = ["version = 1"]
     for i in range(nodes):
         lines += ["[[node]]", f'name = "n{i}"', f'point = "{i + 1}"']

@@ -1,7 +1,7 @@
 #!/usr/bin/env python3
-"""A second maker of what `send-on` has to print, written from the formats alone.
+"""A second maker of what `send-on` has to print, written only from the formats.
 
-It stands over the reader of `reference.py` and shares no text with the program. Run it with the words of the command,
+It uses the reader of `reference.py` and shares no text with the program. Run it with the words of the command,
 PLAN NODE ORIGIN SIZE HEX, of a plan that reads: what becomes of the octets at the node while nothing is prohibited, and of
 a long message that leaves it the segments.
 """
@@ -27,7 +27,7 @@ def selector(text):
 
 
 def joined(code, fixed, found, data, params):
-    """The octets of a message, or None where a part or a pointer doesn't fit."""
+    """The octets of a message, or None if a part or a pointer does not fit."""
     long = code == LUDT or code == 0x14
     width, most = (2, 65535) if long else (1, 255)
     pieces = []

@@ -3,10 +3,10 @@
 
 The plans are made so: relays n0, n1 and so on in a chain, each with a hundred rows of two decimal digits that relay to the
 next, the last with a hundred destinations; covers at n0, equal to each other, of exactly two digits. Each cover has 111
-classes at n0, with no, one or two known digits, and 100 at each relay behind it. The time has to grow as their number does;
+classes at n0, with no, one or two known digits, and 100 at each relay after it. The time has to grow as their number does;
 the last plan has more than 262,144 and is too wide.
 
-A second series is the same in version 2, where each relay has a row for subsystem 6 beside each of the hundred, and nested
+A second series is the same in version 2: each relay has a row for subsystem 6 beside each of the hundred, and nested
 rows of no digit and of one: each look-up has to choose among them, and the classes are as many.
 
 Run it from anywhere: bench/verify.py [PROGRAM]. It builds nothing: run ./sccp --prove before.

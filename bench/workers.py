@@ -2,20 +2,20 @@
 """Measures what several workers gain in a replay: the whole command with 1, 2, 4 and 16 workers, and serving by itself.
 
 The plan has six relays, each with 101 rows; a message for 491710000012 goes over all of them. One trace has batches of 1,024
-messages; in the other each message is a batch of its own, with a fence behind it, where workers can gain nothing. The replays
-with their numbers of workers are made in turn, and of each the least time and the one in the middle are told, less that of an
+messages; in the other each message is a batch of its own, with a fence after it, so that workers can gain nothing. The replays
+with their numbers of workers are made in turn, and of each the least time and the one in the middle are reported, less that of an
 empty trace. On a shared host one run takes up to twice as long as the next, so the times in the middle are compared.
 
 Reading, settling and printing are one thread's work. Which share of one worker's time is serving, the journeys of the
 messages, is reckoned by the instructions that callgrind counts below them; what is left is taken from the time of each number
-of workers, so that all that several workers cost counts as serving. Without valgrind the whole command alone is told.
+of workers, so that all that several workers cost counts as serving. Without valgrind only the whole command is reported.
 
-The same is told in instructions, which don't hang on the host: how many times as many of them serving takes all threads
-together as it takes one worker. What a thread waits for, a processor or memory that another one wrote, isn't in that count, nor
-how the threads share the work: valgrind runs one at a time. Of batches of one message all instructions are told: no thread is
+The same is reported in instructions, which do not depend on the host: how many times as many of them serving takes all threads
+together as it takes one worker. What a thread waits for, a processor or memory that another one wrote, is not in that count, nor
+how the threads share the work: valgrind runs one at a time. Of batches of one message all instructions are reported: no thread is
 made for them.
 
-What a machine gives to several threads isn't told by the number of its processors, of which two may be one core: so it is
+What a machine gives to several threads is not known from the number of its processors, of which two may be one core: so it is
 measured how much more is done in a time by two and by four replays with one worker, at once.
 
 Run it from anywhere: bench/workers.py [--awake] [PROGRAM]. It builds nothing: run ./sccp --prove before. On a machine that has
@@ -70,7 +70,7 @@ def replay(folder, trace, workers):
 
 
 def together(folder, count):
-    """How long so many replays of batches with one worker take at once."""
+    """How long this number of replays of batches with one worker takes at once."""
     start = time.monotonic()
     words = [PROGRAM, "replay", "plan", "batches", "1"]
     runs = [subprocess.Popen(words, cwd=folder, stdout=subprocess.DEVNULL) for _ in range(count)]
@@ -97,7 +97,7 @@ def serving(folder):
 
 
 def tell_instructions(folder, below):
-    """Tells serving by each number of workers in instructions, of all threads."""
+    """Reports serving by each number of workers in instructions, of all threads."""
     rest = instructions(folder, "counted") - below
     for workers in WORKERS[1:]:
         some = instructions(folder, "counted", workers=workers) - rest

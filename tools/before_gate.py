@@ -1,8 +1,8 @@
 #!/usr/bin/env python3
-"""Looks, in seconds, for what the gate would tell of only after an hour: run it before `rt ci`.
+"""Looks, in seconds, for what the gate would report only after an hour: run it before `rt ci`.
 
-It lays out the files of every crate (`rt fmt`) and names those that weren't, and looks whether each old text of each edit in
-must-fail/ and of each wrong body in wrong_bodies/ stands just once in its file, where those before it were applied. It proves
+It lays out the files of every crate (`rt fmt`) and names those that were not, and looks whether each old text of each edit in
+must-fail/ and of each wrong body in wrong_bodies/ is just once in its file after those before it were applied. It proves
 nothing. Status 1 says that a file was laid out anew, that an edit fits no more, or that wrong bodies have lost their crate.
 
 Run it from anywhere: tools/before_gate.py. Nothing else may write in crates/ meanwhile.
@@ -25,7 +25,7 @@ def laid_out(crate):
 
 
 def misfits(crate):
-    """The old texts of a crate's edits and wrong bodies that don't stand just once."""
+    """The old texts of a crate's edits and wrong bodies that are not there just once."""
     return misfits_in(crate, f"crates/{crate}/must-fail") + misfits_in(crate, f"wrong_bodies/{crate}")
 
 

@@ -8,7 +8,7 @@ plan is safe, with which bound, and whether the mixture of both is. What the pro
 bounds exactly, and each route hop by hop, whichever lawful one was chosen.
 
 Run it from anywhere: tools/check_change.py [PAIRS [SEED [PROGRAM]]]. It builds nothing: run ./sccp --prove before. The last line
-counts the pairs by their answers; at the first answer that isn't lawful the pair is printed, and the status is 1.
+counts the pairs by their answers; at the first answer that is not lawful the pair is printed, and the status is 1.
 """
 import collections
 import itertools
@@ -127,7 +127,7 @@ def spots_of(cover):
 
 
 class Unsafe(Exception):
-    """A title goes wrong on its way: it comes back, has a fifteenth hop, finds no row, or grows past 32 digits."""
+    """A title goes wrong on its way: it returns to a relay, has a fifteenth hop, finds no row, or grows past 32 digits."""
 
 
 class Walk:
@@ -162,7 +162,7 @@ class Walk:
 
 
 def is_safe(plans):
-    """The bound where every title that all plans cover is brought where it should, and None where one isn't."""
+    """The bound if every title that all plans cover is brought where it should, and None if one is not."""
     CHOICES.clear()
     walk = Walk(plans)
     bound = 0
@@ -221,7 +221,7 @@ def check_route(plans, lines):
 
 
 def check_answer(plans, safe, status, lines):
-    """The kind of an answer, where it is lawful."""
+    """The kind of an answer, if it is lawful."""
     for which in ("old", "new"):
         bound = is_safe([plans[which]])
         first = lines.pop(0)
@@ -279,7 +279,7 @@ class Draw:
         return "".join(self.one("012") for _ in range(self.random.randint(0, most)))
 
     def target(self, names, place, order, prefix):
-        """A target; a relay leads to a node that stands later in the order, most times."""
+        """A target; a relay leads to a node that is later in the order, most times."""
         later = [n for n in range(len(names)) if order.index(n) > order.index(place)]
         others = [n for n in range(len(names)) if n != place]
         if (later and self.chance(0.6)) or self.chance(0.03):

@@ -9,7 +9,7 @@ Fenced blocks are not counted. A full stop, a question mark, the end of a paragr
 table ends a sentence. The average is that of paragraphs and items, without the cells.
 
 Run it from anywhere: tools/count_words.py [--list] [FILE ..]. With --list it prints each find with its file and line; with
-names it counts these files alone. The status is 0.
+names it counts only these files. The status is 0.
 """
 import os
 import re

@@ -1,13 +1,13 @@
 #!/usr/bin/env python3
-"""Makes each allocation of the program fail in turn, and looks at what comes.
+"""Makes each allocation of the program fail in turn, and looks at the answer.
 
 A small library, compiled by `cc` and loaded before the C library, counts the calls of `malloc`, `calloc` and `realloc` that
-the program makes and answers none at the one whose number it is told. First the program is run with none failing: that is
-the sound answer. Then it is run once for each call. What may come is the sound answer, or status 71 (want of memory) with a
+the program makes and answers none at the one whose number it is given. First the program is run with none failing: that is
+the sound answer. Then it is run once for each call. What is allowed is the sound answer, or status 71 (want of memory) with a
 front of its text. Anything else is printed, and the status is 1.
 
 Run it from anywhere: tools/fail_alloc.py [-- WORD ..]. Without words it makes five calls: the verdict on a plan of two relays,
-a replay in which later plans come between fences, by one worker and by four, one with every kind of line, and one of 64
+a replay with later plans between fences, by one worker and by four, one with every kind of line, and one of 64
 messages by four workers, of which a thread may find no memory for a block that the caller then serves. It builds nothing: run
 ./sccp --prove before. The last line counts the runs.
 """
@@ -94,7 +94,7 @@ void *realloc(void *old, size_t size) {
 
 
 def sixty_four():
-    """A trace of so many messages for relay a of examples/roaming.toml, each for another title."""
+    """A trace of this number of messages for relay a of examples/roaming.toml, each for another title."""
     lines = (f"msg a 1-0-1 0980030E120B12060012049471010000{i % 10}{i // 10}044301080802AABB" for i in range(64))
     return "\n".join(lines) + "\n"
 
@@ -114,7 +114,7 @@ def main():
 
 
 def look(room, given):
-    """Makes the calls, with what they want in this folder, and tells what comes."""
+    """Makes the calls, with what they want in this folder, and reports the answers."""
     if given[:1] == ["--"] and given[1:]:
         calls = [(os.getcwd(), given[1:])]
     elif not given:

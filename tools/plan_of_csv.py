@@ -10,7 +10,7 @@ Each table has a head line with the names of its columns, in any order. A column
   COVERS  relay, selector, ssn, prefix, least, most, allowed, comment ?
 
 The values are those of a plan file (docs/PLAN-FILE.md). Several values of one cell (subsystems, concerned, allowed) have blanks
-between them. A prefix of - is the empty one, which begins every title. The targets of a row stand in the order in which they are
+between them. A prefix of - is the empty one, which begins every title. The targets of a row are in the order in which they are
 tried. A cell of a target is one of
 
   NAME [drop N] [put DIGITS] [as SELECTOR] [ssn N]    the relay of that name
@@ -333,7 +333,7 @@ class Row:
         self.targets = self.read_targets(names, drop, put)
 
     def read_targets(self, names, drop, put):
-        """The targets with their columns. An empty cell may stand only after the last one."""
+        """The targets with their columns. An empty cell may be only after the last one."""
         found, empty = [], None
         for column in (f"target{i + 1}" for i in range(MOST_TARGETS)):
             if not self.record.cells.get(column, ""):

@@ -72,7 +72,7 @@ def ipv4(protocol, load):
 
 
 def capture(packets, snap=65535):
-    """A capture file, in which each packet is cut at so many octets."""
+    """A capture file, in which each packet is cut at this number of octets."""
     records = [struct.pack("<IIII", second, 0, min(len(one), snap), len(one)) + one[:snap] for second, one in enumerate(packets)]
     return struct.pack("<IHHiIII", 0xA1B2C3D4, 2, 4, 0, 0, snap, 1) + b"".join(records)
 

@@ -1,5 +1,5 @@
 #!/usr/bin/env python3
-"""Tests tools/package over a small repository with a stand-in for the program. Nothing is installed.
+"""Tests tools/package over a small repository with a substitute for the program. Nothing is installed.
 
 Run it from anywhere: tools/test_package.py. It needs git and dpkg-deb; without them it says so, and ends with status 0.
 """

@@ -17,7 +17,7 @@ could not be read. The last line counts. With --own it also prints what is publi
 
 How it reads. Comments, texts, attributes, ghost items and contract clauses are taken out. What is left of a function is what
 it uses. A name is looked up in the function's module, among its `use` lines, and in the crate that a path names. A method is
-looked up in the type of what stands before the dot, if that is a name with one plain binding, a field, or a call, and each
+looked up in the type of what is before the dot, if that is a name with one plain binding, a field, or a call, and each
 type is written out.
 
 It says 'reached' too often, so that an unreached call may be missing from the list:
@@ -25,7 +25,7 @@ It says 'reached' too often, so that an unreached call may be missing from the l
 - If the type before the dot is not clear, `x.name(..)` reaches each method of that name and that number of arguments in the
   crate and those below it. The type of the method must be one that something reached names.
 - A call over a type parameter reaches each method of that name that a trait has, in all types.
-- A function's name counts as a use of it, even if it stands for a variable of a pattern.
+- A function's name counts as a use of it, even if it is a variable of a pattern.
 - The methods of another library's traits (`Drop`, `Ord`, `From`, ..) count as used wherever their type is.
 
 It says 'reached' too seldom only for a call that a macro spells from parts of names, for one by a `Deref` of a type of this
@@ -54,7 +54,7 @@ OPEN, CLOSE = {"(": ")", "[": "]", "{": "}"}, {")", "]", "}"}
 
 
 class Unread(Exception):
-    """A source that this tool can't read."""
+    """A source that this tool cannot read."""
 
 
 def tokens_of(text):
@@ -63,7 +63,7 @@ def tokens_of(text):
 
 
 def group_end(tokens, i):
-    """The place behind the group that opens at i."""
+    """The place after the group that opens at i."""
     depth = 0
     for place in range(i, len(tokens)):
         kind, token = tokens[place]
@@ -221,7 +221,7 @@ class Type:
         return names
 
     def what(self):
-        """The item that it names, FOREIGN or GENERIC, or None if that isn't clear."""
+        """The item that it names, FOREIGN or GENERIC, or None if that is not clear."""
         path = self.path()
         if not path:
             return FOREIGN if self.tokens and self.tokens[0][1] in ("[", "(") else None
@@ -749,7 +749,7 @@ class Sources:
         return found, calls
 
     def behind_generics(self, tokens, i):
-        """The place behind `::<..>`, if that stands at i."""
+        """The place after `::<..>`, if that is at i."""
         if i + 1 < len(tokens) and tokens[i][1] == "::" and tokens[i + 1][1] == "<":
             depth, i = 0, i + 1
             while i < len(tokens):

@@ -2,13 +2,13 @@
 """Tries the wrong bodies of wrong_bodies/: the prover must refuse each.
 
 The gate tries those of crates/CRATE/must-fail/, the few of each crate that a reader would fear most: each costs it a load of
-all that was proved, whatever line it turns. The others stand in wrong_bodies/CRATE/, in the same form, and are tried where
+all that was proved, whatever line it turns. The others are in wrong_bodies/CRATE/, in the same form, and are tried if
 their crate, its proofs or its contracts change.
 
 Run it from anywhere: tools/wrong_bodies.py CRATE [NAME ..] .., or without a word for all. The names after a crate are some of
 its bodies, with or without `.edit`; without one all of them are tried. It works in a copy of the crates with the libraries
-that stand in out/, and first proves each of these crates anew, and the libraries that are missing. Status 1 says that one
-wasn't refused, or only since a proof names what it takes away, or couldn't be tried.
+that are in out/, and first proves each of these crates anew, and the libraries that are missing. Status 1 says that one
+was not refused, or only because a proof names what it takes away, or could not be tried.
 """
 import os
 import shutil
@@ -21,7 +21,7 @@ BODIES = os.path.join(TOP, "wrong_bodies")
 
 
 def left_out(folder, names):
-    """What isn't copied: the gate's own edits, and of what was made all but the libraries."""
+    """What is not copied: the gate's own edits, and of what was made all but the libraries."""
     return set(names) - {"rlib"} if os.path.basename(folder) == "out" else set(names) & {"must-fail"}
 
 
@@ -62,7 +62,7 @@ def is_refused(line):
 
 
 def tried(folder, names):
-    """How many were refused, and whether the command ended well. What it says is told as it comes."""
+    """How many were refused, and whether the command ended well. What it says is reported at once."""
     words = ["rt", "must-fail", *names]
     refused = 0
     with subprocess.Popen(words, cwd=folder, stdout=subprocess.PIPE, stderr=subprocess.STDOUT, text=True) as run:
