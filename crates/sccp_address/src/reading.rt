@@ -43,7 +43,7 @@ fn pc_of(octets: &[u8]) -> Option<PointCode>
     }
 }
 
-// A title of a kind that is kept as its octets.
+// A title that is kept as its octets, with its kind.
 fn raw(alloc: Global, kind: u8, octets: &[u8]) -> Result<Title, AddressFault>
     ensures { Gives (λ t. t) result (Ok (Title.Raw kind octets.now)) }
 {

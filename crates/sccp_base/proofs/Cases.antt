@@ -11,7 +11,7 @@ chosen false x y z e = inr (refl, e)
 abbrev ok : {A E : Type 0} → A → Result A E
 ok x = Ok x
 
--- if the answer is a value, there was no fault
+-- if the answer is a value, there was no fault, and it is that value
 pub unless_ok : {A E : Type 0} (o : Option E) (x w : A) → unless o (Ok x) ≡ ok w → (o ≡ None) × (x ≡ w)
 unless_ok None x w e = (refl, cc)
 unless_ok (Some fault) x w e = absurd cc

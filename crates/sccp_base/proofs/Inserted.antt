@@ -35,7 +35,8 @@ at_insert xs x place k d inside =
 pub related : {X : Type 0} (R : X → X → Type 0) (a b x y : X) → a ≡ x → b ≡ y → R x y → R a b
 related R a b x y p q h = subst (λ m. R m b) (sym p) (subst (λ m. R x m) (sym q) h)
 
--- Each element is related to those after it. A new element joins at a place that parts those before it from those after it.
+-- If each element is related to those after it, this still holds after an insert. The place must part the elements that are
+-- related to the new one from those to which the new one is related.
 pub pairs_insert : {X : Type 0} (R : X → X → Type 0) (xs : List X) (x : X) (place : ℕ) → AllPairs R xs → place ≤ length xs → AllWithin (λ y. R y x) xs 0 place → AllWithin (λ y. R x y) xs place (length xs) → AllPairs R (insert xs place x)
 pairs_insert R xs x place pairs inside below above i j d lt bound =
     let size : length (insert xs place x) ≡ length xs + 1 = omega (arith, length-append (take place xs) (x ∷ drop place xs), length-take place xs, length-drop place xs, inside) in

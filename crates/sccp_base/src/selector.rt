@@ -31,8 +31,8 @@ impl Model for Selector {
 }
 
 impl Selector {
-    /// The selector of four numbers. `None` if the kind is not 1 to 4, the numbering plan is above 15, the nature of address
-    /// is above 127, or a number that the kind does not use is not 0.
+    /// The selector of four numbers. `None` if the kind is not 1 to 4, or a number that it does not use is not 0. The same if
+    /// the numbering plan is above 15, or the nature of address is above 127.
     pub fn new(kind: u8, translation: u8, plan: u8, nature: u8) -> Option<Selector>
         ensures { SomeIff result (IsSelector (numbers kind translation plan nature)) (numbers kind translation plan nature) }
     {

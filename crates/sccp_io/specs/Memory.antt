@@ -30,8 +30,8 @@ pub record MemoryFilesView : Type 0 where
   pub calls : ℕ
   pub faults : ℕ
 
--- A sink that fails at chosen calls: the octets taken so far, the numbers of those calls, the number of the next call, and
--- the count of faults.
+-- A sink that fails at chosen calls. It has the octets taken so far, the numbers of those calls, the number of the next
+-- call, and the count of faults.
 pub record MemorySinkView : Type 0 where
   pub taken : List ℕ
   pub failing : List ℕ

@@ -5,7 +5,7 @@ ghost use Rattle.sccp_io.specs.Files.{Contents, BeginsFile, TakesNext};
 use crate::IoFault;
 
 /// Files by name. One may be open, and a second one beside it. Each is read from its first octet on. Want of memory is the
-/// only fault that is not counted.
+/// only fault that may go uncounted.
 pub trait Files {
     /// The octets of each file by its name, if the object shows them. No call changes them.
     ghost contents: { Self → Option Contents };

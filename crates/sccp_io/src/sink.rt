@@ -4,7 +4,7 @@ ghost use Rattle.sccp_io.specs.Sinks.{TakesFront};
 
 use crate::IoFault;
 
-/// A sink of octets. Want of memory is the only fault that is not counted.
+/// A sink of octets. Want of memory is the only fault that may go uncounted.
 pub trait Sink {
     /// The octets taken so far, if the object shows them. Whether it does never changes.
     ghost taken: { Self → Option (List ℕ) };

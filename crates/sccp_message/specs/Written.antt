@@ -79,7 +79,7 @@ AreSevens numbers = AllByRecursion (λ n. n < 128) numbers
 abbrev pub AreNamed : List Parameter → Type 0
 AreNamed params = AllByRecursion (λ p. p.name ≢ 0) params
 
--- each address is such as read gives
+-- each address is one that read gives, or has a title that Title::global makes
 abbrev pub AreAddresses : List Address → Type 0
 AreAddresses addresses = AllByRecursion IsAddress addresses
 

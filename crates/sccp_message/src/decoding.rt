@@ -225,7 +225,7 @@ fn code_with_parameters(code: u8) -> bool
     code == 0x01 || code == 0x02 || code == 0x03 || code == 0x04
 }
 
-// Reads a connection request.
+// Reads a connection request message.
 #[tactic(auto, unfolding(crate::specs::Reading::message_in))]
 fn request(
     alloc: Global,
@@ -251,7 +251,7 @@ fn request(
     }
 }
 
-// Reads a connection confirm. It and the next two types have no variable part; only the clause names it.
+// Reads a connection confirm message. It and the next two types have no variable part; only the clause names it.
 #[tactic(auto, unfolding(crate::specs::Reading::message_in))]
 fn confirm(
     alloc: Global,
@@ -271,7 +271,7 @@ fn confirm(
     })
 }
 
-// Reads a connection refused.
+// Reads a connection refused message.
 #[tactic(auto, unfolding(crate::specs::Reading::message_in))]
 fn refusal(
     alloc: Global,
@@ -290,7 +290,7 @@ fn refusal(
     })
 }
 
-// Reads a released.
+// Reads a released message.
 #[tactic(auto, unfolding(crate::specs::Reading::message_in))]
 fn release(
     alloc: Global,
@@ -414,8 +414,8 @@ fn whole(alloc: Global, octets: &[u8]) -> Result<Message, DecodeFault>
 /// Reads a message of any of the twenty types, which is all of the octets (Q.713 sections 2 to 4).
 ///
 /// Parts may follow in any order, overlap or leave gaps. Spare bits, and octets after the last part, are ignored. The
-/// fault is the first test that fails: the type, the length, each variable part, the optional part, each address, each
-/// parameter that is known to the type. Of a repeated name, the first parameter counts.
+/// fault is the first test that fails. The tests are the type, the length, each variable part, the optional part, each
+/// address, and each parameter that is known to the type. Of a repeated name, the first parameter counts.
 pub fn decode(alloc: Global, octets: &[u8]) -> Result<Message, DecodeFault>
     ensures found { IfOk result (λ m. Reads octets.now m) }
     ensures sound { IfOk result (λ m. Sound m) }

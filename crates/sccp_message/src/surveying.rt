@@ -39,8 +39,8 @@ fn faults(alloc: Global, octets: &[u8]) -> Result<List<Option<DecodeFault>>, Out
 ///
 /// Of octets that `encode` writes, only the whole is a message. Each cut is decoded anew, so the time grows with the
 /// square of the length at most. It grows with the length only, if a cut costs no more than a longest address. This is
-/// so for types without optional part or data, and for what `encode` writes without parameters: a part is copied only
-/// once all of it is there.
+/// so for types without optional part or data, and for what `encode` writes without parameters. The reason is that a
+/// part is copied only once all of it is there.
 pub fn survey(alloc: Global, octets: &[u8]) -> Result<List<Option<DecodeFault>>, OutOfMemory>
     ensures exact { IfOk result (λ faults. faults ≡ surveyed octets.now) }
     ensures whole_alone { IfOk result (λ faults. Canonical octets.now → IsWholeAlone octets.now faults) }
