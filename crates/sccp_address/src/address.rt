@@ -1,3 +1,4 @@
+//! Addresses and their global titles.
 ghost use Rattle.std.specs.Prelude.{◌≡◌, ◌%◌, length, IfSome};
 ghost use Rattle.std.specs.Option.{SomeIff};
 ghost use Rattle.sccp_address.specs.Addresses.{selector_in, digits_in};
@@ -11,33 +12,35 @@ pub struct Address {
     pub national: bool,
     /// Whether routing is by subsystem number, and not by global title.
     pub by_ssn: bool,
-    /// The signalling point code, where there is one (3.4.2.1).
+    /// The signalling point code, if the address has one (3.4.2.1).
     pub pc: Option<PointCode>,
-    /// The subsystem number, where there is one (3.4.2.2).
+    /// The subsystem number, if the address has one (3.4.2.2).
     pub ssn: Option<u8>,
+    /// The global title (3.4.2.3).
     pub title: Title,
 }
 
 /// A global title (Q.713 section 3.4.2.3).
 #[derive(Drop)]
 pub enum Title {
+    /// The address has no global title.
     Absent,
-    /// A title whose digits are binary coded decimal; of kind 2 their number is even.
+    /// A title whose digits are binary coded decimal. Under kind 2 their number is even.
     Global { selector: Selector, digits: Digits },
-    /// A title that is kept as its octets: of another kind than 1 to 4, of another encoding scheme, or of more than
-    /// 32 digits. It is made by `read` alone.
+    /// A title that is kept as its octets: of a kind other than 1 to 4, of another encoding scheme, or of more than
+    /// 32 digits. Only `read` makes one.
     Raw { kind: u8, octets: Octets },
 }
 
 impl Title {
     ghost use Rattle.sccp_address.specs.Written.{IsTitle};
 
-    /// A title with digits; `None` for an odd number of them under kind 2, which can't say that it is odd.
+    /// A title with digits. `None` for an odd number of them under kind 2, which cannot say that the number is odd.
     pub fn global(selector: Selector, digits: Digits) -> Option<Title>
         ensures made { SomeIff result (selector.kind ≡ 2 → length digits % 2 ≡ 0) (Title.Global selector digits) }
         ensures kept { IfSome result (λ t. IsTitle t) }
     {
-        // That there are at most 32 is known from this call alone.
+        // Only this call shows that there are at most 32.
         let _count = digits.len();
         if selector.kind() == 2 && digits.as_slice().len() % 2 == 1 {
             None
@@ -47,7 +50,7 @@ impl Title {
     }
 }
 
-/// The selector of a title with digits; `None` for another title.
+/// The selector of a title with digits. `None` for another title.
 pub fn selector_of(address: &Address) -> Option<Selector>
     ensures { result ≡ selector_in address.now.title }
 {
@@ -57,7 +60,7 @@ pub fn selector_of(address: &Address) -> Option<Selector>
     }
 }
 
-/// The digits of a title with digits; `None` for another title.
+/// The digits of a title with digits. `None` for another title.
 pub fn digits_of(address: &Address) -> Option<Digits>
     ensures { result ≡ digits_in address.now.title }
 {

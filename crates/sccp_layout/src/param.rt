@@ -1,3 +1,4 @@
+//! Optional parameters.
 ghost use Rattle.std.specs.Prelude.{◌≡◌, ◌<◌};
 ghost use Rattle.std.specs.Option.{SomeIff};
 ghost use Rattle.sccp_layout.specs.Parameter.{parameter};
@@ -5,7 +6,7 @@ ghost use Rattle.sccp_layout.specs.Parameter.{parameter};
 use sccp_base::Octets;
 use std::marker::Model;
 
-/// An optional parameter: its name, which isn't 0, and its contents (Q.713 section 3).
+/// An optional parameter: its name, which is not 0, and its contents (Q.713 section 3).
 #[derive(Drop)]
 pub struct Param {
     name: u8,
@@ -24,7 +25,7 @@ impl Model for Param {
 }
 
 impl Param {
-    /// `None` for the name 0, which is the end of optional parameters.
+    /// The parameter of a name and contents. `None` for the name 0, which is the end of optional parameters.
     pub fn new(name: u8, octets: Octets) -> Option<Param>
         ensures { SomeIff result (0 < name) (parameter name octets) }
     {
@@ -35,6 +36,7 @@ impl Param {
         }
     }
 
+    /// The name, from 1 to 255.
     pub fn name(&self) -> u8
         ensures same { result ≡ self.now.name }
         ensures named { 0 < self.now.name }

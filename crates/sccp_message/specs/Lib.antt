@@ -1,3 +1,4 @@
+-- Messages: which octets they are, how they are read and how they are written.
 pub mod Causes
 pub mod Encoding
 pub mod Fields
