@@ -1,3 +1,4 @@
+//! The line of each field of a message, with its line feed.
 ghost use Rattle.std.specs.Prelude.{◌≡◌, ◌++◌, OnOk};
 ghost use Rattle.std.specs.Option.{option_copied};
 ghost use Rattle.sccp_report.specs.Fields.{number_line, source, destination, send, receive, credit, hops, more_line, class_line, after_blank, cause_line, return_cause, refusal_cause, error_cause, release_cause, reset_cause, data_line, parameter_line, parameter_lines};
@@ -97,7 +98,7 @@ fn put_after_blank(text: &mut Text, words: Option<&str>) -> Result<(), OutOfMemo
     }
 }
 
-/// A cause behind its name, and its text where its table has one, as a line.
+/// Appends a line: the name of a cause, its number, and its text if its table has one.
 #[tactic(auto, unfolding(crate::specs::Fields::cause_line))]
 pub fn put_cause(
     text: &mut Text,

@@ -1,3 +1,4 @@
+//! The words for what became of a segment (Q.714 section 4.1).
 ghost use Rattle.std.specs.Prelude.{◌≡◌, ◌++◌, OnOk};
 ghost use Rattle.std.specs.List.{flat_map};
 ghost use Rattle.sccp_report.specs.Served.{why_number, taken_words, segment_words};
