@@ -120,8 +120,7 @@ pub fn put_served(
 /// message that was sent.
 ///
 /// A message that is routed ends at a place, at a subsystem of its last node, as returned or as cut off. Another end has
-/// no
-/// words, nor has a place of the path that is no node of the plan.
+/// no words, nor has a place of the path that is no node of the plan.
 pub fn served_text(
     alloc: Global,
     plan: &Plan,
