@@ -1,4 +1,4 @@
-//! Several workers.
+//! Several workers, who route the messages of a replay beside each other.
 ghost use Rattle.std.specs.Prelude.{◌≡◌, ◌+◌, ◌^◌, ◌<◌, ◌≤◌, [], ◌∷◌, ◌++◌, map, length, IfOk, OnOk};
 ghost use Rattle.sccp_tool.specs.Replay.{latest};
 ghost use Rattle.sccp_tool.specs.Replayers.{MayBeRouted, RoutesBatch, jobs_from, settled_in};
@@ -14,8 +14,8 @@ use std::marker::Model;
 use std::sync::Wait;
 use std::thread::Threads;
 
-/// Several workers, who route messages beside each other while the plans that come in a batch are published. It can't be
-/// dropped: `end` ends it.
+/// Several workers, who route messages beside each other while the plans of a batch are published. It cannot be dropped:
+/// `end` ends it.
 pub struct Crew {
     first: Entry,
     teller: Teller,
@@ -72,7 +72,7 @@ fn jobs_of(alloc: Global, settled: &[Settled]) -> Result<List<Job>, OutOfMemory>
 }
 
 impl Crew {
-    /// So many workers, and the first plan alone.
+    /// This number of workers, with only the first plan accepted.
     pub fn new<R: Wait>(
         rt: &R,
         alloc: Global,
@@ -120,7 +120,7 @@ impl Crew {
         self.teller.latest()
     }
 
-    /// The messages of a batch are routed, and the plans that come in it are published beside that.
+    /// Routes the messages of a batch, and publishes its plans at the same time.
     pub fn route<R: Threads + Wait + Sync, G: Gate + Sync>(
         &mut self,
         rt: &R,
@@ -153,7 +153,7 @@ impl Crew {
         )
     }
 
-    /// The workers have done.
+    /// Ends the workers. It may wait for them.
     pub fn end<R: Wait>(self, rt: &R) {
         let Crew {
             first: _,

@@ -27,7 +27,7 @@ use sccp_report::Text;
 use std::alloc::Global;
 use std::thread::Threads;
 
-/// Its words: `NUMBER SIZE WORKERS`.
+/// The words of this command: `NUMBER SIZE WORKERS`.
 #[tactic(auto, unfolding(crate::specs::Load::load_words))]
 pub fn load_words(words: &[String]) -> Option<Command<'_>>
     ensures { task_in result ≡ load_words (texts words.now) }
@@ -67,8 +67,8 @@ fn number_to(word: &[u8], most: u32) -> Option<u32>
     }
 }
 
-/// Makes the plan of a number, sends so many messages over its relays where it is accepted, and prints the counts, which are
-/// the same for each number of workers. It comes to no file, so the clause speaks of whatever the files tell.
+/// Makes the plan of a number, sends this number of messages over its relays if it is accepted, and prints the counts. They
+/// are the same for each number of workers. No file is read, so the clause speaks of any files.
 pub fn load<R: Threads + Sync, K: Sink>(
     rt: &R,
     alloc: Global,

@@ -30,7 +30,7 @@ use std::sync::Wait;
 use std::thread::Threads;
 use trace_text::is_file_name;
 
-/// Its words: `PLAN TRACE WORKERS`.
+/// The words of this command: `PLAN TRACE WORKERS`.
 #[tactic(auto, unfolding(crate::specs::Replay::replay_words))]
 pub fn replay_words(words: &[String]) -> Option<Command<'_>>
     ensures { task_in result ≡ replay_words (texts words.now) }
@@ -58,7 +58,7 @@ fn replay_of<'a>(plan: &'a str, trace: &'a str, workers: &str) -> Option<Command
     }
 }
 
-/// Replays the trace of the second file under the plan of the first one, with so many workers.
+/// Replays the trace of the second file under the plan of the first one, with this number of workers.
 #[tactic(auto, unfolding(crate::specs::Replay::replay_work))]
 pub fn replay<R: Threads + Wait + Sync, G: Gate + Sync, F: Files, K: Sink>(
     rt: &R,
