@@ -43,8 +43,8 @@ pub enum Command<'a> {
     Change(&'a str, &'a str),
     /// To make one connection over the relays of the plan of the file of this name, and to report its outcome.
     Connect(&'a str, Calling),
-    /// To print what becomes of octets at a relay of the plan of the file of this name, and to cut a long message that leaves
-    /// it.
+    /// To print what becomes of octets at a relay of the plan of the file of this name. A long message that leaves it is
+    /// cut.
     SendOn(&'a str, Incoming),
 }
 

@@ -7,7 +7,7 @@ pub enum Settled {
     /// This is printed of it.
     Prints(Octets),
     /// A message that is to be routed: the number of its line, the node that it arrives at, the point that it is from, its
-    /// octets, and how many plans were accepted before its line.
+    /// octets. The last field is the number of plans that were accepted before its line.
     Routes {
         line: u32,
         entry: u8,
