@@ -99,7 +99,7 @@ call_of plan node calling = record {
   octets = calling.octets;
 }
 
--- a connection that begins in a world where nothing has happened
+-- a connection that begins in a world in which nothing has happened
 abbrev pub call_text : Network → ℕ → Calling → List ℕ
 call_text plan node calling = outcome_text (outcome (call_of plan node calling) (beginning (kept plan [])))
 

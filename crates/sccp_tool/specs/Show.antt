@@ -61,8 +61,8 @@ show_answer octets = answer_for (shown_lines 1 (lines_of octets))
 abbrev pub show_work : List ℕ → Work
 show_work name = within_limit name (λ octets. answered (show_answer octets))
 
--- The cause of each answer: the file is within the limit and has no faulty line, or it has a line that is no word of hexadecimal
--- digits or breaks a limit of lines, or it is too long.
+-- The cause of each answer. Either the file is within the limit and has no faulty line. Or it has a line that is no word of
+-- hexadecimal digits or breaks a limit of lines. Or it is too long.
 abbrev pub ShowCause : Option Contents → List ℕ → Status → Type 0
 ShowCause contents name Done = HasFile contents name (λ octets. IsOk (shown_lines 1 (lines_of octets)))
 ShowCause contents name BadTrace = HasFile contents name (λ octets. IsErr (shown_lines 1 (lines_of octets)))

@@ -33,8 +33,8 @@ use trace_text::{is_file_name, octets_of};
 /// The line on an end whose point is a node's.
 const END_IS_NODE: &[u8] = b"end is a node\n";
 
-/// The connection that is asked for: the title that is called, the name of the relay that the request goes to, the point of
-/// the end that calls, and the octets that are sent.
+/// The connection that is asked for: the called title and the relay that the request goes to, the point of the calling end,
+/// and the octets that are sent.
 #[derive(Drop)]
 pub struct Calling {
     pub start: Start,
