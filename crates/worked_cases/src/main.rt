@@ -1,6 +1,6 @@
-//! Calls of the commands that are worked out by hand, each made over the files that lie beside it.
+//! Calls of the commands that are worked out by hand, each made over the files beside it.
 //!
-//! The file `calls` is the list. Each of its lines is printed as it stands.
+//! The file `calls` is the list. Each of its lines is printed unchanged.
 //!
 //! - A line that begins with `>` is a call, with a blank and a word for each of its words, so that two blanks in a row, or one
 //!   at the end, spell an empty word. What `run` writes is printed after it, and then a line with its status.
@@ -33,7 +33,7 @@ fn main(rt: HostRuntime) -> io::Result<()> {
     Ok(())
 }
 
-/// The words of a call, or none where the line isn't one.
+/// The words of a call, or none if the line is no call.
 fn words_of(alloc: Global, line: &str) -> Result<Option<Vec<String>>, AllocError> {
     let Some(call) = line.strip_prefix('>') else {
         return Ok(None);
@@ -68,7 +68,7 @@ fn append(made: &mut Vec<u8>, pieces: &str) -> Result<(), AllocError> {
     }
 }
 
-/// Puts a piece at the end so many times.
+/// Puts a piece at the end as often as the count says.
 fn repeat(made: &mut Vec<u8>, piece: &str, count: u32) -> Result<(), AllocError> {
     for number in 0..count {
         put(made, piece, number)?;
@@ -84,7 +84,7 @@ fn put(made: &mut Vec<u8>, piece: &str, number: u32) -> Result<(), AllocError> {
     Ok(())
 }
 
-/// Puts what an octet of a piece with this number stands for at the end.
+/// Puts what an octet of a piece with this number means at the end.
 fn put_octet(made: &mut Vec<u8>, octet: u8, number: u32) -> Result<(), AllocError> {
     match octet {
         b'%' => {
