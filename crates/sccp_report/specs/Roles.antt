@@ -47,7 +47,7 @@ status_at entry origin payload = due entry (Managed (events.Status origin payloa
 abbrev pub status_due : Incoming → List ℕ → Due
 status_due x = status_at x.entry x.origin
 
--- by the called address, on which only connectionless messages have to be routed
+-- by the called address; only connectionless messages have one to be routed on
 abbrev pub role_by_called : Incoming → Message → Option Address → Role
 role_by_called x m None = alone (Some (due x.entry (Connected x.origin m)))
 role_by_called x m (Some a) = if is_for_management a then alone (option_map (status_due x) (management_data m)) else routed x

@@ -75,7 +75,7 @@ fn put_broken_words(text: &mut Text) -> Result<(), OutOfMemory>
     text.put(b"change refused ")
 }
 
-/// Appends the places of a cover of each plan, which end the line.
+/// Appends the places of two covers, one of each plan, which end the line.
 #[tactic(auto, unfolding(crate::specs::Changes::covers_words))]
 fn put_covers(text: &mut Text, old_cover: u16, new_cover: u16) -> Result<(), OutOfMemory>
     ensures { OnOk result (text.new ≡ text.old ++ covers_words old_cover new_cover) }

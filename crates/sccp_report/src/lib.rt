@@ -1,4 +1,4 @@
-//! The printed text of SCCP messages, of the routes that titles take through a plan, of the verdicts on plans, and of a replay.
+//! The printed text of SCCP messages, of the routes of titles through a plan, of the verdicts on plans, and of a replay.
 //!
 //! `message_text` gives the lines of the message that octets are: its type, a line for each field in the order of the
 //! message type (ITU-T Q.713 section 4), and a line for each optional parameter. Octets that are no message give one line

@@ -9,7 +9,7 @@ use sccp_address::Address;
 use sccp_base::Octets;
 use sccp_message::Message;
 
-/// The called address of a connectionless message.
+/// The called address of a connectionless message; none for another message.
 pub fn called(message: &Message) -> Option<&Address>
     ensures { option_copied result ≡ called_of message.now }
 {

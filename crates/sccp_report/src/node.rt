@@ -8,7 +8,7 @@ use crate::text::Text;
 use plan_model::Plan;
 use sccp_base::OutOfMemory;
 
-/// Appends the name of the node at a place of the plan. A place without a node has no name.
+/// Appends the name of the node at a place of the plan, from 0. A place without a node has no name.
 #[tactic(auto, unfolding(crate::specs::Hops::node_text))]
 pub fn put_node(text: &mut Text, plan: &Plan, node: u8) -> Result<(), OutOfMemory>
     ensures { OnOk result (text.new ≡ text.old ++ node_text plan.now node) }

@@ -17,7 +17,7 @@ use sccp_message::{DecodeFault, Message, decode};
 use std::alloc::Global;
 use trace_text::Line;
 
-/// What is to happen at the node at a place of the plan.
+/// What is to happen at a node, which is given by its place in the plan.
 #[derive(Drop)]
 pub struct Due {
     pub node: u8,
@@ -155,7 +155,7 @@ fn event_role(plan: &Plan, name: &Name, event: Event) -> Role
 
 /// What a line of a trace is to a replay over the nodes of a plan.
 ///
-/// A message is looked at once. One that is routed on subsystem number 1 is for SCCP management; its data are the status
+/// A message is read once. One that is routed on subsystem number 1 is for SCCP management; its data are the status
 /// message, if its type is UDT, XUDT or LUDT. Each other connectionless message is to be routed. One of a
 /// connection-oriented type is for the connection sections of its node.
 pub fn role_of(alloc: Global, plan: &Plan, line: &Line) -> Result<Role, OutOfMemory>

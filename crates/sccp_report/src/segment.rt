@@ -8,7 +8,7 @@ use relay_net::Outcome;
 use sccp_base::OutOfMemory;
 use sccp_segment::{Taken, Why};
 
-// The numbers of the reasons to give a segment up.
+// The number that the text has for each reason to give a segment up.
 fn why_number(why: Why) -> u32
     ensures { result ≡ why_number why }
 {
