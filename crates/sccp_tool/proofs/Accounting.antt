@@ -76,7 +76,7 @@ TellsLine-more z pieces more p h = λ x role. let t = h x role in record {
   well = t.well;
 }
 
--- more lines were printed as more pieces
+-- further lines were printed as further pieces
 SoFar-more : (z : Scene) (lines ls : List Numbered) (pieces more : List Piece) (at at' : Standing) → SoFar z lines pieces at → at'.first ≡ z.first → map (λ p. p.line) more ≡ ls
     → ((p : Piece) → Contains more p → TellsLine (IsPublished z.c z.first z.bound (pieces ++ more)) z.first p)
     → ((k : ℕ) (plan : Network) → slice_get at'.later k ≡ Some plan → IsKnown z (pieces ++ more) (k + 2) plan) → LaterPlansFit z.c ls

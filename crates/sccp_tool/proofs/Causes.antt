@@ -1,4 +1,4 @@
--- What is owed on a task: the causes of its answers, what its text says, and the files that it may read.
+-- What is to be proved of a task: the causes of its answers, what its text says, and the files that it may read.
 use Rattle.std.proofs.Common.{◌≡◌, ◌⊎◌, ℕ, List, Option, Some, None}
 use Rattle.std.specs.Io.KnownBytes.{append_known}
 use Rattle.sccp_io.specs.Files.{Contents}

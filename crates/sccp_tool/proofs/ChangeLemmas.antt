@@ -98,7 +98,7 @@ module _ (word : List ℕ) (next : Network → Work) (octets : List ℕ) (plan :
   on_verdict : (result : Result Status Stop) (m a : Moment) → Works (accepted_on word next plan verdict) result m a → Works (read_on_plan word next (plan_of octets)) result m a
   on_verdict result m a w = subst (λ r. Works (read_on_plan word next r) result m a) (sym reads) (Works-judge plan (accepted_on word next plan) verdict result m a judged w)
 
-  -- an accepted plan has its line, and the work goes on
+  -- the line of an accepted plan is printed, and the work goes on
   pub Works-accepted : {T : Type 0} (accepted : Verified) (line : List ℕ) (put : Result T Stop) (x : T) (result : Result Status Stop) (m n a : Moment) → verdict ≡ verdicts.Accepted accepted → line ≡ word ++ plan_told plan verdict
       → Writes line put m.taken n.taken m.write_faults n.write_faults → put ≡ Ok x → n.contents ≡ m.contents → n.sound ≡ m.sound → n.read_faults ≡ m.read_faults → Works (next plan) result n a → Works (read_on_plan word next (plan_of octets)) result m a
   Works-accepted accepted line put x result m n a is spelt writes ok contents sound read_faults w =
@@ -281,7 +281,7 @@ only contents old new s (good h) = by s h.3.2
 
 -- ---- what each answer follows from
 
--- a plan that is surely safe is gone on with
+-- with a plan that is surely safe the command goes on
 goes_on : (plan : Network) (on : Status → Type 0) (s : Status) → IsSurelySafe plan → VerdictEnds plan on s → on s
 goes_on plan on Refused safe (refused k) = absurd (safe_or_bad plan safe.0 k.0 k.1)
 goes_on plan on TooWide safe (wide k) = absurd (safe.1 k)

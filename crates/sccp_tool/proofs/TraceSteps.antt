@@ -53,7 +53,7 @@ piece_waits work count at batch waiting reader reader' left left' piece lines fi
     (Works-moved (rest_work count at batch waiting reader (piece ++ rest)) result before now after moved spared
     (subst (λ w. Works w result now after) (sym (piece_taken count at batch waiting reader reader' piece rest lines (fed rest))) h))
 
--- the trace failed at a place at which no line waits, or memory was wanting
+-- the trace could not be read on, or memory was wanting
 pub piece_fails : (work : Work) (count : ℕ) (at : Standing) (batch waiting : List Numbered) (reader : reading.Standing) (left : Option (List ℕ)) (rest : List ℕ) (stop : Stop) (first before now : Moment)
     → GoesOn work count at batch waiting reader left first before → MayCome left rest → Moved before now → (IsTrue before.sound → now.read_faults ≡ before.read_faults) → (stop ≡ Read → Rose before.read_faults now.read_faults) → (stop ≡ Write → ⊥) → ((s : Status) → stop ≡ Answered s → ⊥)
     → Works work (Err stop) first now

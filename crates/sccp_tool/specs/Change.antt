@@ -56,7 +56,7 @@ plan_told plan (verdicts.Accepted accepted) = accepted_line accepted.bound
 plan_told plan (verdicts.Refused same witness) = verdict_text plan (verdicts.Refused same witness)
 plan_told plan (verdicts.TooWide same) = verdict_text plan (verdicts.TooWide same)
 
--- an accepted plan has its line, and the work goes on; any other verdict is the answer
+-- of an accepted plan its line is printed, and the work goes on; any other verdict is the answer
 abbrev pub accepted_on : List ℕ → (Network → Work) → Network → Verdict → Work
 accepted_on word next plan (verdicts.Accepted accepted) = print (word ++ plan_told plan (verdicts.Accepted accepted)) (next plan)
 accepted_on word next plan (verdicts.Refused same witness) = answered (Refused, word ++ plan_told plan (verdicts.Refused same witness))
@@ -82,7 +82,7 @@ mixed_work old new = if same_nodes old new then mix old new (λ change. answered
 abbrev pub change_work : List ℕ → List ℕ → Work
 change_work old new = with_accepted old_word old (λ p. with_accepted new_word new (λ q. mixed_work p q))
 
--- ---- what the code hands on while the work is done
+-- ---- what the code gives while the work is done
 
 -- Whatever the work that needs the plan goes on with: from an accepted plan it goes on, and otherwise it has ended or
 -- stopped.
@@ -131,8 +131,8 @@ ChangeTells contents old new given taken taken' =
 abbrev pub IsSurelySafe : Network → Type 0
 IsSurelySafe plan = IsSafe plan × (IsWide plan → ⊥)
 
--- Of two plans there are three facts, each with its definition: every mixed route of a title that both cover ends well
--- within some bound up to 14; a bad one is there; they reach too many classes together.
+-- Three facts on two plans, a definition each. Every mixed route of a title that both cover ends well within some bound up
+-- to 14; or a bad one is there; or they reach too many classes together.
 abbrev pub IsMixable : Network → Network → Type 0
 IsMixable old new = (bound : ℕ) × IsMixedSafeFor old new bound
 

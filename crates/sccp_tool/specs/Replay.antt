@@ -200,7 +200,7 @@ trace_work at trace = lines_work (closing_of (length trace.lines) trace.fault) a
 abbrev pub start : ℕ → Network → Standing
 start workers plan = record { workers = workers; first = plan; later = []; states = first_states plan }
 
--- the first plan, if accepted, has its line, and then the trace is read
+-- the line of an accepted first plan is printed, and then the trace is read
 abbrev pub replayed : List ℕ → List ℕ → ℕ → Network → Verdict → Work
 replayed plan_name trace_name workers plan (Accepted a) =
     print (first_plan_line plan_name a.bound) (read trace_name (λ octets. trace_work (start workers plan) (trace_of octets)))

@@ -69,7 +69,7 @@ ShowCause contents name BadTrace = HasFile contents name (λ octets. IsErr (show
 ShowCause contents name TooLong = HasLongFile contents name
 ShowCause contents name answer = ⊥
 
--- the code hands out the text or the fault, unless memory ran out
+-- the code gives the text or the fault, unless memory ran out
 abbrev pub Gives : Result (Vec ℕ Global) ShowError → Result (List ℕ) LineFault → Type 0
 Gives (Ok text) shown = shown ≡ Ok text.items
 Gives (Err errors.Memory) shown = Unit {0}

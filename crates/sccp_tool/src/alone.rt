@@ -61,7 +61,7 @@ fn route_one(
     ensures routed { IfOk result (IsRouted (standing (routing 1 first.now later.now) states.now) (markings_of states.now) (incoming entry origin octets.now)) }
 {
     let accepted = plan_of_number(first, later, number);
-    // It ensures that this is a plan.
+    // This call ensures that the plan is sound.
     let _plan = accepted.plan();
     let journey = journey(alloc, accepted, states, entry, origin, octets)?;
     Ok(Served { number, journey })
@@ -125,7 +125,7 @@ impl Alone {
     pub fn new(alloc: Global, first: Accepted) -> Alone
         ensures { result ≡ routing 1 first [] }
     {
-        // It ensures that this is a plan.
+        // This call ensures that the plan is sound.
         let _plan = first.plan();
         Alone {
             first,

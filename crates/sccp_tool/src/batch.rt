@@ -38,7 +38,7 @@ pub fn batch_text<R: Threads + Wait + Sync, G: Gate + Sync, F: Files, K: Sink>(
     ensures few { OnOk result (length at.new.later ≤ length at.old.later + length joined) }
     ensures left { F.left files.new ≡ F.left files.old }
 {
-    // It ensures that the plans are sound.
+    // This call ensures that the plans are sound.
     let _first = at.first();
     let mut coming = List::new(alloc);
     let settled = settle(alloc, at, &mut coming, joined, files, out)?;

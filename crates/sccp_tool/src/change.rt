@@ -34,7 +34,7 @@ const NEW: &[u8] = b"new ";
 
 const OTHER_NODES: &[u8] = b"other nodes\n";
 
-/// The words of this command: `OLD NEW`.
+/// The command of the words `OLD NEW`, or none if they have another shape.
 #[tactic(auto, unfolding(crate::specs::Change::change_words))]
 pub fn change_words(words: &[String]) -> Option<Command<'_>>
     ensures { task_in result ≡ change_words (texts words.now) }

@@ -32,8 +32,7 @@ pub enum Command<'a> {
     Route(&'a str, Start),
     /// To replay the trace of the second file under the plan of the first one, with this number of workers.
     Replay(&'a str, &'a str, Workers),
-    /// To make a plan and messages from a number, and to count what becomes of them: the number, how many messages, the
-    /// workers.
+    /// To make a plan and messages from a number, and to count how they end: the number, how many messages, the workers.
     Load(u32, u32, Workers),
     /// To show every cut of the message of these octets.
     Cuts(Octets),
@@ -43,8 +42,7 @@ pub enum Command<'a> {
     Change(&'a str, &'a str),
     /// To make one connection over the relays of the plan of the file of this name, and to report its outcome.
     Connect(&'a str, Calling),
-    /// To print what becomes of octets at a relay of the plan of the file of this name. A long message that leaves it is
-    /// cut.
+    /// To print what becomes of octets at a relay of the plan of the file of this name, a long message in segments.
     SendOn(&'a str, Incoming),
 }
 

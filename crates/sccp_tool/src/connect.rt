@@ -42,7 +42,7 @@ pub struct Calling {
     pub octets: Octets,
 }
 
-/// The words of this command: `PLAN NODE FROM SELECTOR SSN DIGITS HEX`.
+/// The command of the words `PLAN NODE FROM SELECTOR SSN DIGITS HEX`, or none if they have another shape.
 #[tactic(auto, unfolding(crate::specs::Connect::connect_words))]
 pub fn connect_words(alloc: Global, words: &[String]) -> Result<Option<Command<'_>>, OutOfMemory>
     ensures { IfOk result (λ command. task_in command ≡ connect_words (texts words.now)) }
@@ -141,7 +141,7 @@ pub fn connect<F: Files, K: Sink>(
     connect_judged(alloc, verdict, calling, out)
 }
 
-/// What follows the verdict on the plan.
+/// Does what follows the verdict on the plan.
 fn connect_judged<K: Sink>(
     alloc: Global,
     verdict: Verdict,
@@ -165,7 +165,7 @@ fn connect_judged<K: Sink>(
     }
 }
 
-/// The plan was accepted.
+/// Makes the connection over a plan that was accepted, and prints its outcome.
 fn connect_accepted<K: Sink>(
     alloc: Global,
     plan: Plan,

@@ -35,7 +35,7 @@ impl Model for Crew {
     ghost invariant = { λ c. IsCrew (plans_of c.teller) c.teller.nodes (length c.workers) (entry_plan c.first) (drop 1 (plans_of c.teller)) × All (λ w. w.place.nodes ≡ c.teller.nodes) c.workers };
 }
 
-/// A message that is to be routed becomes the next job.
+/// Makes a message that is to be routed the next job.
 fn add_job(alloc: Global, one: &Settled, jobs: &mut List<Job>) -> Result<(), OutOfMemory>
     requires { length jobs.old < 2 ^ 32 }
     ensures { OnOk result (jobs.new ≡ jobs.old ++ jobs_from (length jobs.old) (settled_in one.now ∷ [])) }
@@ -82,7 +82,7 @@ impl Crew {
         requires { (1 < workers) × (workers ≤ 16) }
         ensures { IfOk result (λ c. c ≡ routing workers first []) }
     {
-        // It ensures that this is a plan.
+        // This call ensures that the plan is sound.
         let _plan = first.plan();
         let (teller, workers) = Live::new(rt, alloc, first, workers)?;
         match teller.last_entry() {
@@ -138,7 +138,7 @@ impl Crew {
         ensures at { OnOk result (standing self.new states.now ≡ ahead (standing self.old states.now) coming) }
         ensures served { IfOk result (RoutesBatch (standing self.old states.now) (ahead (standing self.old states.now) coming) (map settled_in settled.now)) }
     {
-        // It ensures that the plans are sound.
+        // This call ensures that the plans are sound.
         let _first = self.first();
         let jobs = jobs_of(alloc, settled)?;
         serve_jobs(

@@ -20,7 +20,7 @@ use sccp_io::{Files, Sink};
 use std::alloc::{AllocError, Global};
 use trace_text::is_file_name;
 
-/// The words of this command: `PLAN FILE`.
+/// The command of the words `PLAN FILE`, or none if they have another shape.
 #[tactic(auto, unfolding(crate::specs::Import::import_words))]
 pub fn import_words(words: &[String]) -> Option<Command<'_>>
     ensures { task_in result ≡ import_words (texts words.now) }

@@ -17,7 +17,7 @@ pub enum Joining {
     Aside,
 }
 
-/// A line that joined a batch, with what it is to it.
+/// A line that joined a batch, and as what it joined.
 #[derive(Drop)]
 pub struct Joined {
     pub line: Numbered,

@@ -27,7 +27,7 @@ use sccp_report::Text;
 use std::alloc::Global;
 use std::thread::Threads;
 
-/// The words of this command: `NUMBER SIZE WORKERS`.
+/// The command of the words `NUMBER SIZE WORKERS`, or none if they have another shape.
 #[tactic(auto, unfolding(crate::specs::Load::load_words))]
 pub fn load_words(words: &[String]) -> Option<Command<'_>>
     ensures { task_in result ≡ load_words (texts words.now) }
@@ -51,7 +51,7 @@ fn load_of<'a>(number: &str, size: &str, workers: &str) -> Option<Command<'a>>
     }
 }
 
-/// One to ten decimal digits that spell a number up to the given one.
+/// The number that one to ten decimal digits spell, if it is at most the given one.
 fn number_to(word: &[u8], most: u32) -> Option<u32>
     ensures { result ≡ number_to most word.now }
 {
@@ -88,7 +88,7 @@ pub fn load<R: Threads + Sync, K: Sink>(
     loaded
 }
 
-/// What follows the verdict on the plan.
+/// Does what follows the verdict on the plan.
 fn load_judged<R: Threads + Sync, K: Sink>(
     rt: &R,
     alloc: Global,
@@ -113,7 +113,7 @@ fn load_judged<R: Threads + Sync, K: Sink>(
     }
 }
 
-/// The plan was accepted: the messages are sent, and the counts printed.
+/// Sends the messages over a plan that was accepted, and prints the counts.
 fn load_accepted<R: Threads + Sync, K: Sink>(
     rt: &R,
     alloc: Global,

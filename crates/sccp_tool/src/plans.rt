@@ -16,7 +16,8 @@ use sccp_io::{Files, Sink};
 use sccp_report::plan_fault_text;
 use std::alloc::Global;
 
-/// Reads a plan. A file that is too long or whose text is no plan has a line, and that is the answer of the command.
+/// Reads a plan. For a file that is too long or whose text is no plan a line is printed, and that is the answer of the
+/// command.
 pub fn with_plan<F: Files, K: Sink>(
     alloc: Global,
     name: &str,

@@ -200,7 +200,7 @@ fn close<K: Sink>(worked: Result<Status, Stop>, out: &mut K) -> Status
     }
 }
 
-/// The answer if the work ended early. A fault of the files has a line of its own.
+/// The answer if the work ended early. For a fault of the files a line of its own is printed.
 fn tell<K: Sink>(stop: Stop, out: &mut K) -> Status
     ensures { Closes (Err stop) result (K.taken out.old) (K.taken out.new) (K.faults out.old) (K.faults out.new) }
 {

@@ -30,7 +30,7 @@ use std::sync::Wait;
 use std::thread::Threads;
 use trace_text::is_file_name;
 
-/// The words of this command: `PLAN TRACE WORKERS`.
+/// The command of the words `PLAN TRACE WORKERS`, or none if they have another shape.
 #[tactic(auto, unfolding(crate::specs::Replay::replay_words))]
 pub fn replay_words(words: &[String]) -> Option<Command<'_>>
     ensures { task_in result ≡ replay_words (texts words.now) }
@@ -79,7 +79,7 @@ pub fn replay<R: Threads + Wait + Sync, G: Gate + Sync, F: Files, K: Sink>(
     replay_judged(rt, gate, alloc, verdict, plan, trace, workers, files, out)
 }
 
-/// What follows the verdict on the first plan.
+/// Does what follows the verdict on the first plan.
 fn replay_judged<R: Threads + Wait + Sync, G: Gate + Sync, F: Files, K: Sink>(
     rt: &R,
     gate: &G,
@@ -109,7 +109,7 @@ fn replay_judged<R: Threads + Wait + Sync, G: Gate + Sync, F: Files, K: Sink>(
     }
 }
 
-/// The first plan was accepted: its line is written, and the trace is replayed.
+/// Writes the line of the first plan, which was accepted, and replays the trace.
 fn replay_accepted<R: Threads + Wait + Sync, G: Gate + Sync, F: Files, K: Sink>(
     rt: &R,
     gate: &G,

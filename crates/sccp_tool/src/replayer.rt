@@ -107,7 +107,7 @@ impl Replayer {
         ensures plans { OnOk result (AtMostOneMore self.now.first (ahead self.now coming.old).later (ahead self.now coming.new).later) }
         ensures ok { OnOk result (ahead self.now coming.new ≡ record (ahead self.now coming.old) { later = (ahead self.now coming.old).later ++ plan.plan ∷ [] }) }
     {
-        // It ensures that this is a plan.
+        // This call ensures that the plan is sound.
         let _plan = plan.plan();
         coming.push(plan)
     }

@@ -26,7 +26,7 @@ pub const UNKNOWN_NODE: &[u8] = b"unknown node\n";
 /// How many hops are followed.
 const MOST_HOPS: u8 = 15;
 
-/// The words of this command: `PLAN NODE SELECTOR SSN DIGITS`.
+/// The command of the words `PLAN NODE SELECTOR SSN DIGITS`, or none if they have another shape.
 #[tactic(auto, unfolding(crate::specs::Route::route_words))]
 pub fn route_words(words: &[String]) -> Option<Command<'_>>
     ensures { task_in result ≡ route_words (texts words.now) }

@@ -44,7 +44,7 @@ pub struct Incoming {
     pub octets: Octets,
 }
 
-/// The words of this command: `PLAN NODE ORIGIN SIZE HEX`.
+/// The command of the words `PLAN NODE ORIGIN SIZE HEX`, or none if they have another shape.
 #[tactic(auto, unfolding(crate::specs::SendOn::send_on_words))]
 pub fn send_on_words(alloc: Global, words: &[String]) -> Result<Option<Command<'_>>, OutOfMemory>
     ensures { IfOk result (λ command. task_in command ≡ send_on_words (texts words.now)) }

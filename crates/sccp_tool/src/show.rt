@@ -44,7 +44,7 @@ impl From<OutOfMemory> for ShowError {
     }
 }
 
-/// The word of this command: `FILE`.
+/// The command of the word `FILE`, or none if the words have another shape.
 #[tactic(auto, unfolding(crate::specs::Show::show_words))]
 pub fn show_words(words: &[String]) -> Option<Command<'_>>
     ensures { task_in result ≡ show_words (texts words.now) }
