@@ -124,8 +124,8 @@ fn number_in(line: &str) -> u32 {
     0
 }
 
-/// Whether the numbers of the four messages are 1 or 2, and do not fall from the first to the third and from the second to
-/// the fourth.
+/// Whether the numbers of the four messages are 1 or 2. They do not fall from the first to the third, nor from the second
+/// to the fourth.
 fn are_lawful(text: &str) -> bool {
     let mut numbers = [0, 0, 0, 0];
     let mut count = 0;
