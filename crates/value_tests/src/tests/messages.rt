@@ -175,8 +175,8 @@ fn one_parameter(alloc: Global, count: usize) -> Result<List<Param>, OutOfMemory
     Ok(params)
 }
 
-/// The fault of an XUDT to these digits, with a calling address of four octets, 230 octets of data and one parameter of this
-/// number of octets.
+/// The fault of an XUDT to these digits. It has a calling address of four octets, 230 octets of data and one parameter of
+/// this number of octets.
 fn fault_of_xudt(alloc: Global, digits: &str, count: usize) -> Result<Option<EncodeFault>, Fail> {
     let payload = octets(alloc, 230)?;
     let params = one_parameter(alloc, count)?;
