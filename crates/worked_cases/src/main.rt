@@ -2,8 +2,8 @@
 //!
 //! The file `calls` is the list. Each of its lines is printed unchanged.
 //!
-//! - A line that begins with `>` is a call, with a blank and a word for each of its words, so that two blanks in a row, or one
-//!   at the end, spell an empty word. What `run` writes is printed after it, and then a line with its status.
+//! - A line that begins with `>` is a call, with a blank and a word for each of its words. So two blanks in a row, or one at
+//!   the end, spell an empty word. What `run` writes is printed after it, and then a line with its status.
 //! - A line that begins with `+` adds to a file that is made: it has a number, a blank, and a piece that is put at the end that
 //!   number of times. In a piece `|` is a line feed, `^` a carriage return, and `%` two digits that count from 00 on.
 //! - A line that begins with `!` has a blank and a name: the file that was made is written under it, and the next one begins.
