@@ -1,3 +1,4 @@
+//! The parts of a message that a replay looks at.
 ghost use Rattle.std.specs.Prelude.{◌≡◌, is_some};
 ghost use Rattle.std.specs.Option.{option_copied};
 ghost use Rattle.sccp_message.specs.Written.{content};
@@ -8,7 +9,7 @@ use sccp_address::Address;
 use sccp_base::Octets;
 use sccp_message::Message;
 
-/// The called address of a connectionless message.
+/// The called address of a connectionless message; none for another message.
 pub fn called(message: &Message) -> Option<&Address>
     ensures { option_copied result ≡ called_of message.now }
 {
@@ -38,7 +39,7 @@ pub fn is_connectionless(message: &Message) -> bool
     }
 }
 
-/// The data of a message of a type that a message for management has, service messages aside.
+/// The data of a message for management, if they can be a status message. A service message has none that count.
 pub fn management_data(message: &Message) -> Option<&Octets>
     ensures { option_copied result ≡ management_data message.now }
 {
@@ -50,7 +51,7 @@ pub fn management_data(message: &Message) -> Option<&Octets>
     }
 }
 
-/// The data of a message, where its type has any.
+/// The data of a message, if its type has any.
 pub fn payload(message: &Message) -> Option<&Octets>
     ensures { option_copied result ≡ (content message.now).payload }
 {

@@ -1,3 +1,4 @@
+-- The proofs of the commands, by subject.
 mod Accounting
 mod BatchSteps
 mod Causes

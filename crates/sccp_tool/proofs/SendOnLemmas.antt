@@ -78,7 +78,7 @@ connection_shown octets m is e = ap (λ t. type_line (first_line t)) (shown octe
 
 -- ---- an arrival is of its octets
 
--- what the octets say of an arrival that isn't routed
+-- what the octets say of an arrival that is not routed
 abbrev SaysOctets : List ℕ → Arrival → Type 0
 SaysOctets b (Connection m) = (reading b ≡ Ok m) × (called_of m ≡ None)
 SaysOctets b (Undecodable fault) = reading b ≡ Err fault

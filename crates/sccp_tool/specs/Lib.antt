@@ -1,3 +1,4 @@
+-- What the commands promise, by subject.
 pub mod Account
 pub mod Change
 pub mod Commands

@@ -30,7 +30,7 @@ use std::sync::Wait;
 use std::thread::Threads;
 use trace_text::is_file_name;
 
-/// Its words: `PLAN TRACE WORKERS`.
+/// The command of the words `PLAN TRACE WORKERS`, or none if they have another shape.
 #[tactic(auto, unfolding(crate::specs::Replay::replay_words))]
 pub fn replay_words(words: &[String]) -> Option<Command<'_>>
     ensures { task_in result ≡ replay_words (texts words.now) }
@@ -58,7 +58,7 @@ fn replay_of<'a>(plan: &'a str, trace: &'a str, workers: &str) -> Option<Command
     }
 }
 
-/// Replays the trace of the second file under the plan of the first one, with so many workers.
+/// Replays the trace of the second file under the plan of the first one, with this number of workers.
 #[tactic(auto, unfolding(crate::specs::Replay::replay_work))]
 pub fn replay<R: Threads + Wait + Sync, G: Gate + Sync, F: Files, K: Sink>(
     rt: &R,
@@ -79,7 +79,7 @@ pub fn replay<R: Threads + Wait + Sync, G: Gate + Sync, F: Files, K: Sink>(
     replay_judged(rt, gate, alloc, verdict, plan, trace, workers, files, out)
 }
 
-/// What follows the verdict on the first plan.
+/// Does what follows the verdict on the first plan.
 fn replay_judged<R: Threads + Wait + Sync, G: Gate + Sync, F: Files, K: Sink>(
     rt: &R,
     gate: &G,
@@ -109,7 +109,7 @@ fn replay_judged<R: Threads + Wait + Sync, G: Gate + Sync, F: Files, K: Sink>(
     }
 }
 
-/// The first plan was accepted: its line is written, and the trace is replayed.
+/// Writes the line of the first plan, which was accepted, and replays the trace.
 fn replay_accepted<R: Threads + Wait + Sync, G: Gate + Sync, F: Files, K: Sink>(
     rt: &R,
     gate: &G,

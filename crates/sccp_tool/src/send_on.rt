@@ -35,7 +35,7 @@ use trace_text::{is_file_name, octets_of};
 /// The reference of segments of a message that has none of its own.
 const GIVEN_REFERENCE: u32 = 1;
 
-/// Octets that come to the node of a name, and how many octets of data a segment of a long message may have.
+/// Octets that arrive at the node of a name, and how many octets of data a segment of a long message may have.
 #[derive(Drop)]
 pub struct Incoming {
     pub node: Name,
@@ -44,7 +44,7 @@ pub struct Incoming {
     pub octets: Octets,
 }
 
-/// Its words: `PLAN NODE ORIGIN SIZE HEX`.
+/// The command of the words `PLAN NODE ORIGIN SIZE HEX`, or none if they have another shape.
 #[tactic(auto, unfolding(crate::specs::SendOn::send_on_words))]
 pub fn send_on_words(alloc: Global, words: &[String]) -> Result<Option<Command<'_>>, OutOfMemory>
     ensures { IfOk result (λ command. task_in command ≡ send_on_words (texts words.now)) }
@@ -83,7 +83,7 @@ fn send_on_of<'a>(
     }
 }
 
-/// What four words spell, or none where one of them has not its form.
+/// What four words spell, or none if one of them does not have its form.
 #[tactic(auto, unfolding(crate::specs::SendOn::incoming_of))]
 fn incoming_of(
     alloc: Global,
@@ -124,8 +124,8 @@ fn size_of(word: &[u8]) -> Option<u8>
     }
 }
 
-/// Prints what becomes of octets at a relay of the plan of a file, which is read and not verified. A long message that
-/// leaves the relay leaves it in segments.
+/// Prints what becomes of octets at a relay of the plan of a file, which is read and not verified. A long message that leaves
+/// the relay leaves it in segments.
 pub fn send_on<F: Files, K: Sink>(
     alloc: Global,
     name: &str,
@@ -236,7 +236,7 @@ fn put_segments(text: &mut Text, pc: PointCode, segments: &[Octets]) -> Result<(
     Ok(())
 }
 
-/// Appends the line of octets that aren't cut, or why they can't be. Want of memory says nothing of them, and has no line.
+/// Appends the line of octets that are not cut, or why they cannot be. Want of memory says nothing of them, and has no line.
 #[tactic(auto, unfolding(crate::specs::SendOn::uncut_lines))]
 fn put_uncut(
     text: &mut Text,
@@ -290,7 +290,7 @@ fn put_local(text: &mut Text, ssn: u8) -> Result<(), OutOfMemory>
     text.put(b"\n")
 }
 
-/// Appends the line of a message that can't be delivered. Where nothing is prohibited no mark closes its way.
+/// Appends the line of a message that cannot be delivered. While nothing is prohibited no mark closes its way.
 #[tactic(auto, unfolding(sccp_report::specs::Hops::marks_text))]
 fn put_returned(text: &mut Text, cause: u8) -> Result<(), OutOfMemory>
     ensures { OnOk result (text.new ≡ text.old ++ numbered (codes "returned ") cause ++ codes " marks " ++ marks_text [] ++ codes "\n") }
