@@ -19,7 +19,7 @@ fn prohibit(marking: &mut Marking, mark: Mark) -> Result<(), OutOfMemory>
     Ok(())
 }
 
-// Allows a mark.
+/// Allows a mark.
 pub fn allow(marking: &mut Marking, mark: Mark)
     ensures { marking.new ≡ without_marks (same_mark mark) marking.old }
 {
@@ -28,7 +28,7 @@ pub fn allow(marking: &mut Marking, mark: Mark)
     let _after = marking.marks();
 }
 
-// The marking with these marks prohibited too. It is a copy, so want of memory at any of them leaves the marking as it was.
+/// The marking with these marks prohibited too. It is a copy, so want of memory at any of them leaves the marking as it was.
 pub fn with_marks(alloc: Global, marking: &Marking, marks: &[Mark]) -> Result<Marking, OutOfMemory>
     ensures { IfOk result (λ new. new ≡ with_marks marking.now marks.now) }
 {
@@ -46,7 +46,7 @@ fn first_at(marks: &[Mark], point: PointCode) -> Option<Mark>
     marks.iter().copied().find(|mark| mark.point() == point)
 }
 
-// Allows all marks of a point: the point, its SCCP and its subsystems.
+/// Allows all marks of a point: the point, its SCCP and its subsystems.
 pub fn allow_point(marking: &mut Marking, point: PointCode)
     ensures { marking.new ≡ without_marks (λ mark. point_of mark == point) marking.old }
 {

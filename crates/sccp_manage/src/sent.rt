@@ -16,7 +16,7 @@ pub struct Sent {
     pub octets: Octets,
 }
 
-// Appends a status message to a point to the messages that are to be sent.
+/// Appends a status message to a point to the messages that are to be sent.
 pub fn push(
     alloc: Global,
     sent: &mut List<Sent>,
@@ -30,7 +30,7 @@ pub fn push(
     Ok(())
 }
 
-// The same, if the point is not prohibited.
+/// The same, if the point is not prohibited.
 pub fn push_if_reached(
     alloc: Global,
     sent: &mut List<Sent>,
@@ -47,7 +47,7 @@ pub fn push_if_reached(
     }
 }
 
-// Appends the test of a mark: of an SCCP or a subsystem of another point, if that point is not prohibited.
+/// Appends the test of a mark: of an SCCP or a subsystem of another point, if that point is not prohibited.
 pub fn push_test(
     alloc: Global,
     sent: &mut List<Sent>,
