@@ -1,5 +1,5 @@
-// Laws of the segments of every long message that can be cut: `sent_on`, which they speak of, gives the messages whose
-// octets `send_on` answers.
+// Laws of the segments of every long message that can be cut. They speak of `sent_on`, which gives the messages whose octets
+// `send_on` answers.
 ghost use Rattle.std.specs.Prelude.{◌≡◌, ◌<◌, ◌≤◌, ℕ, List, Some, []};
 ghost use Rattle.sccp_address.specs.declared.address.Address.{Address};
 ghost use Rattle.sccp_layout.specs.Parameter.{Parameter};
