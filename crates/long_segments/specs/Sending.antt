@@ -1,6 +1,5 @@
 -- A long unitdata message sent on in segments, each an extended unitdata message (ITU-T Q.714 section 4.1). Profile: the
--- class and
--- the options of the segments.
+-- class and the options of the segments.
 use Rattle.std.specs.Prelude.{ℕ, ◌+◌, ◌*◌, ◌==◌, nat_lt, Bool, true, false, not, ◌&&◌, if◌then◌else◌, List, [], ◌∷◌, map, filter, Option, Some, None, Result, Ok, Err}
 use Rattle.std.specs.Option.{option_map_or}
 use Rattle.std.specs.List.{All}

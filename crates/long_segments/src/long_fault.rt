@@ -18,8 +18,7 @@ pub enum LongFault {
     /// More than 16 segments.
     TooMany,
     /// The first segment cannot be written, by this fault, which is never want of memory. The others have no more data, so
-    /// if the
-    /// first can be written they can.
+    /// if the first can be written they can.
     NotWritable(EncodeFault),
     /// There was no memory.
     OutOfMemory,

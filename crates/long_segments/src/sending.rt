@@ -205,11 +205,9 @@ fn send_message(
 }
 
 /// Sends a long unitdata message (LUDT) on in segments of `size` octets of data each (Q.714 section 4.1). It answers the
-/// octets of
-/// an XUDT for each, in order, of class 1 and with the message's addresses, hop counter and other parameters. Only the first
-/// has
-/// the message's options. The reference is that of the message's own segmentation parameter; without one it is the given
-/// one.
+/// octets of an XUDT for each, in order, of class 1 and with the message's addresses, hop counter and other parameters. Only
+/// the first has the message's options. The reference is that of the message's own segmentation parameter; without one it is
+/// the given one.
 ///
 /// The fault is the first that holds of `NotLong`, `AlreadySegment`, `ZeroSize`, `TooMany` and `NotWritable`.
 pub fn send_on(

@@ -102,8 +102,7 @@ fn short_written(alloc: Global, params: &[Tagged]) -> Result<Octets, TooLong>
 }
 
 /// The octets of a DATA message: reserved and padding octets are 0, and the length counts all padding. `TooLong::Parameter`
-/// for
-/// the first parameter with more than 65,531 octets. What is written of a sound message is read as that message.
+/// for the first parameter with more than 65,531 octets. What is written of a sound message is read as that message.
 pub fn encode(alloc: Global, value: &Data) -> Result<Octets, TooLong>
     ensures exact { Gives (λ octets. octets) result (writing value.now) }
     ensures again { IfOk result (λ octets. IsSound value.now → DataIs octets value.now) }

@@ -71,8 +71,7 @@ abbrev pub trace_of : Network → List ℕ → Result (List ℕ) LineFault
 trace_of plan text = trace_if_read plan (octets_of_lines 1 (lines_of text))
 
 -- The text is a trace without a faulty line. For each line of the file it has the message that the line carries to a node,
--- or a
--- line that is skipped.
+-- or a line that is skipped.
 pub record IsTraceOf (plan : Network) (file text : List ℕ) : Type 0 where
   pub messages : List (List ℕ)
   pub read : octets_of_lines 1 (lines_of file) ≡ Ok messages

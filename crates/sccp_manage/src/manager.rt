@@ -17,8 +17,7 @@ use std::marker::Model;
 /// The SCCP management of one node (Q.714 section 5).
 ///
 /// It keeps the node's point code, the node's subsystems, the concerned points and what is prohibited. The concerned points
-/// are
-/// informed when one of the subsystems goes down or up.
+/// are informed when one of the subsystems goes down or up.
 #[derive(Drop)]
 pub struct Manager {
     alloc: Global,
@@ -41,8 +40,7 @@ impl Model for Manager {
 #[tactic(auto, using(crate::proofs::Left::left_as_it_was, crate::proofs::Left::left_with, crate::proofs::Left::left_without))]
 impl Manager {
     /// The management of a node at which nothing is prohibited: its point code, its subsystem numbers, and the concerned
-    /// points in
-    /// the order in which they are informed. It keeps the allocator for all that it does later.
+    /// points in the order in which they are informed. It keeps the allocator for all that it does later.
     pub fn new(
         alloc: Global,
         own: PointCode,

@@ -16,8 +16,7 @@ use Rattle.sccp_scrc.specs.Unchanged.{SameData}
 use Rattle.sccp_scrc.specs.Arriving.{point_of, subsystems_of}
 
 -- A relayed message goes to another relay of the plan. It routes on title, without a point code. Its hop counter is one
--- less, and
--- all else is as it arrived.
+-- less, and all else is as it arrived.
 pub record IsRelayed (plan : Network) (node : ℕ) (b : List ℕ) (pc : ℕ) (sent : List ℕ) : Type 0 where
   pub relay : node_of plan.nodes pc < length plan.nodes
   pub other : pc ≢ point_of plan node
@@ -29,8 +28,7 @@ pub record IsRelayed (plan : Network) (node : ℕ) (b : List ℕ) (pc : ℕ) (se
   pub octets : sent ≡ message_octets (redirected called one_less message)
 
 -- A message with a destination goes to another point, of which the node holds no mark. It routes on the destination's
--- subsystem
--- number, without a point code. Its hop counter is one less, and all else is as it arrived.
+-- subsystem number, without a point code. Its hop counter is one less, and all else is as it arrived.
 pub record IsEnded (plan : Network) (node : ℕ) (marking : List Mark) (b : List ℕ) (pc ssn : ℕ) (sent : List ℕ) : Type 0 where
   pub other : pc ≢ point_of plan node
   pub point : holds marking (PointCode pc) ≡ false
@@ -53,8 +51,7 @@ pub record IsLocal (plan : Network) (node : ℕ) (marking : List Mark) (b : List
   pub same : SameData message new
 
 -- With marks, the cause is that of the last. Without marks, it is 0 or 1 for want of a translation, 4 for want of the
--- subsystem,
--- 9 if the message cannot be written, or 12 for its hop counter.
+-- subsystem, 9 if the message cannot be written, or 12 for its hop counter.
 abbrev pub IsCause : List Mark → ℕ → Type 0
 IsCause [] cause = list_any (λ n. n == cause) (0 ∷ 1 ∷ 4 ∷ 9 ∷ 12 ∷ []) ≡ true
 IsCause (mark ∷ marks) cause = IsSomeAnd (slice_get (mark ∷ marks) (length (mark ∷ marks) - 1)) (λ last. cause ≡ cause_of last)

@@ -23,10 +23,8 @@ pub enum Arrival {
         message: Message,
     },
     /// It cannot be delivered. The cause is a return cause: 0 no translation for an address of such nature, 1 no translation
-    /// for this
-    /// address, 3 subsystem failure, 4 unequipped user, 5 MTP failure, 9 error in local processing, 11 SCCP failure, 12 hop
-    /// counter
-    /// violation. There is one mark for each target that is closed.
+    /// for this address, 3 subsystem failure, 4 unequipped user, 5 MTP failure, 9 error in local processing, 11 SCCP
+    /// failure, 12 hop counter violation. There is one mark for each target that is closed.
     Returned {
         cause: u8,
         marks: List<Mark>,

@@ -183,8 +183,7 @@ pub(crate) fn routing(message: &Message) -> Option<(bool, Option<u8>)>
 }
 
 /// What becomes of a message that arrives from the point `origin` at the node at this place of the plan, which holds the
-/// marking
-/// (Q.714 section 2). `arrive` gives the same for its octets. The error is want of memory.
+/// marking (Q.714 section 2). `arrive` gives the same for its octets. The error is want of memory.
 pub fn arrive_message(
     alloc: Global,
     plan: &Plan,

@@ -36,8 +36,7 @@ pub(crate) fn hops(message: &Message) -> Option<u8>
 }
 
 // Gives a message of each type that has a called address another one; its other fields stay. The call has a line for each
-// group
-// of types, each with the name of its first field. The types with a hop counter are in the last one.
+// group of types, each with the name of its first field. The types with a hop counter are in the last one.
 macro_rules! by_type {
     ($message:expr, $called:expr, $hops:expr; $($plain:ident $first:ident)*; $($counted:ident $front:ident)*) => {
         match $message {

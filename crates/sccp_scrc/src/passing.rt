@@ -33,8 +33,7 @@ fn can_be_written(alloc: Global, message: &Message) -> Result<bool, OutOfMemory>
 }
 
 /// Gives the message another called address and a hop counter one less, if it can be written so; otherwise it stays. It is
-/// written
-/// to find out.
+/// written to find out.
 fn pass_written(alloc: Global, message: &mut Message, to: Address) -> Result<bool, OutOfMemory>
     ensures passed { IfOk result (λ passed. passed ≡ true → (message.new ≡ redirected to one_less message.old) × Writable (redirected to one_less message.old)) }
     ensures kept { IfOk result (λ passed. passed ≡ false → (message.new ≡ message.old) × (octets_of (redirected to one_less message.old) ≡ None)) }
@@ -128,8 +127,7 @@ fn is_titled(message: &Message) -> bool
 
 /// Sends a message on from the node at this place of the plan, which holds the marking, and gives the point code of the next
 /// relay. The message is then the one that goes there, and can be written. `None` exactly if the message is not relayed:
-/// then it
-/// stays, and `arrive_message` gives what becomes of it. (After want of memory nothing is promised of the message.)
+/// then it stays, and `arrive_message` gives what becomes of it. (After want of memory nothing is promised of the message.)
 #[tactic(auto, using(crate::proofs::Staying::subsystem_stays))]
 pub fn pass_on(
     alloc: Global,

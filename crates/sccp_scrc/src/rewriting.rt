@@ -69,8 +69,7 @@ fn to_place(address: &Address, spot: &Spot, ssn: u8) -> Address
 }
 
 /// The called address that a message goes on with after a step, made of its present one. `None` if the step neither sends it
-/// on
-/// nor ends at a place. The spot is that of the address.
+/// on nor ends at a place. The spot is that of the address.
 pub fn onward_address(address: &Address, spot: &Spot, step: &Step) -> Option<Address>
     requires { spot_of spot.now.node address.now ≡ Some spot.now }
     ensures { result ≡ onward_address step.now address.now }
@@ -148,8 +147,7 @@ pub(crate) fn restore(message: Message, old: Option<Address>, before: u8) -> Mes
 }
 
 /// The spot of an address at the node at this place of the plan: its title and its subsystem number, 0 if that is absent.
-/// `None` for
-/// an address without a title of digits.
+/// `None` for an address without a title of digits.
 pub fn spot(node: u8, address: &Address) -> Option<Spot>
     ensures value { result ≡ spot_of node address.now }
     ensures node { IfSome result (λ s. s.node ≡ node) }

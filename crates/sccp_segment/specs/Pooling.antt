@@ -1,6 +1,5 @@
 -- How messages are put together from their segments (ITU-T Q.714 section 4.1). Profile: 64 messages at most, and what is
--- given up
--- and answered for segments out of step.
+-- given up and answered for segments out of step.
 use Rattle.std.specs.Prelude.{◌≡◌, ℕ, ◌+◌, ◌≤◌, ◌==◌, nat_le, Bool, true, false, not, if◌then◌else◌, List, [], ◌∷◌, ◌++◌, length, filter, find, Option, Some, None, Result, Ok, Err}
 use Rattle.std.specs.List.{list_any}
 use Rattle.sccp_base.specs.Answers.{Answers}

@@ -11,8 +11,8 @@ use Rattle.sccp_segment.specs.declared.segment.Segment.{Segment}
 use Rattle.sccp_segment.specs.declared.arrival.Arrival.{Arrival}
 
 -- Of the first octet, bit 8 says that it is the first segment, bit 7 that delivery in sequence was asked for (class 1), bits
--- 5 and
--- 6 are spare, and bits 1 to 4 are the number of the segments that follow it. Then follows the segmentation local reference.
+-- 5 and 6 are spare, and bits 1 to 4 are the number of the segments that follow it. Then follows the segmentation local
+-- reference.
 abbrev pub segment_of : List ℕ → List ℕ → Segment
 segment_of contents payload =
     record { first = bit (octet contents 0) 8; in_sequence = bit (octet contents 0) 7; remaining = bits (octet contents 0) 1 4; reference = reference_at contents 1; payload = payload }

@@ -45,10 +45,8 @@ fn segments(
 }
 
 /// Cuts data into segments (Q.714 section 4.1) of `size` octets each, the last one shorter if need be; no data is one
-/// segment
-/// without octets. All have the reference and the wish for delivery in sequence. The first one says that it is the first,
-/// and each
-/// says how many follow it.
+/// segment without octets. All have the reference and the wish for delivery in sequence. The first one says that it is the
+/// first, and each says how many follow it.
 ///
 /// `ZeroSize` if the size is 0, or else `TooMany` if there would be more than 16 segments.
 pub fn split_data(

@@ -6,8 +6,7 @@ use sccp_address::{Address, Title};
 use sccp_base::{PointCode, Reference};
 
 /// What the segments of one message have in common, and share with no other message under way (Q.714 section 4.1): the
-/// calling
-/// address, compared as a value, and the segmentation local reference.
+/// calling address, compared as a value, and the segmentation local reference.
 #[derive(Drop)]
 pub struct Key {
     pub calling: Address,

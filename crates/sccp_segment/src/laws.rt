@@ -29,8 +29,7 @@ pub fn whole_messages()
 {}
 
 /// Take any arrivals at an empty pool, and then the segments that data was cut into, one after the other. They are answered
-/// by
-/// the data at the last one; or the first one is refused, since 64 other messages are under way.
+/// by the data at the last one; or the first one is refused, since 64 other messages are under way.
 pub fn pieces_come_whole()
     ensures { (arrivals : List Arrival) (key : Key) (payload : List ℕ) (size reference : ℕ) (in_sequence : Bool) → 0 < size →
         IsRefusedOrWhole (answers (pooled [] arrivals) (of_key key (segments true in_sequence reference (pieces payload size)))) payload }

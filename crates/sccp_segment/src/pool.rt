@@ -14,8 +14,7 @@ use std::alloc::Global;
 use std::marker::Model;
 
 /// The messages that are being put together from their segments (Q.714 section 4.1), 64 at most. Contracts see the pool as
-/// the
-/// list of what has arrived of each.
+/// the list of what has arrived of each.
 #[derive(Drop)]
 pub struct Pool {
     alloc: Global,
@@ -57,14 +56,10 @@ impl Pool {
     /// Takes a segment (Q.714 section 4.1).
     ///
     /// A first segment that none follows is a whole message, and ends what was under way of its key. A first segment that
-    /// others
-    /// follow starts its key; what was under way of it is given up (`Restarted`). It is refused (`Full`) if its key is not
-    /// under way
-    /// and 64 others are.
-    /// Another segment is dropped if its key is not under way (`NotFirst`). It ends its key if its remaining number is not
-    /// the last
-    /// one less one (`OutOfStep`), and is appended otherwise.
-    /// After a fault the pool is as it was, and the segment is given up.
+    /// others follow starts its key; what was under way of it is given up (`Restarted`). It is refused (`Full`) if its key
+    /// is not under way and 64 others are. Another segment is dropped if its key is not under way (`NotFirst`). It ends its
+    /// key if its remaining number is not the last one less one (`OutOfStep`), and is appended otherwise. After a fault the
+    /// pool is as it was, and the segment is given up.
     pub fn take(&mut self, key: Key, segment: Segment) -> Result<Taken, PoolFault>
         ensures answer { Gives (λ taken. taken) result (took self.old key segment).answer }
         ensures ok { OnOk result (self.new ≡ (took self.old key segment).runs) }

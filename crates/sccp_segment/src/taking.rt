@@ -40,8 +40,7 @@ fn end(runs: &mut Vec<Run>, key: &Key)
 }
 
 // Puts a run after all others, in place of the older run of its key. It is put in before the older one is taken out, so want
-// of
-// memory leaves the runs as they were.
+// of memory leaves the runs as they were.
 fn put(runs: &mut Vec<Run>, run: Run) -> Result<(), PoolFault>
     requires { KeysDiffer runs.old.items }
     ensures ok { OnOk result (runs.new.items ≡ others runs.old.items run.key ++ run ∷ []) }

@@ -46,8 +46,8 @@ impl Reader {
     }
 
     /// Takes the next piece of the text, of any length. It gives the lines that the piece completes, and the fault if there
-    /// is one.
-    /// Lines before a fault are given with it. After a fault, and after the end, each call gives no line and the same fault.
+    /// is one. Lines before a fault are given with it. After a fault, and after the end, each call gives no line and the
+    /// same fault.
     ///
     /// An error is want of memory. It leaves the reader as it was, so the same piece can be fed again.
     pub fn feed(&mut self, piece: &[u8]) -> Result<Fed, OutOfMemory>

@@ -23,8 +23,8 @@ pub struct Taken<'a> {
     pub fault: Option<LineFault>,
 }
 
-/// The lines that a piece completes, after that number of lines and an unfinished one.
-/// Only a line that goes on from the unfinished one is copied.
+/// The lines that a piece completes, after that number of lines and an unfinished one. Only a line that goes on from the
+/// unfinished one is copied.
 pub fn take_lines<'a>(
     alloc: Global,
     before: u32,
