@@ -1,5 +1,5 @@
-//! Long messages over links that carry only short ones: a long unitdata message (LUDT) is sent on in segments, each of them
-//! an extended unitdata message (XUDT) (Q.714 section 4.1).
+//! Long messages over links that carry only short ones (Q.714 section 4.1). A long unitdata message (LUDT) is sent on in
+//! segments, each of them an extended unitdata message (XUDT).
 //!
 //! The layer above may rely on this. `send_on` answers the octets of each segment, in order, or the first cause why it
 //! cannot. The segments together have the data of the long message, so a pool that takes them answers that data.

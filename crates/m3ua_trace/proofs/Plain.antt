@@ -1,4 +1,4 @@
--- Texts that lie on one line.
+-- Texts of one line.
 use Rattle.std.proofs.Common.{◌≡◌, ℕ, zero, suc, ◌-◌, ◌^◌, ◌<◌, ◌≤◌, Bool, true, false, cond, eqb, not, ◌&&◌, ◌||◌, List, [], ◌∷◌, ◌++◌, length, take, get_or, refl, sym, ◌∙◌, ap, arith}
 use Rattle.std.specs.Prelude.{slice_index, decimal, ◌==◌}
 use Rattle.std.specs.Char.{is_ascii_digit}

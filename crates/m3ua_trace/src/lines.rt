@@ -58,10 +58,10 @@ fn put_line(
     Ok(())
 }
 
-/// The trace of a file, with one line for each of its lines: the message of SCCP that a DATA message carries to a node of
-/// the plan, or a line that is skipped. That is an empty line for an empty line, and otherwise the first that holds of
-/// these: `# refused F` with the number of the fault, `# service N`, `# point`, `# unknown node` and `# empty`. If a line of
-/// the file is not a word of hexadecimal digits or breaks a limit of lines, there is no trace, but its fault.
+/// The trace of a file, with one line for each of its lines. This is the message of SCCP that a DATA message carries to a
+/// node of the plan, or a line that is skipped. An empty line gives an empty line. Otherwise a skipped line is the first
+/// that holds of `# refused F` with the number of the fault, `# service N`, `# point`, `# unknown node` and `# empty`. The
+/// error is the first line that is not a word of hexadecimal digits or breaks a limit of lines, or want of memory.
 pub fn import(alloc: Global, plan: &Plan, file: &[u8]) -> Result<Vec<u8>, ImportError>
     ensures exact { Gives result (trace_of plan.now file.now) }
     ensures trace { IfOk result (λ text. IsTraceOf plan.now file.now text.items) }

@@ -19,8 +19,8 @@ pub(crate) fn origin() -> PointCode
     }
 }
 
-/// The octets of the message at a place, whose digits are drawn (Q.713 section 4.10): a class that asks for return, three
-/// pointers, the called address with its title, the calling address, and the place as data.
+/// The octets of the message at a place, whose digits are drawn (Q.713 section 4.10). It has a class that asks for return,
+/// three pointers, the called address with its title, the calling address, and the place as data.
 #[tactic(auto, unfolding(crate::specs::Messages::made_octets))]
 pub(crate) fn made_octets(place: u32, draws: &mut Draws) -> [u8; LENGTH]
     ensures value { result ≡ made_octets place draws.old }

@@ -1,4 +1,4 @@
--- a message that is passed from relay to relay, beside its octets
+-- a message that is passed from relay to relay, compared with its octets
 use Rattle.std.specs.Prelude.{◌≡◌, ℕ, ◌-◌, ◌<◌, List, [], ◌∷◌, ◌++◌, Option, Some, None, Result, Ok, Err, IfOk, IfSome, length, refl}
 use Rattle.std.proofs.Common.{zero, suc, sym, ◌∙◌, ap, subst, append_assoc}
 use Rattle.sccp_base.specs.declared.mark.Mark.{Mark}

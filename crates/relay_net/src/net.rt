@@ -62,7 +62,7 @@ impl Net {
     }
 
     /// Carries out what happens at the node at a place of the plan, and answers its outcomes, in order. All other nodes, and
-    /// the other parts of this one's state, stay as they are. If memory is wanting nothing changes, and there are no
+    /// the other parts of this one's state, stay as they are. If memory runs out, nothing changes, and there are no
     /// outcomes.
     pub fn apply(
         &mut self,
@@ -81,12 +81,12 @@ impl Net {
         self.states[usize::from(node)].happen(alloc, plan, what)
     }
 
-    /// Does what the end of a journey leaves to be done, for a message that arrived from the point `origin` at the node at
-    /// the place `entry`.
+    /// Does what the end of a journey leaves to be done. The message arrived from the point `origin` at the node at the
+    /// place `entry`.
     ///
     /// A message for a subsystem of the last node is delivered there. One that routes on SSN and was returned with cause 3,
     /// subsystem failure, was for a prohibited subsystem of the entry node. That node's management informs the origin.
-    /// Nothing else is done, and nothing for the end of a service message. If memory is wanting nothing changes.
+    /// Nothing else is done, and nothing for the end of a service message. If memory runs out, nothing changes.
     pub fn apply_after(
         &mut self,
         plan: &Plan,

@@ -70,7 +70,7 @@ impl NodeState {
         self.manager.marking()
     }
 
-    /// Carries out what happens at the node, by the part of its state that is concerned. If memory is wanting nothing
+    /// Carries out what happens at the node, by the part of its state that is concerned. If memory runs out, nothing
     /// changes.
     pub(crate) fn happen(
         &mut self,

@@ -5,7 +5,7 @@ use sccp_base::{Octets, PointCode};
 /// clock report it.
 #[derive(Drop)]
 pub enum Event {
-    /// The data of a connectionless message for SCCP management, and the point that it came from.
+    /// The data of a connectionless message for SCCP management, and the point from which it arrived.
     Status { from: PointCode, payload: Octets },
     /// A message from a point for a subsystem of the node that is prohibited.
     Knock { from: PointCode, ssn: u8 },

@@ -1,5 +1,5 @@
-//! SCCP management at one node (Q.714 section 5): which points, SCCPs and subsystems are prohibited, and the status
-//! messages that are sent about them (Q.713 section 5).
+//! SCCP management at one node (Q.714 section 5): which points, SCCPs and subsystems are prohibited. Status messages are
+//! sent about them (Q.713 section 5).
 //!
 //! A `Manager` keeps the marking of its node, and `on` carries out one event by a table with a row for each. The layer above
 //! may rely on this. A mark is held afterwards exactly if the event's row prohibits it, or it was held and the row does not

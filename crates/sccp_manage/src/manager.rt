@@ -39,8 +39,8 @@ impl Model for Manager {
 
 #[tactic(auto, using(crate::proofs::Left::left_as_it_was, crate::proofs::Left::left_with, crate::proofs::Left::left_without))]
 impl Manager {
-    /// The management of a node at which nothing is prohibited: its point code, its subsystem numbers, and the concerned
-    /// points in the order in which they are informed. It keeps the allocator for all that it does later.
+    /// The management of a node at which nothing is prohibited. It is given the node's point code, its subsystem numbers,
+    /// and the concerned points in the order in which they are informed. It keeps the allocator for all that it does later.
     pub fn new(
         alloc: Global,
         own: PointCode,
@@ -67,7 +67,7 @@ impl Manager {
     }
 
     /// Carries out an event by its row of the table (Q.714 section 5), and answers the messages that are to be sent, in
-    /// their order. If memory is wanting the manager is as it was, and nothing is to be sent.
+    /// their order. If memory runs out, the manager is as it was, and nothing is to be sent.
     pub fn on(&mut self, event: Event) -> Result<List<Sent>, OutOfMemory>
         ensures state { OnOk result (self.new ≡ managed self.old event) }
         ensures held { OnOk result (IsMarked self.old.marking (row self.old event) self.new.marking) }
@@ -233,7 +233,7 @@ impl Manager {
         }
     }
 
-    // Prohibits marks, of which none is the node's own point or its SCCP. If memory is wanting, none is prohibited.
+    // Prohibits marks, of which none is the node's own point or its SCCP. If memory runs out, none is prohibited.
     fn prohibit(&mut self, marks: &[Mark]) -> Result<(), OutOfMemory>
         requires { IsOpenAt self.old.own marks.now }
         ensures ok { OnOk result (self.new ≡ record self.old { marking = with_marks self.old.marking marks.now }) }

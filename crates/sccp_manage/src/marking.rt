@@ -8,7 +8,7 @@ ghost use Rattle.sccp_manage.specs.Markings.{with_mark, with_marks, without_mark
 use sccp_base::{Mark, Marking, OutOfMemory, PointCode};
 use std::alloc::Global;
 
-// Prohibits a mark. If memory is wanting the marking is as it was.
+// Prohibits a mark. If memory runs out, the marking is as it was.
 fn prohibit(marking: &mut Marking, mark: Mark) -> Result<(), OutOfMemory>
     ensures ok { OnOk result (marking.new ≡ with_mark marking.old mark) }
     ensures err { OnErr result (marking.new ≡ marking.old) }

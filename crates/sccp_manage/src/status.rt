@@ -37,8 +37,9 @@ pub struct StatusMessage {
 
 impl StatusMessage {
     /// Reads the data of a message for management (Q.713 section 5): kind (1 octet), affected subsystem number (1), affected
-    /// point code (2, the least significant first, with two spare bits on top) and multiplicity (1). The multiplicity and
-    /// what follows it are ignored. `None` for fewer than five octets, and for a kind that is not 1 to 6.
+    /// point code (2) and multiplicity (1). The point code has its least significant octet first, and two spare bits on top.
+    /// The multiplicity and what follows it are ignored. `None` for fewer than five octets, and for a kind that is not 1 to
+    /// 6.
     pub fn read(payload: &[u8]) -> Option<StatusMessage>
         ensures { result ≡ status_of payload.now }
     {

@@ -50,8 +50,8 @@ pub record IsLocal (plan : Network) (node : ℕ) (marking : List Mark) (b : List
   pub reads : reading b ≡ Ok message
   pub same : SameData message new
 
--- With marks, the cause is that of the last. Without marks, it is 0 or 1 for want of a translation, 4 for want of the
--- subsystem, 9 if the message cannot be written, or 12 for its hop counter.
+-- With marks, the cause is that of the last. Without marks, it is 0 or 1 (no translation), 4 (no such subsystem), 9 (the
+-- message cannot be written) or 12 (the hop counter is used up).
 abbrev pub IsCause : List Mark → ℕ → Type 0
 IsCause [] cause = list_any (λ n. n == cause) (0 ∷ 1 ∷ 4 ∷ 9 ∷ 12 ∷ []) ≡ true
 IsCause (mark ∷ marks) cause = IsSomeAnd (slice_get (mark ∷ marks) (length (mark ∷ marks) - 1)) (λ last. cause ≡ cause_of last)

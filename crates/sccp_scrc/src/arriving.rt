@@ -182,8 +182,8 @@ pub(crate) fn routing(message: &Message) -> Option<(bool, Option<u8>)>
     }
 }
 
-/// What becomes of a message that arrives from the point `origin` at the node at this place of the plan, which holds the
-/// marking (Q.714 section 2). `arrive` gives the same for its octets. The error is want of memory.
+/// What becomes of a message that arrives from the point `origin` (Q.714 section 2). It arrives at the node at this place of
+/// the plan, which holds the marking. `arrive` gives the same for its octets. The error is want of memory.
 pub fn arrive_message(
     alloc: Global,
     plan: &Plan,
@@ -226,8 +226,8 @@ fn of_octets(
     }
 }
 
-/// What becomes of octets that arrive from the point `origin` at the node at this place of the plan, which holds the marking
-/// (Q.714 section 2). The error is want of memory.
+/// What becomes of octets that arrive from the point `origin` (Q.714 section 2). They arrive at the node at this place of
+/// the plan, which holds the marking. The error is want of memory.
 pub fn arrive(
     alloc: Global,
     plan: &Plan,

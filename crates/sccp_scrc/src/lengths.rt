@@ -22,8 +22,8 @@ fn title_length(title: &Title) -> usize
     }
 }
 
-/// At least as many octets as the address takes, unless the result is above 255: an indicator, a point code, a subsystem
-/// number and a title.
+/// At least as many octets as the address takes, unless the result is above 255. These are an indicator, a point code, a
+/// subsystem number and a title.
 fn address_length(address: &Address) -> usize
     ensures most { result ≤ 260 }
     ensures enough { result ≤ 255 → length (written address.now) ≤ result }

@@ -3,8 +3,8 @@
 //!
 //! `arrive` takes the octets that arrive from a signalling point at a node, and gives what becomes of them. They go on to
 //! another relay, to a destination or to a subsystem of the node. Or they are returned with a return cause and, if the
-//! sender asked for it, a service message. The crates above may rely on this being the definition of an arrival, on a
-//! relayed message going to another relay of the plan, and on every mark that a return names being held.
+//! sender asked for it, a service message. The crates above may rely on this. The answer is the definition of an arrival, a
+//! relayed message goes to another relay of the plan, and the node holds every mark that a return names.
 #![tactic(auto)]
 
 mod arrival;

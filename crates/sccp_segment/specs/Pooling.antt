@@ -47,8 +47,8 @@ pub record Outcome : Type 0 where
 abbrev pub answering : List Run → Result Taken PoolFault → Outcome
 answering runs answer = record { runs = runs; answer = answer }
 
--- a first segment that others follow: an older run of its key is given up; without one, it is refused if 64 others are under
--- way
+-- A first segment that others follow. An older run of its key is given up; without one, the segment is refused if 64 others
+-- are under way.
 abbrev pub started : List Run → Key → Segment → Option Run → Outcome
 started runs key s None =
     if nat_le 64 (length runs)

@@ -10,8 +10,8 @@ use Rattle.sccp_message.specs.Fields.{octet, param, reference_at, reference_octe
 use Rattle.sccp_segment.specs.declared.segment.Segment.{Segment}
 use Rattle.sccp_segment.specs.declared.arrival.Arrival.{Arrival}
 
--- Of the first octet, bit 8 says that it is the first segment, bit 7 that delivery in sequence was asked for (class 1), bits
--- 5 and 6 are spare, and bits 1 to 4 are the number of the segments that follow it. Then follows the segmentation local
+-- Of the first octet, bit 8 says that it is the first segment, and bit 7 that delivery in sequence was asked for (class 1).
+-- Bits 5 and 6 are spare, and bits 1 to 4 are the number of the segments that follow it. Then follows the segmentation local
 -- reference.
 abbrev pub segment_of : List ℕ → List ℕ → Segment
 segment_of contents payload =

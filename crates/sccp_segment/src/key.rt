@@ -5,7 +5,7 @@ ghost use Rattle.sccp_segment.specs.Keys.{same_address, same_flag, same_key, sam
 use sccp_address::{Address, Title};
 use sccp_base::{PointCode, Reference};
 
-/// What the segments of one message have in common, and share with no other message under way (Q.714 section 4.1): the
+/// What the segments of one message have in common, and share with no other message under way (Q.714 section 4.1). It is the
 /// calling address, compared as a value, and the segmentation local reference.
 #[derive(Drop)]
 pub struct Key {

@@ -20,9 +20,9 @@ pub fn keys_are_values()
     ensures { (a b : Key) → (same_key a b ≡ true) ↔ (a ≡ b) }
 {}
 
-/// Take any arrivals at an empty pool, and then a segment that is not refused. It is answered by whole data exactly if the
-/// segments of its key that were not refused, itself included, end in a whole message, and then by the data of that message.
-/// Segments of other keys may lie between. (A segment that is refused by a full pool ends nothing.)
+/// Take any arrivals at an empty pool, and then a segment that is not refused. Consider the segments of its key that were
+/// not refused, itself included. It is answered by whole data exactly if they end in a whole message, and then by the data
+/// of that message. Segments of other keys may lie between. (A segment that is refused by a full pool ends nothing.)
 pub fn whole_messages()
     ensures { (arrivals : List Arrival) (a : Arrival) (x : List ℕ) → is_refused (pooled [] arrivals) a ≡ false →
         (answer_to (pooled [] arrivals) a ≡ Ok (Whole x)) ↔ (whole (heard a.key (arrivals ++ a ∷ [])) ≡ Some x) }

@@ -2,8 +2,8 @@
 //!
 //! `split_data` cuts data into segments, and a `Pool` puts the segments of up to 64 messages together, whatever other
 //! segments arrive between them. The layer above may rely on this. The data of the segments is the data that was cut. A pool
-//! answers a whole message exactly if the segments of its key, from the last first one on, arrived in step, and by their
-//! data. A segment changes nothing for the messages of other keys.
+//! answers a whole message exactly if the segments of its key, from the last first one on, arrived in step. The answer has
+//! their data. A segment changes nothing for the messages of other keys.
 #![tactic(auto)]
 
 mod arrival;

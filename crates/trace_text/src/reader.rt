@@ -119,7 +119,7 @@ impl Reader {
 }
 
 /// Keeps what follows the last line feed of a piece; it goes on from what was unfinished if the piece has no line feed.
-/// If memory is wanting nothing changes.
+/// If memory runs out, nothing changes.
 fn go_on(
     alloc: Global,
     unfinished: &mut Vec<u8>,

@@ -12,8 +12,8 @@ use crate::lines::{content, limit, line_end};
 use sccp_base::{List, OutOfMemory};
 use std::alloc::Global;
 
-/// What was taken of a piece: the lines that it completes, the number of lines with them, what follows its last line feed,
-/// whether that goes on from what was unfinished before, and the fault that ends the lines.
+/// What was taken of a piece: the lines that it completes, the number of lines so far, and what follows its last line feed.
+/// `goes_on` says whether that goes on from what was unfinished before. The fault, if there is one, ends the lines.
 #[derive(Drop)]
 pub struct Taken<'a> {
     pub lines: Vec<Numbered>,
