@@ -23,7 +23,7 @@ row_if hands number i d = rule selector None (d ∷ []) (targets_if hands number
 
 -- ---- the plan
 
--- Only the number's remainder counts.
+-- only the remainder of the number by three matters
 next_by_remainder : (number i d : ℕ) → next_relay number i d ≡ next_relay (number % 3) i d
 next_by_remainder number i d = ap (λ n. min 7 (i + 1 + n)) (omega arith)
 

@@ -16,7 +16,7 @@ drawn_out : (place x : ℕ) → laid place (pair x) (pair (two_on x)) (pair (two
 unfolding made_octets
 drawn_out place x = refl
 
--- if each two digits are drawn after the last ones
+-- these are the octets of the message at the place, if each two digits are drawn after the last ones
 pub laid_out : (place x x1 x2 x3 x4 a b c d e : ℕ) → x1 ≡ two_on x → x2 ≡ two_on x1 → x3 ≡ two_on x2 → x4 ≡ two_on x3
     → a ≡ pair x → b ≡ pair x1 → c ≡ pair x2 → d ≡ pair x3 → e ≡ pair x4 → laid place a b c d e ≡ made_octets place x
 laid_out place x x1 x2 x3 x4 a b c d e h1 h2 h3 h4 ha hb hc hd he =

@@ -123,7 +123,8 @@ fn data(alloc: Global, status: &StatusMessage) -> Result<Octets, OutOfMemory>
     )?))
 }
 
-/// The octets of the message that carries it: unitdata of class 0 from management to management, whose parts always fit.
+/// The octets of the message that carries a status message: unitdata of class 0 from management to management. Its parts
+/// always fit.
 #[tactic(auto, unfolding(crate::specs::Statuses::status_octets))]
 pub fn octets_of(alloc: Global, status: &StatusMessage) -> Result<Octets, OutOfMemory>
     ensures { IfOk result (λ octets. octets ≡ status_octets status.now) }

@@ -53,7 +53,7 @@ after_step plan node marking origin m a (steps.Blocked cause marks) = returned m
 after_step plan node marking origin m a (steps.NoRow cause) = returned marking origin m cause []
 after_step plan node marking origin m a steps.Overgrown = returned marking origin m 9 []
 
--- global title translation; cause 0 for an address without a global title
+-- global title translation; without a title of digits the message is returned for cause 0
 abbrev pub translated : Network → ℕ → List Mark → ℕ → Message → Address → Option Spot → Arrival
 translated plan node marking origin m a (Some spot) = after_step plan node marking origin m a (step plan spot marking)
 translated plan node marking origin m a None = returned marking origin m 0 []
