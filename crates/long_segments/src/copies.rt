@@ -5,7 +5,7 @@ use sccp_base::{Octets, OutOfMemory};
 use sccp_layout::Param;
 use std::alloc::Global;
 
-// The same parameter.
+/// The same parameter, in memory of its own.
 pub fn copied_param(alloc: Global, param: &Param) -> Result<Param, OutOfMemory>
     ensures { IfOk result (λ copy. copy ≡ param.now) }
 {

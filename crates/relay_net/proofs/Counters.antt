@@ -1,4 +1,4 @@
--- where a message is cut off
+-- when a message is cut off
 use Rattle.std.specs.Prelude.{◌≡◌, ℕ, ◌-◌, ◌<◌, ◌≤◌, ◌==◌, ◌⊎◌, Bool, true, false, not, nat_le, List, [], ◌∷◌, length, Option, Some, None, is_some, option_map, refl, if◌then◌else◌, Result, Ok, Err}
 use Rattle.std.specs.List.{list_any}
 use Rattle.std.proofs.Common.{zero, suc, sym, ◌∙◌, ap, subst, inl, inr, ⊎_elim, arith}
@@ -33,7 +33,7 @@ use Rattle.relay_net.specs.declared.end.End.TheVariants.{Cut}
 use Rattle.relay_net.specs.Journeys.{Trip, held_at, onward, travel, most_arrivals, trip_of, end_of, journey}
 use Rattle.relay_net.specs.Headline.{IsCutOff}
 
--- there is a last arrival, and it isn't relayed
+-- there is a last arrival, and it is not relayed
 abbrev Stops : Option Arrival → Type 0
 Stops None = ⊥
 Stops (Some (arrivals.Relayed pc octets)) = ⊥

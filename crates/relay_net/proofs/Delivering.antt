@@ -1,4 +1,5 @@
--- What the end of a journey leaves to be done can be done: a message for a subsystem of the last node was read, so it is sound.
+-- What the end of a journey leaves to be done can be done. A message for a subsystem of the last node was read, so it is
+-- sound.
 use Rattle.std.specs.Prelude.{◌≡◌, ℕ, zero, suc, ◌<◌, ◌==◌, Bool, true, false, not, List, [], ◌∷◌, length, Option, Some, None, Result, Ok, Err, if◌then◌else◌}
 use Rattle.std.specs.List.{list_any}
 use Rattle.std.specs.Option.{option_map}

@@ -45,7 +45,7 @@ Claim plan states allowed first n left =
     (m : Message) (a : Address) (s : Spot) (origin : ℕ) (b : List ℕ) → reading b ≡ Ok m → Carries m a s → Within plan allowed n s → IfSome (hops_of m) (λ h. n < h) → SameData first m →
     Went plan states allowed n first s (travel plan states left s.node origin b)
 
--- the same data behind a change of the called address
+-- the same data after a change of the called address
 redirected_data : (first m : Message) (x : Address) → SameData first m → SameData first (redirected x one_less m)
 redirected_data first m x d = record {
   called = x;

@@ -1,4 +1,4 @@
--- a message that is passed from relay to relay, beside its octets
+-- a message that is passed from relay to relay, compared with its octets
 use Rattle.std.specs.Prelude.{◌≡◌, ℕ, ◌-◌, ◌<◌, List, [], ◌∷◌, ◌++◌, Option, Some, None, Result, Ok, Err, IfOk, IfSome, length, refl}
 use Rattle.std.proofs.Common.{zero, suc, sym, ◌∙◌, ap, subst, append_assoc}
 use Rattle.sccp_base.specs.declared.mark.Mark.{Mark}
@@ -36,7 +36,7 @@ pub passed_at : {E : Type 0} (r : Result (Option ℕ) E) (plan : Network) (node 
     IfOk r (λ pc. IsPassed (λ origin. by_called plan node held origin m (called_of m)) (sent_on plan node held m) m new pc)
 passed_at r plan node marking held m new e h = subst (λ (x : List Mark). IfOk r (λ pc. IsPassed (λ origin. by_called plan node x origin m (called_of m)) (sent_on plan node x m) m new pc)) e h
 
--- ---- where it goes
+-- ---- the next node
 
 within_means : (plan : Network) (node : ℕ) (marking : List Mark) (b : List ℕ) (x : Arrival) → Means plan node marking b x → RelaysWithin plan x
 within_means plan node marking b (Relayed pc sent) h = h.relay
@@ -86,7 +86,7 @@ longer old pushed new before t rest node a e h = record {
   nodes = ap (λ (x : Trip). old ++ x.path) e ∙ (sym (append_assoc old (node ∷ []) t.path) ∙ (ap (λ (xs : List ℕ). xs ++ t.path) (sym a) ∙ h.nodes));
 }
 
--- where it is passed on
+-- if it is passed on
 pub rides : {E : Type 0} (r : Result Rest E) (plan : Network) (states : List (List Mark)) (left node origin : ℕ) (m new final : Message) (o : Option ℕ) (pc next from : ℕ) (old pushed path : List ℕ) → 0 < left → ReadsAgain m →
     IsPassed (λ origin. by_called plan node (held_at states node) origin m (called_of m)) (sent_on plan node (held_at states node) m) m new o → o ≡ Some pc → next ≡ node_of plan.nodes pc → from ≡ point_of plan node → pushed ≡ old ++ node ∷ [] →
     IfOk r (λ rest. GoesOn pushed (travel plan states (left - 1) next from (message_octets new)) path (travel plan states rest.left rest.node rest.origin (message_octets final))) →
@@ -96,7 +96,7 @@ rides (Ok rest) plan states left node origin m new final o pc next from old push
     let k = subst (IsPassed (λ origin. by_called plan node (held_at states node) origin m (called_of m)) (sent_on plan node (held_at states node) m) m new) is h in
     longer old pushed path _ _ _ node a (on_turn plan states left node origin m new pc next from lt again k n f) goes
 
--- where it stays
+-- if it stays
 pub halts : (plan : Network) (states : List (List Mark)) (left node origin : ℕ) (m new : Message) (o : Option ℕ) (path : List ℕ) →
     IsPassed (λ origin. by_called plan node (held_at states node) origin m (called_of m)) (sent_on plan node (held_at states node) m) m new o → o ≡ None →
     GoesOn path (travel plan states left node origin (message_octets m)) path (travel plan states left node origin (message_octets new))

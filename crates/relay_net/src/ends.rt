@@ -11,7 +11,7 @@ use sccp_base::OutOfMemory;
 use sccp_message::{DecodeFault, Message, decode};
 use std::alloc::Global;
 
-/// The last of some nodes, or the first one where there is none.
+/// The last of some nodes, or the first node given if there are none.
 pub(crate) fn last_node(first: u8, path: &[u8]) -> u8
     ensures { result ≡ last_node first path.now }
 {
@@ -44,7 +44,7 @@ fn ssn_of(message: &Message) -> Option<u8>
     }
 }
 
-/// The subsystem number by which octets are routed, where they are such a message.
+/// The subsystem number on which octets are routed, if they are a connectionless message that routes on it.
 pub(crate) fn ssn_in(alloc: Global, octets: &[u8]) -> Result<Option<u8>, OutOfMemory>
     ensures { IfOk result (λ ssn. ssn ≡ ssn_in (reading octets.now)) }
 {

@@ -1,4 +1,4 @@
-//! The way of a message from relay to relay, which is changed in place and written only where it leaves them.
+//! The way of a message from relay to relay. It is changed in place and written only when it leaves them.
 ghost use Rattle.std.specs.Prelude.{◌≡◌, ◌<◌, ◌++◌, length, map, IfOk, IfSome};
 ghost use Rattle.sccp_message.specs.Written.{message_octets};
 ghost use Rattle.plan_model.specs.Network.{node_of};
@@ -17,7 +17,8 @@ use sccp_message::Message;
 use sccp_scrc::{Arrival, arrive_message, pass_on};
 use std::alloc::Global;
 
-/// Where a message stands on its way: so many arrivals at most, the first at this node, from this origin.
+/// The state of a message on its way: the number of arrivals that are left, the first of them at this node, from this
+/// origin.
 #[derive(Drop)]
 pub(crate) struct Rest {
     pub(crate) left: u8,
@@ -33,8 +34,8 @@ fn marking_at<S: HoldsMarking>(states: &[S], node: u8) -> &Marking
     states[usize::from(node)].marking()
 }
 
-/// The next point of a message that reads again where it is written, under the marking that the node holds: a node's. The
-/// message stays one that reads again.
+/// The next point of a message that reads again once it is written, under the marking that the node holds. It is that of a
+/// node. The message stays one that reads again.
 fn pass<S: HoldsMarking>(
     alloc: Global,
     plan: &Plan,
@@ -55,7 +56,7 @@ fn pass<S: HoldsMarking>(
     pass_on(alloc, plan, node, marking, message)
 }
 
-/// As far as the message is passed on, its nodes behind the path.
+/// Passes the message on as far as it goes in place, and appends its nodes to the path.
 fn ride<S: HoldsMarking>(
     alloc: Global,
     plan: &Plan,
@@ -88,7 +89,7 @@ fn ride<S: HoldsMarking>(
     }
 }
 
-/// What becomes of the message at a node, under the marking that it holds: what becomes of its octets.
+/// What becomes of the message at a node, under the marking that the node holds: the same as of its octets.
 fn stop_message<S: HoldsMarking>(
     alloc: Global,
     plan: &Plan,
@@ -108,7 +109,7 @@ fn stop_message<S: HoldsMarking>(
     arrive_message(alloc, plan, node, marking, origin, message)
 }
 
-/// From here on what is relayed goes on by its octets.
+/// The rest of a trip. From here on what is relayed goes on by its octets.
 fn end_ride<S: HoldsMarking>(
     alloc: Global,
     plan: &Plan,
@@ -154,7 +155,7 @@ fn end_ride<S: HoldsMarking>(
     }
 }
 
-/// So many arrivals of the message at most, after the nodes of the path; the last arrival, or none where it is cut off.
+/// The last arrival of the message, none if it is cut off; `left` arrivals at most. Its nodes are appended to the path.
 pub(crate) fn travel_unwritten<S: HoldsMarking>(
     alloc: Global,
     plan: &Plan,

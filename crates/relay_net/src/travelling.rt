@@ -1,3 +1,4 @@
+//! The journey of a message, by its octets.
 ghost use Rattle.std.specs.Prelude.{◌≡◌, ◌<◌, ◌++◌, length, map, Some, Ok, IfOk};
 ghost use Rattle.plan_model.specs.declared.spot.Spot.{Spot};
 ghost use Rattle.plan_model.specs.Network.{node_of};
@@ -19,7 +20,7 @@ use sccp_message::{DecodeFault, Message, decode};
 use sccp_scrc::{Arrival, Service, Way, arrive};
 use std::alloc::Global;
 
-/// What becomes of the octets at a node, under the marking that it holds.
+/// What becomes of the octets at a node, under the marking that the node holds.
 fn stop<S: HoldsMarking>(
     alloc: Global,
     plan: &Plan,
@@ -43,6 +44,7 @@ fn stop<S: HoldsMarking>(
     )
 }
 
+/// The point code of the node at this place of the plan.
 pub(crate) fn point_of(plan: &Plan, node: u8) -> PointCode
     requires { node < length plan.now.nodes }
     ensures { result ≡ point_of plan.now node }
@@ -50,7 +52,7 @@ pub(crate) fn point_of(plan: &Plan, node: u8) -> PointCode
     plan.nodes().as_slice()[usize::from(node)].pc
 }
 
-/// So many arrivals at most, after the nodes of the path; the last arrival, or none where the message is cut off.
+/// The last arrival of octets, none if they are cut off; `left` arrivals at most. Their nodes are appended to the path.
 pub(crate) fn travel<S: HoldsMarking>(
     alloc: Global,
     plan: &Plan,
@@ -89,7 +91,7 @@ pub(crate) fn travel<S: HoldsMarking>(
     }
 }
 
-/// How many arrivals the message has at most: one with a hop counter isn't relayed at its fifteenth (Q.713 section 3.18).
+/// The most arrivals of a message. One with a hop counter is not relayed at its fifteenth (Q.713 section 3.18).
 fn most_arrivals_of(message: &Message) -> u8
     ensures { result ≡ most_arrivals (Ok message.now) }
 {
@@ -102,8 +104,8 @@ fn most_arrivals_of(message: &Message) -> u8
     }
 }
 
-/// The nodes that octets come to, behind the path, and the last arrival, or none where the message is cut off. The message is
-/// read here alone.
+/// The last arrival of octets, none if the message is cut off. Its nodes are appended to the path. Only here is the message
+/// read.
 fn follow<S: HoldsMarking>(
     alloc: Global,
     plan: &Plan,
@@ -128,7 +130,7 @@ fn follow<S: HoldsMarking>(
     }
 }
 
-/// The nodes that octets come to, in order, and the last arrival, or none where the message is cut off.
+/// The nodes at which octets arrive, in order, and the last arrival, none if the message is cut off.
 fn trip<S: HoldsMarking>(
     alloc: Global,
     plan: &Plan,
@@ -248,6 +250,7 @@ fn back_by<S: HoldsMarking>(
     })
 }
 
+/// The way back of the service message, if there is one.
 fn back<S: HoldsMarking>(
     alloc: Global,
     plan: &Plan,
@@ -299,11 +302,11 @@ fn whole<S: HoldsMarking>(
     Ok(Journey { path, end, back })
 }
 
-/// The journey of octets that come from the point `origin` to the node at the place `entry` of an accepted plan, where each
-/// node holds the marking of its state (Q.714 section 2).
+/// The journey of octets that arrive from the point `origin` at the node at the place `entry` of an accepted plan. Each node
+/// holds the marking of its state (Q.714 section 2).
 ///
 /// What is relayed arrives at the relay with its point code; any other arrival is the end. A message without a hop counter
-/// is cut off where its fourteenth arrival is relayed.
+/// is cut off if its fourteenth arrival is relayed.
 pub fn journey<S: HoldsMarking>(
     alloc: Global,
     accepted: &Accepted,

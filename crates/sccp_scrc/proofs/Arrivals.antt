@@ -112,7 +112,6 @@ Carries-relayed m a s next c is = record { titled = IsTitled-relayed m a s next 
 pub IsTitled-reads : (m : Message) (a : Address) (s : Spot) → IsTitled m a s → reading (message_octets m) ≡ Ok m
 IsTitled-reads m a s c = reads_again m c.message c.sound
 
--- what is read of octets, as a title's message
 -- the spot of an address keeps what titles keep
 pub is_spot : (node : ℕ) (a : Address) (s : Spot) → IsAddress a → spot_of node a ≡ Some s → IsSpot s
 is_spot node a s address at =
@@ -150,7 +149,7 @@ there plan pc lt =
     (λ (beyond : (length plan.nodes ≤ i) × (slice_get plan.nodes i ≡ None)). let le : length plan.nodes ≤ i = beyond.0 in absurd (omega (arith, le, lt)))
     (slice_get_cases plan.nodes i).1
 
--- where a title is sent: to the node with the target's point code, which is another one of the plan
+-- the next node of a title: the one with the target's point code, which is another one of the plan
 record IsNext (plan : Network) (s next : Spot) (pc : ℕ) : Type 0 where
   within : next.node < length plan.nodes
   point : point_of plan next.node ≡ pc

@@ -153,7 +153,7 @@ by_reading plan node marking origin b (Err fault) is e = tt
 pub means : (plan : Network) (node : ℕ) (marking : List Mark) (origin : ℕ) (b : List ℕ) → IsPlan plan → Means plan node marking b (arrival plan node marking origin b)
 means plan node marking origin b is = by_reading plan node marking origin b (reading b) is refl
 
--- an answer that is the arrival says so
+-- an answer that is the arrival says what the arrival says
 pub said : {E : Type 0} (r : Result Arrival E) (plan : Network) (node : ℕ) (marking : List Mark) (origin : ℕ) (b : List ℕ) → IsPlan plan → IfOk r (λ a. a ≡ arrival plan node marking origin b) → IfOk r (λ a. Means plan node marking b a)
 said (Ok a) plan node marking origin b is h = subst (Means plan node marking b) (sym h) (means plan node marking origin b is)
 said (Err e) plan node marking origin b is h = tt

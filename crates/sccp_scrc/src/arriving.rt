@@ -1,3 +1,4 @@
+//! What becomes of a message that arrives at a relay.
 ghost use Rattle.std.specs.Prelude.{◌≡◌, ◌<◌, ◌==◌, ℕ, List, Option, length, IfOk, IfNone, IsSome, Some, false, [], ◌∷◌, option_map};
 ghost use Rattle.std.specs.List.{list_any};
 ghost use Rattle.sccp_address.specs.declared.address.Address.{Address};
@@ -21,6 +22,7 @@ use sccp_base::{List, Mark, Marking, OutOfMemory, PointCode};
 use sccp_message::{DecodeFault, Message, decode};
 use std::alloc::Global;
 
+/// The point code of the node at this place of the plan.
 pub(crate) fn own_point(plan: &Plan, node: u8) -> PointCode
     requires { node < length plan.now.nodes }
     ensures { result ≡ point_of plan.now node }
@@ -28,6 +30,7 @@ pub(crate) fn own_point(plan: &Plan, node: u8) -> PointCode
     plan.nodes().as_slice()[usize::from(node)].pc
 }
 
+/// Whether a subsystem is one of the node's.
 fn is_own(plan: &Plan, node: u8, ssn: u8) -> bool
     requires { node < length plan.now.nodes }
     ensures { result ≡ list_any (λ own. own == ssn) (subsystems_of plan.now node) }
@@ -43,7 +46,7 @@ fn one_mark(alloc: Global, mark: Mark) -> Result<List<Mark>, OutOfMemory>
     Ok(marks)
 }
 
-/// Routed on SSN.
+/// What becomes of a message that is routed on its subsystem number.
 fn at_subsystem(
     alloc: Global,
     plan: &Plan,
@@ -136,7 +139,7 @@ pub(crate) fn is_last_hop(hops: Option<u8>) -> bool
     }
 }
 
-/// Routed on title: first the hop counter is tested.
+/// What becomes of a message that is routed on its global title: first the hop counter is tested.
 fn at_title(
     alloc: Global,
     plan: &Plan,
@@ -169,7 +172,7 @@ fn at_title(
     }
 }
 
-/// How a message is routed: on SSN or not, and its SSN. A connection-oriented one isn't routed by its called address.
+/// How a message is routed: whether on SSN, and its SSN. `None` for a connection-oriented one, which has no called address.
 pub(crate) fn routing(message: &Message) -> Option<(bool, Option<u8>)>
     ensures { result ≡ option_map (λ a. (a.by_ssn, a.ssn)) (called_of message.now) }
 {
@@ -179,8 +182,8 @@ pub(crate) fn routing(message: &Message) -> Option<(bool, Option<u8>)>
     }
 }
 
-/// What becomes of a message that comes from the point `origin` to the node at this place of the plan, which holds the
-/// marking: what becomes of its octets (`arrive`).
+/// What becomes of a message that arrives from the point `origin` (Q.714 section 2). It arrives at the node at this place of
+/// the plan, which holds the marking. `arrive` gives the same for its octets. The error is want of memory.
 pub fn arrive_message(
     alloc: Global,
     plan: &Plan,
@@ -223,8 +226,8 @@ fn of_octets(
     }
 }
 
-/// What becomes of octets that arrive from the point `origin` at the node at this place of the plan, which holds the
-/// marking (Q.714 section 2).
+/// What becomes of octets that arrive from the point `origin` (Q.714 section 2). They arrive at the node at this place of
+/// the plan, which holds the marking. The error is want of memory.
 pub fn arrive(
     alloc: Global,
     plan: &Plan,
@@ -237,14 +240,14 @@ pub fn arrive(
     ensures exact { IfOk result (λ a. a ≡ arrival plan.now node marking.now origin octets.now) }
     // A relayed message goes to another relay of the plan, with nothing changed but its called address and hop counter.
     ensures relayed { IfOk result (λ a. (pc : ℕ) (sent : List ℕ) → a ≡ Arrival.Relayed pc sent → IsRelayed plan.now node octets.now pc sent) }
-    // One with a destination goes to a point of which no mark is held, likewise.
+    // One with a destination goes to a point of which no mark is held; again nothing else is changed.
     ensures ended { IfOk result (λ a. (pc ssn : ℕ) (sent : List ℕ) → a ≡ Arrival.Ended pc ssn sent → IsEnded plan.now node marking.now octets.now pc ssn sent) }
-    // One for the node itself is for one of its subsystems that isn't prohibited.
+    // One for the node itself is for one of its subsystems that is not prohibited.
     ensures local { IfOk result (λ a. (ssn : ℕ) (new : Message) → a ≡ Arrival.Local ssn new → IsLocal plan.now node marking.now octets.now ssn new) }
     // A return names marks that are held, and its cause is that of the last one.
     ensures names { IfOk result (λ a. (cause : ℕ) (marks : List Mark) (service : Option Service) → a ≡ Arrival.Returned cause marks service → IsReturned marking.now cause marks) }
 {
-    // That the plan is one is known from this call alone.
+    // The call ensures that the plan is sound, which the clauses need.
     let _nodes = plan.nodes();
     of_octets(alloc, plan, node, marking, origin, octets)
 }

@@ -1,4 +1,4 @@
-//! Messages that leave a node: their octets, and the return of what can't be written.
+//! Messages that leave a node: their octets, and the return of those that cannot be written.
 ghost use Rattle.std.specs.Prelude.{◌≡◌, ◌==◌, if◌then◌else◌, IfOk, IsSome};
 ghost use Rattle.sccp_scrc.specs.declared.arrival.Arrival.TheVariants.{Relayed, Ended, Local};
 ghost use Rattle.sccp_scrc.specs.Unitdata.{called_of, redirected, octets_of};
@@ -14,7 +14,7 @@ use sccp_base::{List, Marking, Octets, OutOfMemory, PointCode};
 use sccp_message::{EncodeFault, Message, encode};
 use std::alloc::Global;
 
-/// The octets of a message, where it can be written.
+/// The octets of a message, if it can be written.
 #[tactic(auto, using(crate::proofs::Redirected::octets_written))]
 pub(crate) fn octets_of(alloc: Global, message: &Message) -> Result<Option<Octets>, OutOfMemory>
     ensures { IfOk result (λ octets. octets ≡ octets_of message.now) }
@@ -27,7 +27,7 @@ pub(crate) fn octets_of(alloc: Global, message: &Message) -> Result<Option<Octet
     }
 }
 
-/// On to a relay, where the message can be written.
+/// Sends a message on to a relay, if it can be written; otherwise it is returned for cause 9.
 pub(crate) fn relay(
     alloc: Global,
     pc: PointCode,
@@ -61,7 +61,7 @@ pub(crate) fn relay(
     }
 }
 
-/// To a destination at another point, where the message can be written.
+/// Sends a message to a destination at another point, if it can be written; otherwise it is returned for cause 9.
 fn depart(
     alloc: Global,
     pc: PointCode,
@@ -96,7 +96,7 @@ fn depart(
     }
 }
 
-/// To a destination, which is a subsystem of the node where the point is the node's own.
+/// Sends a message to a destination: to a subsystem of the node if the point is the node's own, otherwise to another point.
 pub(crate) fn place(
     alloc: Global,
     own: PointCode,

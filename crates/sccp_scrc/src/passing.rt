@@ -1,4 +1,4 @@
-//! A message on its way from relay to relay, which is changed in place and written only where it leaves them (Q.714 section 2).
+//! A message on its way from relay to relay. It is changed in place, and written only when it leaves them (Q.714 section 2).
 ghost use Rattle.std.specs.Prelude.{◌≡◌, ◌<◌, length, true, false, not, Some, None, IfOk};
 ghost use Rattle.std.specs.Option.{option_map_or};
 ghost use Rattle.sccp_address.specs.declared.address.Address.{Address};
@@ -20,7 +20,7 @@ use sccp_base::{Marking, OutOfMemory, PointCode};
 use sccp_message::Message;
 use std::alloc::Global;
 
-/// Whether the message can be written: it is.
+/// Whether the message can be written. It is written to find out.
 #[tactic(auto, using(crate::proofs::Staying::has_octets))]
 fn can_be_written(alloc: Global, message: &Message) -> Result<bool, OutOfMemory>
     ensures yes { IfOk result (λ can. can ≡ true → Writable message.now) }
@@ -32,8 +32,8 @@ fn can_be_written(alloc: Global, message: &Message) -> Result<bool, OutOfMemory>
     }
 }
 
-/// The message to another called address, its hop counter one less, where it can be written so; else it stays. It is written
-/// to tell.
+/// Gives the message another called address and a hop counter one less, if it can be written so; otherwise it stays. It is
+/// written to find out.
 fn pass_written(alloc: Global, message: &mut Message, to: Address) -> Result<bool, OutOfMemory>
     ensures passed { IfOk result (λ passed. passed ≡ true → (message.new ≡ redirected to one_less message.old) × Writable (redirected to one_less message.old)) }
     ensures kept { IfOk result (λ passed. passed ≡ false → (message.new ≡ message.old) × (octets_of (redirected to one_less message.old) ≡ None)) }
@@ -47,7 +47,7 @@ fn pass_written(alloc: Global, message: &mut Message, to: Address) -> Result<boo
     Ok(false)
 }
 
-/// The same; of nearly all messages their lengths tell.
+/// The same, without writing if the lengths already show that the message can be written, as nearly always.
 fn pass_to(alloc: Global, message: &mut Message, to: Address) -> Result<bool, OutOfMemory>
     ensures passed { IfOk result (λ passed. passed ≡ true → (message.new ≡ redirected to one_less message.old) × Writable (redirected to one_less message.old)) }
     ensures kept { IfOk result (λ passed. passed ≡ false → (message.new ≡ message.old) × (octets_of (redirected to one_less message.old) ≡ None)) }
@@ -59,7 +59,7 @@ fn pass_to(alloc: Global, message: &mut Message, to: Address) -> Result<bool, Ou
     pass_written(alloc, message, to)
 }
 
-/// The point to which a step sends the message on.
+/// The point to which a step sends the message on, if it sends it on and the message can be written.
 #[tactic(auto, using(crate::proofs::Staying::place_stays))]
 fn pass_by_step(
     alloc: Global,
@@ -91,7 +91,7 @@ fn pass_by_step(
     }
 }
 
-/// Routed on title: first the hop counter is tested.
+/// The point to which a message that is routed on title is sent on. First the hop counter is tested.
 fn pass_by_title(
     alloc: Global,
     plan: &Plan,
@@ -125,9 +125,9 @@ fn is_titled(message: &Message) -> bool
     }
 }
 
-/// The point code of the relay to which the node at this place of the plan, which holds the marking, sends a message on; the
-/// message is then the one that goes there, and can be written. There is none exactly where the message isn't relayed: then it
-/// stays, and `arrive_message` tells what becomes of it. (What a message is after want of memory isn't said.)
+/// Sends a message on from the node at this place of the plan, which holds the marking, and gives the point code of the next
+/// relay. The message is then the one that goes there, and can be written. `None` exactly if the message is not relayed:
+/// then it stays, and `arrive_message` gives what becomes of it. (After want of memory nothing is promised of the message.)
 #[tactic(auto, using(crate::proofs::Staying::subsystem_stays))]
 pub fn pass_on(
     alloc: Global,

@@ -11,14 +11,14 @@ use plan_model::{Spot, Step};
 use sccp_address::{Address, Title};
 use sccp_message::Message;
 
-/// A hop counter behind a translation: one less, a counter above 15 counting as 15, and 0 staying 0.
+/// The hop counter after a translation: one less. A counter above 15 counts as 15 (profile), and 0 stays 0.
 pub fn one_less(hops: u8) -> u8
     ensures { result ≡ one_less hops }
 {
     hops.min(15).saturating_sub(1)
 }
 
-/// The subsystem number behind a step, which stays absent where no target names one.
+/// The subsystem number after a step; an absent one stays absent if no target names one.
 fn ssn_after(old: Option<u8>, ssn: u8) -> Option<u8>
     ensures { result ≡ ssn_after old ssn }
 {
@@ -68,8 +68,8 @@ fn to_place(address: &Address, spot: &Spot, ssn: u8) -> Address
     rerouted(address, true, Some(ssn), title)
 }
 
-/// The called address that a message goes on with behind a step, made of the one that it came with; `None` where the step
-/// neither sends it on nor ends at a place. The spot is that of the address.
+/// The called address that a message goes on with after a step, made of its present one. `None` if the step neither sends it
+/// on nor ends at a place. The spot is that of the address.
 pub fn onward_address(address: &Address, spot: &Spot, step: &Step) -> Option<Address>
     requires { spot_of spot.now.node address.now ≡ Some spot.now }
     ensures { result ≡ onward_address step.now address.now }
@@ -81,7 +81,7 @@ pub fn onward_address(address: &Address, spot: &Spot, step: &Step) -> Option<Add
     }
 }
 
-/// The called address behind a step, where the message goes on.
+/// The called address of a message after a step, if the message goes on.
 pub(crate) fn address_after(message: &Message, spot: &Spot, step: &Step) -> Option<Address>
     requires { spot_in spot.now.node message.now ≡ Some spot.now }
     ensures { result ≡ new_address message.now step.now }
@@ -146,8 +146,8 @@ pub(crate) fn restore(message: Message, old: Option<Address>, before: u8) -> Mes
     }
 }
 
-/// The title of an address, at the node at this place of the plan; `None` without a title of digits. An absent subsystem
-/// number counts as 0.
+/// The spot of an address at the node at this place of the plan: its title and its subsystem number, 0 if that is absent.
+/// `None` for an address without a title of digits.
 pub fn spot(node: u8, address: &Address) -> Option<Spot>
     ensures value { result ≡ spot_of node address.now }
     ensures node { IfSome result (λ s. s.node ≡ node) }

@@ -71,7 +71,7 @@ fn line_of_fields(alloc: Global, word: &[u8], fields: &[u8]) -> Result<Option<Li
     }
 }
 
-/// `NODE POINT HEX` behind `msg`.
+/// `NODE POINT HEX` after `msg`.
 #[tactic(auto, unfolding(crate::specs::Forms::message))]
 fn message(alloc: Global, fields: &[u8]) -> Result<Option<Line>, OutOfMemory>
     ensures { IfOk result (λ line. line ≡ message fields.now) }
@@ -140,7 +140,7 @@ fn tick(fields: &[u8]) -> Option<Line>
     Some(Line::Tick(node))
 }
 
-/// `FILE` behind `plan`.
+/// `FILE` after `plan`.
 fn plan(alloc: Global, fields: &[u8]) -> Result<Option<Line>, OutOfMemory>
     ensures { IfOk result (λ line. line ≡ option_map Line.Plan (file_name fields.now)) }
 {
