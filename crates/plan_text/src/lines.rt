@@ -1,4 +1,4 @@
-//! One key of a table, and the keys that it doesn't have.
+//! One key of a table, and the keys that it may not have.
 ghost use Rattle.std.specs.Prelude.{◌≡◌, not, nat_eq, map, option_map, true, false};
 ghost use Rattle.std.specs.List.{list_any};
 ghost use Rattle.std.specs.Cmp.Lexicographic.{pointwise};
@@ -10,7 +10,7 @@ use crate::form::{Form, has_form};
 use plan_model::Place;
 use toml::{Table, Value};
 
-/// What stands under a key.
+/// The value under a key.
 pub fn found<'a>(table: &'a Table, word: &str) -> Option<&'a Value>
     ensures { option_map (λ value. view value.now) result ≡ get_member word.now (table_view table.now) }
 {
