@@ -25,20 +25,20 @@ own Less e = absurd (cc)
 own Equal e = refl
 own Greater e = absurd (cc)
 
--- a class compares alike with itself
+-- a class compares as equal with itself
 pub own_order : (c : Titles) → class_cmp c c ≡ Equal
 own_order c = own (class_cmp c c) (class_total.antisymm c c)
 
 pub own_class : (c : Titles) → is_eq (class_cmp c c) ≡ true
 own_class c = ap is_eq (own_order c)
 
--- a class that comes before another isn't the same one
+-- a class that is before another is not the same one
 apart : (a b : Titles) → class_cmp a b ≡ Less → is_eq (class_cmp b a) ≡ true → ⊥
 apart a b less same =
     let clash : Less ≡ Equal = sym less ∙ ap (class_cmp a) (same_class b a same) ∙ own_order a in
     absurd (cc)
 
--- the first class of a table comes before the others
+-- the first class of a table is before the others
 first_before : (x : Titles × ℕ) (es : List (Titles × ℕ)) → IsStrictlySortedBy class_cmp (classes_in (x ∷ es)) → All (λ y. class_cmp x.0 y ≡ Less) (classes_in es)
 first_before x es ordered = All-from_recursion (λ y. class_cmp x.0 y ≡ Less) (classes_in es) (sorted_head class_cmp x.0 (classes_in es) ordered)
 
