@@ -31,7 +31,7 @@ tagged (hop ∷ hops) (turn ∷ turns) = record { which = turn.which; hop = hop 
 abbrev pub BothAllow : Network → Network → Spot → ℕ → ℕ → Type 0
 BothAllow old new spot pc ssn = IsAllowed old spot pc ssn × IsAllowed new spot pc ssn
 
--- the mixed route of each spot that both plans cover ends in such a way within the bound, whatever each relay on it holds
+-- the mixed route of each spot that both plans cover ends as it may within the bound, whatever each relay on it holds
 abbrev pub BothSafe : Network → Network → ℕ → Type 0
 BothSafe old new bound =
     (spot : Spot) (turns : List Turn) → Covered old spot → Covered new spot → length turns ≡ bound →

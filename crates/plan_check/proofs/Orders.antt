@@ -90,6 +90,6 @@ entry_holds P (x ∷ xs) all c r e =
 pub ranked_all : (plan : Network) (ranks : List (Titles × ℕ)) → All (λ e. IsRankedClass plan (rank_in ranks) e.0 e.1) ranks → IsRanked plan (rank_in ranks)
 ranked_all plan ranks all c r e = entry_holds (λ q n. IsRankedClass plan (rank_in ranks) q n) ranks all c r e
 
--- a list is what was gone over, the item at hand and what is left
+-- a list is the items before the present one, that item, and those that are left
 pub rest_here : {A X : Type 0} (shows : A → X) (all : List X) (xs : List A) (s t u : List X) (r : Option A) (start : s ≡ all) (y : Yields (TakesFirst shows) s xs t) → (x : A) → r ≡ Some x → TakesFirst shows t r u → all ≡ map shows xs ++ shows x ∷ u
 rest_here {A} {X} shows all xs s t u r start y x is step = sym start ∙ rest_so_far shows xs s t y ∙ ap (λ (l : List X). map shows xs ++ l) (rest_more shows t u r x is step)

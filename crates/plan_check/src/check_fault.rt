@@ -2,8 +2,9 @@
 use plan_classes::Class;
 use sccp_base::OutOfMemory;
 
-/// The first test that a table of ranks fails. The starts of the covers are tested first, and the longest route last. Between
-/// them each class of the table, in ascending order, is tested for a bad end, a missing rank, and a rank that is not lower.
+/// The first test that a table of ranks fails. The starts of the covers are tested first, then the classes of the table in
+/// ascending order, and the longest route last. A class is tested for a bad end, a missing rank, and a rank that is not
+/// lower.
 #[derive(Clone, Copy, Debug, PartialEq, Eq)]
 pub enum CheckFault {
     /// The start of this cover has no rank.
@@ -15,7 +16,8 @@ pub enum CheckFault {
     /// and a next class under a reached target has no lower rank.
     NotLower(Class),
     /// The cover or node of this class is not the plan's, or the class is decided and has no row. Or a reached target leads to
-    /// a place that the cover does not allow, to the node itself without the subsystem, or to more than 32 digits.
+    /// a place that the cover does not allow, or to the node itself, which does not have the subsystem. Or it makes more than
+    /// 32 digits.
     BadEnd(Class),
     /// The longest route is not covered, or its numbers of hops and of markings are not the greatest rank of a start.
     NotTight,

@@ -9,7 +9,7 @@ use Rattle.plan_model.specs.declared.hop.Hop.{Hop}
 use Rattle.plan_model.specs.Network.{Network}
 use Rattle.plan_model.specs.Routes.{route}
 
--- A spot at a node of the plan whose numbers fit a message: a selector, a subsystem number of one octet, and up to 32
+-- A spot at a node of the plan whose numbers fit a message. It has a selector, a subsystem number of one octet, and up to 32
 -- half-octets. A title of kind 2 has an even number of them, since it has no sign for an odd one (ITU-T Q.713 section 3.4.2.3).
 pub record IsSpotOf (plan : Network) (s : Spot) : Type 0 where
   pub node : s.node < length plan.nodes

@@ -26,7 +26,7 @@ MayEnd allowed (Sent next target) = ⊥
 MayEnd allowed (NoRow cause) = ⊥
 MayEnd allowed Overgrown = ⊥
 
--- the route of each covered spot ends in such a way within the bound, whatever each relay on it has marked
+-- the route of each covered spot ends as it may within the bound, whatever each relay on it has marked
 abbrev pub Safe : Network → ℕ → Type 0
 Safe plan bound =
     (spot : Spot) (markings : List (List Mark)) → Covered plan spot → length markings ≡ bound →
