@@ -1,4 +1,4 @@
--- Sets of titles at a node, in symbols.
+-- Sets of titles at a node, given by their known digits and the number of further ones.
 use Rattle.std.specs.Prelude.{ℕ, ◌≡◌, ◌+◌, ◌-◌, ◌<◌, ◌≤◌, ◌==◌, if◌then◌else◌, List, [], ◌∷◌, ◌++◌, length, map}
 use Rattle.std.specs.List.{All, Any, AllPairs, range_with_len}
 use Rattle.sccp_base.specs.Selector.{Numbers}
