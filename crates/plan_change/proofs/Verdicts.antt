@@ -135,7 +135,7 @@ suits_all old new spot (Ended pc ssn target) also a b each = (
     few : (d : HasCover new spot) → d.number < 256
     few d = omega (arith, slice_get_within new.covers d.number d.cover d.at, also.few_covers)
 
--- a walk that came through shows that the mixture is safe for its hops
+-- a walk that ended without a bad title shows that the mixture is safe for its hops
 pub through_safe : (old new : Network) (layers : List (List Stop)) (bound : ℕ) → IsPlan old → IsPlan new → AreLayers old new layers → IsThrough layers bound → BothSafe old new bound
 through_safe old new layers bound is also are through spot turns old_covered new_covered size =
     let a = covering old spot old_covered in
@@ -201,7 +201,7 @@ last-append [] h = refl
 last-append (x ∷ []) h = refl
 last-append (x ∷ y ∷ ys) h = last-append (y ∷ ys) h
 
--- the whole of a way that is behind so many hops, with one turn of its own
+-- the whole route of a way that follows this number of hops and has one turn of its own
 behind_one : (old new : Network) (hops : ℕ) (way before : Way) (turn : Turn) → way.turns ≡ turn ∷ [] → (b : IsBehind old new hops way before) → mixed old new before.spot before.turns ≡ b.front ++ record { spot = way.spot; step = made old new turn way.spot } ∷ []
 behind_one old new hops way before turn one b = b.route ∙ ap (λ (hs : List Hop). b.front ++ hs) (ap (mixed old new way.spot) one ∙ one_hop old new way.spot turn)
 

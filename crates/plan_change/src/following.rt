@@ -1,4 +1,4 @@
-//! Where the titles of a class go on their next hop.
+//! The titles of a class on their next hop.
 ghost use Rattle.std.specs.Prelude.{◌≡◌, ◌<◌, ◌⊎◌, IsTrue, false, length, IsSomeAnd, IfSome, IfOk, OnOk, Err, None, Some};
 ghost use Rattle.plan_classes.specs.declared.leads.Image.TheVariants.{Ends};
 ghost use Rattle.plan_model.specs.Network.{IsPlan};
@@ -25,7 +25,7 @@ use plan_rules::Row;
 use sccp_base::{Digits, Marking, OutOfMemory, PointCode};
 use std::alloc::Global;
 
-/// Puts the titles that a class's titles become among the stops of the next hop, or tells a title with a bad end.
+/// Puts the titles that a class's titles become among the stops of the next hop, or gives a title with a bad end.
 pub(crate) fn follow(
     alloc: Global,
     plans: &Plans<'_>,
@@ -47,7 +47,7 @@ pub(crate) fn follow(
     }
 }
 
-/// The same under one plan.
+/// As `follow`, under one plan.
 fn follow_plan(
     alloc: Global,
     plans: &Plans<'_>,
@@ -70,7 +70,7 @@ fn follow_plan(
     }
 }
 
-/// The same under a row, which is handed in.
+/// As `follow`, under the class's row in one plan.
 fn follow_row(
     alloc: Global,
     plans: &Plans<'_>,
@@ -105,7 +105,7 @@ fn follow_row(
     Ok(None)
 }
 
-/// The same under the target of an origin.
+/// As `follow`, under the target of an origin.
 fn follow_target(
     alloc: Global,
     plans: &Plans<'_>,
@@ -139,7 +139,7 @@ fn follow_target(
     }
 }
 
-/// A title of a class that a target ends where not both covers allow it.
+/// A title of a class that a target ends at a place that one of the two covers does not allow.
 fn ended(
     alloc: Global,
     plans: &Plans<'_>,
@@ -212,7 +212,7 @@ fn bad_way(
     one_turn(alloc, spot_of(class, digits), which, marking)
 }
 
-/// The longest of a class's titles that have zeros alone behind the known digits.
+/// The longest title of a class that has only zeros after the known digits.
 fn longest(class: &Class) -> Digits
     ensures { IsLongest class.now result }
 {

@@ -1,4 +1,4 @@
--- a table that isn't full keeps few classes when one is put
+-- a table that is not full stays within its limit when a class is put in it
 use Rattle.std.specs.Prelude.{ℕ, ◌≡◌, ◌+◌, ◌≤◌, List, length, Option, Some, None, is_some, if◌then◌else◌}
 use Rattle.std.proofs.Common.{sym, arith}
 use Rattle.plan_classes.specs.Titles.{Titles}

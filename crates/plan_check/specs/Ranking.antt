@@ -14,7 +14,7 @@ rank_in ranks c = lookup (is_at (class_cmp c)) ranks
 abbrev pub classes_in : List (Titles × ℕ) → List Titles
 classes_in ranks = keys_of ranks
 
--- what every table keeps: at most 262,144 classes, each below those behind it
+-- what every table keeps: at most 262,144 classes, each below those that follow it
 pub record IsRanks (ranks : List (Titles × ℕ)) : Type 0 where
   pub few : length ranks ≤ 262144
   pub ordered : IsStrictlySortedBy class_cmp (classes_in ranks)

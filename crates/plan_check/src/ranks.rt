@@ -1,3 +1,4 @@
+//! Tables of ranks.
 ghost use Rattle.std.specs.Prelude.{◌≡◌, ◌↔◌, [], if◌then◌else◌, length, OnOk, OnErr, Option, Some, IsSome, Err, IsTrue};
 ghost use Rattle.std.specs.Ordering.{is_eq};
 ghost use Rattle.plan_classes.specs.Titles.{Titles};
@@ -62,8 +63,8 @@ impl Ranks {
         self.get(class).is_some()
     }
 
-    /// Gives a class a rank, in place of the one that it has. `Full` where 262,144 other classes have one. After a fault
-    /// the table is as it was.
+    /// Gives a class a rank, in place of the one that it has. The fault is `Full` if 262,144 other classes have one. After a
+    /// fault the table is as it was.
     pub fn put(&mut self, class: Class, rank: u8) -> Result<(), RanksFault>
         ensures ok { OnOk result ((c : Titles) → rank_in self.new c ≡ (if is_eq (class_cmp class c) then Some rank else rank_in self.old c)) }
         ensures full { (result ≡ Err RanksFault.Full) ↔ IsFullFor self.old class }

@@ -15,7 +15,8 @@ least_of_both a b = max (max a.least b.least) (length (longer a.prefix b.prefix)
 abbrev pub most_of_both : Cover → Cover → ℕ
 most_of_both a b = min a.most b.most
 
--- some title has both covers: they have one node, selector and SSN, one prefix begins the other, and some number of digits suits both
+-- Some title has both covers: they have one node, selector and SSN. One prefix begins the other, and some number of digits suits
+-- both.
 pub record Meet (a b : Cover) : Type 0 where
   pub node : a.node ≡ b.node
   pub selector : a.selector ≡ b.selector
@@ -23,7 +24,7 @@ pub record Meet (a b : Cover) : Type 0 where
   pub begins : IsTrue (starts_with nat_eq a.prefix b.prefix) ⊎ IsTrue (starts_with nat_eq b.prefix a.prefix)
   pub fits : least_of_both a b ≤ most_of_both a b
 
--- the number of a pair of covers, one of each plan, told by their places: a plan has at most 256 covers
+-- the number of a pair of covers, one of each plan, which are given by their places: a plan has at most 256 covers
 abbrev pub pair : ℕ → ℕ → ℕ
 pair old new = old * 256 + new
 

@@ -11,8 +11,8 @@ use plan_classes::Class;
 use plan_model::{Cover, Plan};
 use sccp_base::Digits;
 
-/// The number of a pair of covers, which are told by their places in the two plans. A plan has at most 256 covers, so no two
-/// pairs have one number.
+/// The number of a pair of covers, which are given by their places in the two plans. A plan has at most 256 covers, so no two
+/// pairs have the same number.
 pub fn pair(old: u16, new: u16) -> u16
     requires old { old < 256 }
     requires new { new < 256 }
@@ -108,8 +108,8 @@ fn cover_at(plan: &Plan, place: u16) -> &Cover
     &plan.covers().as_slice()[usize::from(place)]
 }
 
-/// The titles that the old plan's cover at the first place and the new plan's at the second both have. The class has the pair's
-/// number in place of a cover's. `None` exactly where no title has both. It takes no memory.
+/// The titles that the old plan's cover at place i and the new plan's cover at place j both have. The class has the pair's
+/// number in place of a cover's. The result is `None` exactly if no title has both. It takes no memory.
 pub fn shared(old: &Plan, new: &Plan, i: u16, j: u16) -> Option<Class>
     requires old { i < length old.now.covers }
     requires new { j < length new.now.covers }

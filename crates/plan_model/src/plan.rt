@@ -1,3 +1,4 @@
+//! Plans: the relays of a network, and the covers.
 ghost use Rattle.std.specs.Prelude.{◌≡◌, ◌<◌, IsTrue, ◌↔◌, OnOk, IfOk, IfErr, length, All, Option};
 ghost use Rattle.std.specs.List.{position, Any};
 ghost use Rattle.plan_model.specs.Covered.{Covered, Covers};
@@ -101,8 +102,8 @@ impl Plan {
     }
 }
 
-/// Whether some cover of the plan has the spot: its node, selector and subsystem number are the spot's, and the spot's
-/// digits are decimal, begin with the cover's prefix and number from its least to its most.
+/// Whether some cover of the plan has the spot. Such a cover has the spot's node, selector and subsystem number. The spot's
+/// digits are decimal, begin with the cover's prefix, and number from its least to its most.
 pub fn covered(plan: &Plan, spot: &Spot) -> bool
     ensures { IsTrue result ↔ Covered plan.now spot.now }
 {

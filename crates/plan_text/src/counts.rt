@@ -7,14 +7,14 @@ use crate::document::elements_at;
 use plan_model::{Counted, first_limit};
 use toml::Value;
 
-/// What there is too much of: more than 64 nodes, 4,096 rows in all, or 256 covers.
+/// The first limit that a text passes: more than 64 nodes, 4,096 rows in all, or 256 covers.
 pub fn too_many(nodes: &[Value], covers: &[Value]) -> Option<Counted>
     ensures { result ≡ too_many (map view nodes.now) (map view covers.now) }
 {
     first_limit(nodes.len(), count_rows(nodes), covers.len())
 }
 
-/// How many rows the nodes have in all; 4,097 where they have more than 4,096.
+/// How many rows the nodes have in all; 4,097 if they have more than 4,096.
 fn count_rows(nodes: &[Value]) -> usize
     ensures { result ≡ min (sum_by row_count (map view nodes.now)) 4097 }
 {

@@ -26,7 +26,7 @@ fn place_named(nodes: &[Value], name: &[u8]) -> Option<usize>
     nodes.iter().position(|node| is_named(node, name))
 }
 
-/// The place of the first node of a name, or the number of nodes where none has it.
+/// The place of the first node of a name, or the number of nodes if none has it.
 #[tactic(auto, unfolding(crate::specs::Covers::node_place))]
 fn node_place(nodes: &[Value], name: &[u8]) -> u8
     requires { length nodes.now ≤ 64 }
@@ -35,7 +35,7 @@ fn node_place(nodes: &[Value], name: &[u8]) -> u8
     place_named(nodes, name).unwrap_or(nodes.len()) as u8
 }
 
-/// The number under a key, from 0 to so many.
+/// The number under a key, from 0 to `most`.
 #[tactic(auto, unfolding(crate::specs::Covers::number_at))]
 fn number_at(most: u8, key: &str, table: &Value) -> Option<u8>
     ensures value { result ≡ number_at most key.now (view table.now) }
@@ -47,7 +47,7 @@ fn number_at(most: u8, key: &str, table: &Value) -> Option<u8>
     }
 }
 
-/// The places that the cover at place i allows, or its fault where one doesn't read.
+/// The places that the cover at place i allows, or its fault if one of them cannot be read.
 fn allowed_of(alloc: Global, i: usize, values: &[Value]) -> Result<List<(PointCode, u8)>, PlanFault>
     ensures { Answers is_memory (λ read. read) result (each_ok (allowed_at i) 0 (map view values.now)) }
 {
@@ -61,7 +61,7 @@ fn allowed_of(alloc: Global, i: usize, values: &[Value]) -> Result<List<(PointCo
     Ok(read)
 }
 
-/// The cover at place i, or the first key whose value doesn't read.
+/// The cover at place i, or the first key whose value cannot be read.
 #[tactic(auto, unfolding(crate::specs::Covers::cover_of))]
 fn cover_of(alloc: Global, nodes: &[Value], i: usize, cover: &Value) -> Result<Cover, PlanFault>
     requires { length nodes.now ≤ 64 }
@@ -100,7 +100,7 @@ fn cover_of(alloc: Global, nodes: &[Value], i: usize, cover: &Value) -> Result<C
     }
 }
 
-/// All covers in their order, or the first value of them that doesn't read.
+/// All covers in their order, or the first value of them that cannot be read.
 pub(crate) fn covers_of(
     alloc: Global,
     nodes: &[Value],

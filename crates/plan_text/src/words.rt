@@ -5,7 +5,7 @@ ghost use Rattle.sccp_base.specs.Text.{byte_of};
 
 use sccp_base::{Digits, PointCode, cut, decimal};
 
-/// The integer, where it is from `least` to `most`.
+/// The integer, if it is from `least` to `most`.
 #[tactic(auto, unfolding(crate::specs::Words::within))]
 pub(crate) fn within(least: u8, most: u8, value: i64) -> Option<u8>
     ensures same { result ≡ within least most value }
@@ -18,7 +18,7 @@ pub(crate) fn within(least: u8, most: u8, value: i64) -> Option<u8>
     }
 }
 
-/// The digits that a text spells, where they are at most so many.
+/// The digits that a text spells, if they are at most `most`.
 #[tactic(auto, unfolding(crate::specs::Words::digits_up_to))]
 pub(crate) fn digits_up_to(most: usize, text: &[u8]) -> Option<Digits>
     ensures same { result ≡ digits_up_to most text.now }

@@ -30,7 +30,7 @@ from_wider : (o : Option ℕ) (m n : ℕ) → n ≤ m → IsSomeAnd o (λ s. m �
 from_wider None m n le h = h
 from_wider (Some s) m n le h = omega arith
 
--- one more part is ranked
+-- the parts are ranked with one more of them
 pub parts_ranked : (old new : List (Titles × ℕ)) (ps : List Titles) (i rank other : ℕ) (p : Titles) → i < length ps → p ≡ get_or ps i p → Keeps old new → rank_in new p ≡ Some other → All (RanksUpTo (rank_in old) rank) (take i ps) → All (RanksUpTo (rank_in new) (max rank other)) (take (i + 1) ps)
 parts_ranked old new ps i rank other p lt at keeps here before =
     All-more (RanksUpTo (rank_in new) (max rank other)) ps i p lt
@@ -103,7 +103,7 @@ targets_high plan old new c rank other keeps here before two =
 pub image_reached : (plan : Network) (depth place : ℕ) (c next : Titles) → HasImage plan c place (Next next) → Reaches plan c place → Decided plan c → depth < 14 → Reachable plan depth c → Reachable plan (depth + 1) next
 image_reached plan depth place c next has reached decided lt at = Onward depth c next place at lt decided reached has
 
--- where a target leads to a ranked class, the rank is one more
+-- if a target leads to a ranked class, the rank is one more
 pub led_next_rank : (plan : Network) (ranks : List (Titles × ℕ)) (c next : Titles) (place other : ℕ) → HasImage plan c place (Next next) → Reaches plan c place → rank_in ranks next ≡ Some other → IsLedTo plan (rank_in ranks) c place (other + 1)
 led_next_rank plan ranks c next place other has reached here =
     record {
@@ -145,7 +145,7 @@ decided_borne plan ranks c rank n is node cover decided some all low high leads 
 pub high_class : (plan : Network) (ranks : List (Titles × ℕ)) (c : Titles) (least : ℕ) → IsSound plan ranks → RanksFrom (rank_in ranks) least c → (r : ℕ) × IsRankedClass plan (rank_in ranks) c r
 high_class plan ranks c least sound high = let s = some_of (rank_in ranks c) (λ r. least ≤ r) high in (s.0, sound.ranked c s.0 s.1)
 
--- a part has that rank where the class isn't decided
+-- an undecided class of at least some rank has a part of at least that rank
 pub high_part : (plan : Network) (ranks : List (Titles × ℕ)) (c : Titles) (least : ℕ) (ps : List Titles) → IsSound plan ranks → RanksFrom (rank_in ranks) least c → 2 ≤ least → (Decided plan c → ⊥) → ps ≡ parts_of c → Any (RanksFrom (rank_in ranks) least) ps
 high_part plan ranks c least ps sound high two undecided same =
     let s = some_of (rank_in ranks c) (λ r. least ≤ r) high in
@@ -156,7 +156,7 @@ high_part plan ranks c least ps sound high two undecided same =
     (λ (by : IsAttainedDecided plan (rank_in ranks) c s.0). absurd (undecided by.decided))
     (sound.attained c s.0 s.1 (omega (arith, s.2)))
 
--- and a class that it is led to has one rank less where it is
+-- a decided class of at least some rank leads to one that is at most one rank lower
 pub high_next : (plan : Network) (ranks : List (Titles × ℕ)) (c : Titles) (least : ℕ) → IsSound plan ranks → RanksFrom (rank_in ranks) least c → 2 ≤ least → Decided plan c → LeadsHigh plan (rank_in ranks) c (least - 1)
 high_next plan ranks c least sound high two decided =
     let s = some_of (rank_in ranks c) (λ r. least ≤ r) high in
@@ -166,7 +166,7 @@ high_next plan ranks c least sound high two decided =
     record { place = by.next.place; next = by.next.next; leads = by.next.leads; high = from_wider (rank_in ranks by.next.next) (s.0 - 1) (least - 1) (let le : least ≤ s.0 = s.2 in omega arith) by.next.high })
     (sound.attained c s.0 s.1 (omega (arith, s.2)))
 
--- none so far has that rank, and so none has
+-- if no class up to the end of a list has that rank, none of the list has
 pub none_high : (ranks : List (Titles × ℕ)) (least n : ℕ) (ps : List Titles) → length ps ≤ n → All (λ p. RanksFrom (rank_in ranks) least p → ⊥) (take n ps) → Any (RanksFrom (rank_in ranks) least) ps → ⊥
 none_high ranks least n ps all none some =
     let whole : All (λ p. RanksFrom (rank_in ranks) least p → ⊥) ps = subst (All (λ p. RanksFrom (rank_in ranks) least p → ⊥)) (take_all n ps all) none in

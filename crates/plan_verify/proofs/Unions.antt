@@ -1,4 +1,4 @@
--- what a marking holds that was made of others
+-- what a marking that was made of others holds
 use Rattle.std.specs.Prelude.{ℕ, ◌≡◌, ◌+◌, ◌<◌, Bool, true, false, ◌||◌, IsTrue, ◌↔◌, List, [], ◌∷◌, ◌++◌, length, take, get_or, refl}
 use Rattle.std.specs.Cmp.Lexicographic.{pointwise}
 use Rattle.std.proofs.Common.{sym, ◌∙◌, ap, subst}
@@ -47,7 +47,7 @@ union_more ms i x m lt at =
     ∙ sym (list_any-append (λ held. same_mark held m) (union (take i ms)) (x ++ []))
     ∙ ap (λ (xs : List Mark). holds xs m) (sym (flat_map-append (λ (marking : List Mark). marking) (take i ms) (x ∷ [])) ∙ ap union (sym (front_more ms i x lt at)))
 
--- lists of marks that compare alike are one
+-- lists of marks that compare as equal are the same list
 pub same_marks : (xs ys : List Mark) → pointwise same_mark xs ys ≡ true → xs ≡ ys
 same_marks [] [] e = refl
 same_marks [] (y ∷ ys) e = absurd (false≢true e)
@@ -59,7 +59,7 @@ same_marks (x ∷ xs) (y ∷ ys) e =
 pub own_marks : (xs : List Mark) → pointwise same_mark xs xs ≡ true
 own_marks xs = (lists_equiv same_mark_equiv).refl xs
 
--- two blocked steps are one where their causes and marks are
+-- two blocked steps are the same if their causes and marks are
 pub same_blocked : (cause code : ℕ) (xs ys : List Mark) (x y : Step) (found : Bool) → x ≡ Blocked cause xs → y ≡ Blocked code ys → cause ≡ code → found ≡ pointwise same_mark xs ys → IsTrue found ↔ (x ≡ y)
 same_blocked cause code xs ys x y found ex ey same told = (
   λ t. ex ∙ ((λ i. Blocked (same i) (same_marks xs ys (sym told ∙ t) i)) ∙ sym ey),

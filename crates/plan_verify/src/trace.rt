@@ -1,3 +1,4 @@
+//! Titles with the markings of their routes, and how they are carried back.
 ghost use Rattle.std.specs.Prelude.{◌≡◌, ◌<◌, [], ◌∷◌, IfOk, List, length};
 ghost use Rattle.sccp_base.specs.declared.mark.Mark.{Mark};
 ghost use Rattle.plan_classes.specs.Titles.{IsMember, spot_of};
@@ -27,7 +28,7 @@ fn one_hop(alloc: Global, digits: Digits, marking: Marking) -> Result<Trace, Out
     Ok(Trace { digits, markings })
 }
 
-/// The least title of a class where nothing is prohibited.
+/// The least title of a class, while nothing is prohibited.
 pub(crate) fn least_title(alloc: Global, class: &Class) -> Result<Trace, OutOfMemory>
     ensures digits { IfOk result (λ t. t.digits ≡ sample_of class.now) }
     ensures member { IfOk result (λ t. IsMember class.now t.digits) }
@@ -76,7 +77,7 @@ pub(crate) fn carry(
     })
 }
 
-/// The markings behind one more.
+/// One marking, then these markings.
 fn in_front(marking: Marking, markings: List<Marking>) -> Result<List<Marking>, OutOfMemory>
     ensures { IfOk result (λ all. all ≡ marking ∷ markings) }
 {

@@ -1,4 +1,4 @@
-//! The verdict on a plan.
+//! The check of a plan, from the search to the verdict.
 ghost use Rattle.std.specs.Prelude.{◌≡◌, ◌<◌, IfOk, IsSomeAnd, slice_get};
 ghost use Rattle.plan_model.specs.Network.{IsPlan};
 ghost use Rattle.plan_model.specs.Verdicts.{Tight};
@@ -22,9 +22,9 @@ use plan_model::Plan;
 use sccp_base::OutOfMemory;
 use std::alloc::Global;
 
-/// The verdict on a plan. `Accepted` where each covered title, whatever the relays on its route have prohibited, is blocked
-/// or has an allowed end within fourteen hops; `Refused` where one has a bad route; `TooWide` where so many titles are to be
-/// told apart that the search gave up, which comes only where the plan reaches at least 262,144 classes of them.
+/// The verdict on a plan. It is `Accepted` if each covered title is blocked or has an allowed end within fourteen hops,
+/// whatever the relays on its route have prohibited. It is `Refused` if some covered title has a bad route. It is `TooWide`
+/// if the search gave up, which happens only if the plan reaches at least 262,144 classes of titles.
 pub fn verify(alloc: Global, plan: Plan) -> Result<Verdict, OutOfMemory>
     ensures same { IfOk result (λ verdict. plan_of verdict ≡ plan) }
     ensures lawful { IfOk result (IsLawful plan) }
@@ -107,7 +107,7 @@ fn accept(
     }
 }
 
-/// The same with the longest route, which is handed in.
+/// The plan with that bound and the longest route.
 fn accept_with(
     alloc: Global,
     plan: Plan,
