@@ -30,7 +30,7 @@ import workers
 TRACING = "/sys/kernel/tracing"
 TURNS = 5
 PROBES = {
-    "taken_up": r"sccp_tool::batch::batch_text\b",
+    "taken_up": r"sccp_replay::batch::batch_text\b",
     "threads_told": r"live_plan::teller::Teller::processors\b",
     "journey_begins": r"relay_net::travelling::journey\b",
     "octets_are_put": r"sccp_report::text::Text::put_hexadecimal$",

@@ -2,14 +2,14 @@
 use Rattle.std.proofs.Common.{◌≡◌, ◌⊎◌, ℕ, List, Option, Some, None}
 use Rattle.std.specs.Io.KnownBytes.{append_known}
 use Rattle.sccp_io.specs.Files.{Contents}
-use Rattle.sccp_tool.specs.Ending.{Outcome}
-use Rattle.sccp_tool.specs.Moment.{Moment}
+use Rattle.sccp_work.specs.Ending.{Outcome}
+use Rattle.sccp_work.specs.Moment.{Moment}
 use Rattle.sccp_tool.specs.Run.{work_of, Cause, SureCause, TellsAnswer, TellsJourneys, HasNamedFiles}
 use Rattle.sccp_tool.specs.Task.{Task}
-use Rattle.sccp_tool.specs.Verify.{IsOnVerdict}
-use Rattle.sccp_tool.specs.Work.{Ends, HasFiles}
-use Rattle.sccp_tool.specs.declared.status.Status.{Status}
-use Rattle.sccp_tool.specs.declared.status.Status.TheVariants.{Refused, Usage, TooWide}
+use Rattle.sccp_work.specs.Verdict.{IsOnVerdict}
+use Rattle.sccp_work.specs.Work.{Ends, HasFiles}
+use Rattle.sccp_work.specs.declared.status.Status.{Status}
+use Rattle.sccp_work.specs.declared.status.Status.TheVariants.{Refused, Usage, TooWide}
 
 pub record Causes (task : Option Task) : Type 0 where
   -- the work ends with an answer only if the answer's cause holds

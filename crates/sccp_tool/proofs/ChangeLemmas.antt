@@ -21,25 +21,25 @@ use Rattle.sccp_io.specs.Files.{Contents, Reads}
 use Rattle.sccp_report.specs.Changes.{change_text}
 use Rattle.sccp_report.specs.Verdicts.{verdict_text}
 use Rattle.sccp_tool.specs.Change.{plan_told, accepted_on, read_on_plan, with_accepted, old_word, new_word, change_status, mixed_work, change_work, IsAnswered, IsSurelySafe, IsMixable, IsUnmixable, IsWideMixture, HavePlans, ChangeCause, ChangeSure, TellsPlan, is_refused, is_wide, is_accepted, TellsMixture, is_other, is_told, TellsChange}
-use Rattle.sccp_tool.specs.Ending.{IsCut, Stops, Works, early}
-use Rattle.sccp_tool.specs.Limit.{IsThere, HasLongFile}
-use Rattle.sccp_tool.specs.Moment.{Moment}
-use Rattle.sccp_tool.specs.Plans.{bad_plan, HasPlan, HasBadPlan}
+use Rattle.sccp_work.specs.Ending.{IsCut, Stops, Works, early}
+use Rattle.sccp_work.specs.Limit.{IsThere, HasLongFile}
+use Rattle.sccp_work.specs.Moment.{Moment}
+use Rattle.sccp_work.specs.Plans.{bad_plan, HasPlan, HasBadPlan}
 use Rattle.sccp_tool.specs.Task.{Change as asked}
 use Rattle.sccp_tool.specs.Texts.{other_nodes}
-use Rattle.sccp_tool.specs.Verify.{IsSafe, IsBad, IsWide, IsOnVerdict}
-use Rattle.sccp_tool.specs.Work.{Work, mix, answered, IsJudged, IsCompared, Ends, HasFiles}
-use Rattle.sccp_tool.specs.Writing.{Writes}
-use Rattle.sccp_tool.specs.declared.status.Status.{Status}
-use Rattle.sccp_tool.specs.declared.status.Status.TheVariants.{Done, Refused, Usage, BadPlan, TooWide, TooLong, OtherNodes}
-use Rattle.sccp_tool.specs.declared.stop.Stop.{Stop}
-use Rattle.sccp_tool.specs.declared.stop.Stop.TheVariants.{Answered, Read, Write, Memory}
+use Rattle.sccp_work.specs.Verdict.{IsSafe, IsBad, IsWide, IsOnVerdict}
+use Rattle.sccp_work.specs.Work.{Work, mix, answered, IsJudged, IsCompared, Ends, HasFiles}
+use Rattle.sccp_work.specs.Writing.{Writes}
+use Rattle.sccp_work.specs.declared.status.Status.{Status}
+use Rattle.sccp_work.specs.declared.status.Status.TheVariants.{Done, Refused, Usage, BadPlan, TooWide, TooLong, OtherNodes}
+use Rattle.sccp_work.specs.declared.stop.Stop.{Stop}
+use Rattle.sccp_work.specs.declared.stop.Stop.TheVariants.{Answered, Read, Write, Memory}
 use Rattle.sccp_tool.proofs.Causes.{Causes}
-use Rattle.sccp_tool.proofs.LimitLemmas.{FileEnds, Ends-within_limit, limit_files}
-use Rattle.sccp_tool.proofs.LimitLemmas as file
-use Rattle.sccp_tool.proofs.PlanLemmas.{PlanEnds, long, bad, good, if_long, if_bad, at_plan}
-use Rattle.sccp_tool.proofs.VerifyLemmas.{safe_or_bad}
-use Rattle.sccp_tool.proofs.WorkLemmas.{Works-answered, Works-early, Works-judge, Works-print, Works-print-stopped}
+use Rattle.sccp_work.proofs.LimitLemmas.{FileEnds, Ends-within_limit, limit_files}
+use Rattle.sccp_work.proofs.LimitLemmas as file
+use Rattle.sccp_work.proofs.PlanLemmas.{PlanEnds, long, bad, good, if_long, if_bad, at_plan}
+use Rattle.sccp_work.proofs.VerdictLemmas.{safe_or_bad}
+use Rattle.sccp_work.proofs.WorkLemmas.{Works-answered, Works-early, Works-judge, Works-print, Works-print-stopped}
 
 -- ---- two plans are compared
 

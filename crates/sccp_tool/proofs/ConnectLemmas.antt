@@ -8,23 +8,26 @@ use Rattle.plan_verify.specs.declared.verdict.Verdict.TheVariants as verdicts
 use Rattle.sccp_io.specs.Files.{Contents}
 use Rattle.sccp_report.specs.Verdicts.{verdict_text}
 use Rattle.sccp_tool.specs.Connect.{connect_judged, connect_work, connected}
-use Rattle.sccp_tool.specs.Ending.{Works}
-use Rattle.sccp_tool.specs.Moment.{Moment}
-use Rattle.sccp_tool.specs.Plans.{HasPlan}
-use Rattle.sccp_tool.specs.ReplayEnds.{IsOnRefusal, ReplayTells}
+use Rattle.sccp_work.specs.Ending.{Works}
+use Rattle.sccp_work.specs.Moment.{Moment}
+use Rattle.sccp_work.specs.Plans.{HasPlan}
+use Rattle.sccp_work.specs.Verdict.{IsOnRefusal}
+use Rattle.sccp_replay.specs.ReplayEnds.{ReplayTells}
 use Rattle.sccp_tool.specs.Task.{Connect}
-use Rattle.sccp_tool.specs.Verify.{status_of, IsSafe, IsBad, IsWide, VerifyCause, VerifySure}
-use Rattle.sccp_tool.specs.Work.{answered, IsJudged, Ends}
-use Rattle.sccp_tool.specs.Writing.{Writes}
+use Rattle.sccp_work.specs.Verdict.{status_of, IsSafe, IsBad, IsWide}
+use Rattle.sccp_tool.specs.Verify.{VerifyCause, VerifySure}
+use Rattle.sccp_work.specs.Work.{answered, IsJudged, Ends}
+use Rattle.sccp_work.specs.Writing.{Writes}
 use Rattle.sccp_tool.specs.declared.connect.Calling.{Calling}
-use Rattle.sccp_tool.specs.declared.status.Status.{Status}
-use Rattle.sccp_tool.specs.declared.status.Status.TheVariants.{Done, Refused, Usage, BadPlan, TooWide, TooLong}
-use Rattle.sccp_tool.specs.declared.stop.Stop.{Stop}
+use Rattle.sccp_work.specs.declared.status.Status.{Status}
+use Rattle.sccp_work.specs.declared.status.Status.TheVariants.{Done, Refused, Usage, BadPlan, TooWide, TooLong}
+use Rattle.sccp_work.specs.declared.stop.Stop.{Stop}
 use Rattle.sccp_tool.proofs.Causes.{Causes}
-use Rattle.sccp_tool.proofs.PlanLemmas.{PlanEnds, long, bad, good, Ends-with_plan, if_long, if_bad, at_plan, plan_files}
-use Rattle.sccp_tool.proofs.ReplayLemmas.{on_verdict}
-use Rattle.sccp_tool.proofs.VerifyLemmas.{cause_of, not_cut, done_if_safe, refused_if_bad}
-use Rattle.sccp_tool.proofs.WorkLemmas.{Works-answered, Works-judge}
+use Rattle.sccp_work.proofs.PlanLemmas.{PlanEnds, long, bad, good, Ends-with_plan, if_long, if_bad, at_plan, plan_files}
+use Rattle.sccp_work.proofs.VerdictLemmas.{on_verdict}
+use Rattle.sccp_tool.proofs.VerifyLemmas.{cause_of}
+use Rattle.sccp_work.proofs.VerdictLemmas.{not_cut, done_if_safe, refused_if_bad}
+use Rattle.sccp_work.proofs.WorkLemmas.{Works-answered, Works-judge}
 
 -- what the verdict asks for is printed, and that is all
 pub Works-connected : (plan : Network) (calling : Calling) (verdict : Verdict) (text : List ℕ) (result : Result Status Stop) (b a : Moment) → IsJudged plan verdict → text ≡ connected plan calling verdict

@@ -2,8 +2,8 @@
 use Rattle.std.proofs.Common.{◌≡◌, ℕ, List, Some, sym, subst}
 use Rattle.sccp_tool.specs.Cuts.{CutsCause}
 use Rattle.sccp_tool.specs.Task.{Cuts}
-use Rattle.sccp_tool.specs.declared.status.Status.{Status}
-use Rattle.sccp_tool.specs.declared.status.Status.TheVariants.{Done, Usage}
+use Rattle.sccp_work.specs.declared.status.Status.{Status}
+use Rattle.sccp_work.specs.declared.status.Status.TheVariants.{Done, Usage}
 use Rattle.sccp_tool.proofs.Causes.{Causes}
 
 is_done : (t s : Status) → CutsCause t → s ≡ Done → s ≡ t

@@ -9,18 +9,18 @@ use Rattle.plan_model.specs.Network.{Network}
 use Rattle.sccp_io.specs.Files.{Contents, Reads}
 use Rattle.trace_text.specs.declared.line_fault.LineFault.{LineFault}
 use Rattle.sccp_tool.specs.Import.{import_answer, trace_work, import_work, HasBoth, ImportCause}
-use Rattle.sccp_tool.specs.Limit.{within_limit, HasFile, HasLongFile}
-use Rattle.sccp_tool.specs.Plans.{HasPlan}
+use Rattle.sccp_work.specs.Limit.{within_limit, HasFile, HasLongFile}
+use Rattle.sccp_work.specs.Plans.{HasPlan}
 use Rattle.sccp_tool.specs.Show.{answer_for}
 use Rattle.sccp_tool.specs.Task.{Import}
-use Rattle.sccp_tool.specs.Verify.{IsOnVerdict}
-use Rattle.sccp_tool.specs.Work.{answered, Ends}
-use Rattle.sccp_tool.specs.declared.status.Status.{Status}
-use Rattle.sccp_tool.specs.declared.status.Status.TheVariants.{Done, Usage, BadPlan, BadTrace, TooLong}
+use Rattle.sccp_work.specs.Verdict.{IsOnVerdict}
+use Rattle.sccp_work.specs.Work.{answered, Ends}
+use Rattle.sccp_work.specs.declared.status.Status.{Status}
+use Rattle.sccp_work.specs.declared.status.Status.TheVariants.{Done, Usage, BadPlan, BadTrace, TooLong}
 use Rattle.sccp_tool.proofs.Causes.{Causes}
-use Rattle.sccp_tool.proofs.LimitLemmas as file
-use Rattle.sccp_tool.proofs.LimitLemmas.{FileEnds, Ends-within_limit, at_file, not_long, limit_files}
-use Rattle.sccp_tool.proofs.PlanLemmas.{PlanEnds, long, bad, good, Ends-with_plan, if_long, if_bad, at_plan, plan_files}
+use Rattle.sccp_work.proofs.LimitLemmas as file
+use Rattle.sccp_work.proofs.LimitLemmas.{FileEnds, Ends-within_limit, at_file, not_long, limit_files}
+use Rattle.sccp_work.proofs.PlanLemmas.{PlanEnds, long, bad, good, Ends-with_plan, if_long, if_bad, at_plan, plan_files}
 
 -- this text is the answer for the octets
 abbrev IsTold : Option Contents → Network → List ℕ → List ℕ → Status → Type 0

@@ -7,21 +7,21 @@ use Rattle.plan_verify.specs.declared.verdict.Verdict.TheVariants as verdicts
 use Rattle.made_load.specs.Relays.{load_plan}
 use Rattle.sccp_io.specs.Files.{Contents}
 use Rattle.sccp_report.specs.Verdicts.{verdict_text}
-use Rattle.sccp_tool.specs.Ending.{Works}
+use Rattle.sccp_work.specs.Ending.{Works}
 use Rattle.sccp_tool.specs.Load.{load_text, load_work, LoadCause, LoadSure}
-use Rattle.sccp_tool.specs.Moment.{Moment}
-use Rattle.sccp_tool.specs.ReplayEnds.{IsOnRefusal}
+use Rattle.sccp_work.specs.Moment.{Moment}
+use Rattle.sccp_work.specs.Verdict.{IsOnRefusal}
 use Rattle.sccp_tool.specs.Task.{Load}
-use Rattle.sccp_tool.specs.Verify.{status_of, Tells}
-use Rattle.sccp_tool.specs.Work.{answered, IsJudged, Ends}
-use Rattle.sccp_tool.specs.Writing.{Writes}
-use Rattle.sccp_tool.specs.declared.status.Status.{Status}
-use Rattle.sccp_tool.specs.declared.status.Status.TheVariants.{Done, Usage}
-use Rattle.sccp_tool.specs.declared.stop.Stop.{Stop}
+use Rattle.sccp_work.specs.Verdict.{status_of, Tells}
+use Rattle.sccp_work.specs.Work.{answered, IsJudged, Ends}
+use Rattle.sccp_work.specs.Writing.{Writes}
+use Rattle.sccp_work.specs.declared.status.Status.{Status}
+use Rattle.sccp_work.specs.declared.status.Status.TheVariants.{Done, Usage}
+use Rattle.sccp_work.specs.declared.stop.Stop.{Stop}
 use Rattle.sccp_tool.proofs.Causes.{Causes}
-use Rattle.sccp_tool.proofs.ReplayLemmas.{on_verdict}
-use Rattle.sccp_tool.proofs.VerifyLemmas.{not_cut, done_if_safe, refused_if_bad}
-use Rattle.sccp_tool.proofs.WorkLemmas.{Works-answered, Works-judge}
+use Rattle.sccp_work.proofs.VerdictLemmas.{on_verdict}
+use Rattle.sccp_work.proofs.VerdictLemmas.{not_cut, done_if_safe, refused_if_bad}
+use Rattle.sccp_work.proofs.WorkLemmas.{Works-answered, Works-judge}
 
 -- what the verdict asks for is printed, and that is all
 pub Works-loaded : (number size : ℕ) (verdict : Verdict) (result : Result Status Stop) (b a : Moment) → IsJudged (load_plan number) verdict → Writes (load_text number size verdict) result b.taken a.taken b.write_faults a.write_faults

@@ -2,18 +2,18 @@
 use Rattle.std.proofs.Common.{◌≡◌, ℕ, List, Some, refl}
 use Rattle.relay_net.proofs.Going.{goes_well}
 use Rattle.sccp_io.specs.Files.{Contents}
-use Rattle.sccp_tool.specs.Replay.{replay_work}
-use Rattle.sccp_tool.specs.ReplayEnds.{ReplayCause, ReplaySure, IsOnRefusal}
+use Rattle.sccp_replay.specs.Replay.{replay_work}
+use Rattle.sccp_replay.specs.ReplayEnds.{ReplayCause, ReplaySure}
 use Rattle.sccp_tool.specs.Task.{Replay}
-use Rattle.sccp_tool.specs.Verify.{IsOnVerdict}
-use Rattle.sccp_tool.specs.declared.status.Status.{Status}
-use Rattle.sccp_tool.specs.declared.status.Status.TheVariants.{Done, Refused, Usage, BadPlan, BadTrace, TooWide, TooLong}
+use Rattle.sccp_work.specs.declared.status.Status.{Status}
+use Rattle.sccp_work.specs.declared.status.Status.TheVariants.{Done, Usage, BadPlan, BadTrace, TooLong}
 use Rattle.sccp_tool.proofs.Causes.{Causes}
-use Rattle.sccp_tool.proofs.Finishing.{answer_holds}
-use Rattle.sccp_tool.proofs.ReplayAnswers.{replay_other}
-use Rattle.sccp_tool.proofs.ReplayCauses.{done_must, bad_trace_must, too_long_must, bad_plan_must, refused_must}
-use Rattle.sccp_tool.proofs.ReplayFiles.{replay_files}
-use Rattle.sccp_tool.proofs.ReplayTold.{replay_told, replay_ends, verdict_ends}
+use Rattle.sccp_work.proofs.Finishing.{answer_holds}
+use Rattle.sccp_replay.proofs.ReplayAnswers.{replay_other}
+use Rattle.sccp_replay.proofs.ReplayCauses.{done_must, bad_trace_must, too_long_must, bad_plan_must, refused_must}
+use Rattle.sccp_replay.proofs.ReplayFiles.{replay_files}
+use Rattle.sccp_replay.proofs.ReplayTold.{replay_told, replay_ends, verdict_ends}
+use Rattle.sccp_work.proofs.VerdictLemmas.{on_verdict}
 
 always : (c : Contents) (plan trace : List ℕ) (t s : Status) → ReplaySure c plan trace t → ReplayCause c plan trace s → s ≡ t
 always c plan trace Done s sure cause = done_must c plan trace s sure cause
@@ -21,12 +21,6 @@ always c plan trace BadTrace s sure cause = bad_trace_must c plan trace s sure c
 always c plan trace TooLong s sure cause = too_long_must c plan trace s sure cause
 always c plan trace BadPlan s sure cause = bad_plan_must c plan trace s sure cause
 always c plan trace t s sure cause = absurd sure
-
--- a refusal is an answer of a verdict
-pub on_verdict : (s : Status) → IsOnRefusal s → IsOnVerdict s
-on_verdict Refused h = tt
-on_verdict TooWide h = tt
-on_verdict s h = absurd h
 
 pub replay_causes : (plan trace : List ℕ) (workers : ℕ) → Causes (Some (Replay plan trace workers))
 replay_causes plan trace workers = record {

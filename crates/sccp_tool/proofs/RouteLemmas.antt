@@ -2,11 +2,11 @@
 use Rattle.std.proofs.Common.{ℕ, List, Some}
 use Rattle.sccp_tool.specs.Route.{route_text}
 use Rattle.sccp_tool.specs.Task.{Route}
-use Rattle.sccp_tool.specs.Work.{answered}
+use Rattle.sccp_work.specs.Work.{answered}
 use Rattle.sccp_tool.specs.declared.start.Start.{Start}
-use Rattle.sccp_tool.specs.declared.status.Status.TheVariants.{Done, Usage}
+use Rattle.sccp_work.specs.declared.status.Status.TheVariants.{Done, Usage}
 use Rattle.sccp_tool.proofs.Causes.{Causes}
-use Rattle.sccp_tool.proofs.PlanLemmas.{plan_files, text_always, text_only}
+use Rattle.sccp_work.proofs.PlanLemmas.{plan_files, text_always, text_only}
 
 pub route_causes : (name : List ℕ) (start : Start) → Causes (Some (Route name start))
 route_causes name start = record {

@@ -2,14 +2,14 @@
 use Rattle.std.proofs.Common.{◌≡◌, ◌≢◌, ◌<◌, ◌⊎◌, ◌^◌, ◌-◌, IsTrue, ℕ, List, Option, Some, None, IfSome, refl, sym, subst, arith, inl, inr}
 use Rattle.sccp_io.specs.Faults.{Rose}
 use Rattle.sccp_io.specs.Files.{Contents}
-use Rattle.sccp_tool.specs.Ending.{IsCut, Answers, Outcome}
-use Rattle.sccp_tool.specs.Moment.{Moment}
+use Rattle.sccp_work.specs.Ending.{IsCut, Answers, Outcome}
+use Rattle.sccp_work.specs.Moment.{Moment}
 use Rattle.sccp_tool.specs.Run.{work_of, Cause, SureCause, TellsAnswer, TellsJourneys, HasNamedFiles, UsageCause, ExactlyWhere, ComesWhere, RefusedWhere}
 use Rattle.sccp_tool.specs.Task.{Task, ShowHex, Show, Verify, Route, Replay, Load, Cuts, Import, Change, Connect, SendOn}
-use Rattle.sccp_tool.specs.Verify.{IsOnVerdict}
-use Rattle.sccp_tool.specs.Work.{Work, Ends, HasFiles}
-use Rattle.sccp_tool.specs.declared.status.Status.{Status}
-use Rattle.sccp_tool.specs.declared.status.Status.TheVariants.{Done, Refused, Usage, BadPlan, BadTrace, TooWide, TooLong, OtherNodes, NoMemory, ReadFault, WriteFault}
+use Rattle.sccp_work.specs.Verdict.{IsOnVerdict}
+use Rattle.sccp_work.specs.Work.{Work, Ends, HasFiles}
+use Rattle.sccp_work.specs.declared.status.Status.{Status}
+use Rattle.sccp_work.specs.declared.status.Status.TheVariants.{Done, Refused, Usage, BadPlan, BadTrace, TooWide, TooLong, OtherNodes, NoMemory, ReadFault, WriteFault}
 use Rattle.sccp_tool.proofs.Causes.{Causes}
 use Rattle.sccp_tool.proofs.CutsLemmas.{cuts_causes}
 use Rattle.sccp_tool.proofs.ImportLemmas.{import_causes}

@@ -27,11 +27,11 @@ use Rattle.sccp_scrc.specs.declared.arrival.Arrival.TheVariants.{Relayed, Ended,
 use Rattle.sccp_scrc.specs.declared.service.Service.{Service}
 use Rattle.sccp_tool.specs.SendOn.{IsOfOctets, connection_line, first_line, type_line, send_on_text}
 use Rattle.sccp_tool.specs.Task.{SendOn}
-use Rattle.sccp_tool.specs.Work.{answered}
+use Rattle.sccp_work.specs.Work.{answered}
 use Rattle.sccp_tool.specs.declared.send_on.Incoming.{Incoming}
-use Rattle.sccp_tool.specs.declared.status.Status.TheVariants.{Done, Usage}
+use Rattle.sccp_work.specs.declared.status.Status.TheVariants.{Done, Usage}
 use Rattle.sccp_tool.proofs.Causes.{Causes}
-use Rattle.sccp_tool.proofs.PlanLemmas.{plan_files, text_always, text_only}
+use Rattle.sccp_work.proofs.PlanLemmas.{plan_files, text_always, text_only}
 
 pub send_on_causes : (name : List ℕ) (incoming : Incoming) → Causes (Some (SendOn name incoming))
 send_on_causes name incoming = record {

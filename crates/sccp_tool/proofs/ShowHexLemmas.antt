@@ -2,8 +2,8 @@
 use Rattle.std.proofs.Common.{◌≡◌, ℕ, List, Some, refl, sym, subst}
 use Rattle.sccp_tool.specs.ShowHex.{ShowHexCause}
 use Rattle.sccp_tool.specs.Task.{ShowHex}
-use Rattle.sccp_tool.specs.declared.status.Status.{Status}
-use Rattle.sccp_tool.specs.declared.status.Status.TheVariants.{Done, Usage}
+use Rattle.sccp_work.specs.declared.status.Status.{Status}
+use Rattle.sccp_work.specs.declared.status.Status.TheVariants.{Done, Usage}
 use Rattle.sccp_tool.proofs.Causes.{Causes}
 
 is_done : (t s : Status) → ShowHexCause t → s ≡ Done → s ≡ t

@@ -4,14 +4,14 @@ use Rattle.std.specs.Prelude.{IsOk, IsErr, is_ok, is_err}
 use Rattle.sccp_io.specs.Files.{Contents, Reads}
 use Rattle.trace_text.specs.Lines.{lines_of}
 use Rattle.trace_text.specs.declared.line_fault.LineFault.{LineFault}
-use Rattle.sccp_tool.specs.Ending.{IsCut}
+use Rattle.sccp_work.specs.Ending.{IsCut}
 use Rattle.sccp_tool.specs.Show.{answer_for, show_answer, show_work, shown_lines, ShowCause}
 use Rattle.sccp_tool.specs.Task.{Show}
-use Rattle.sccp_tool.specs.Work.{answered, Ends}
-use Rattle.sccp_tool.specs.declared.status.Status.{Status}
-use Rattle.sccp_tool.specs.declared.status.Status.TheVariants.{Done, Usage, BadTrace, TooLong}
+use Rattle.sccp_work.specs.Work.{answered, Ends}
+use Rattle.sccp_work.specs.declared.status.Status.{Status}
+use Rattle.sccp_work.specs.declared.status.Status.TheVariants.{Done, Usage, BadTrace, TooLong}
 use Rattle.sccp_tool.proofs.Causes.{Causes}
-use Rattle.sccp_tool.proofs.LimitLemmas.{FileEnds, long, within, Ends-within_limit, at_file, not_long, limit_files}
+use Rattle.sccp_work.proofs.LimitLemmas.{FileEnds, long, within, Ends-within_limit, at_file, not_long, limit_files}
 
 -- the answer for a file is its own
 own_answer : (shown : Result (List ℕ) LineFault) → IsCut (answer_for shown).0 → ⊥

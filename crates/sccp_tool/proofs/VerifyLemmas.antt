@@ -1,46 +1,22 @@
 -- What the verifying of a plan ends with.
-use Rattle.std.proofs.Common.{◌≡◌, ◌⊎◌, ℕ, List, ◌++◌, Option, Some, Result, IfOk, sym, ◌∙◌, ap, subst, append-nil, inl, inr}
+use Rattle.std.proofs.Common.{◌≡◌, ◌⊎◌, ℕ, List, ◌++◌, Option, Some, sym, ◌∙◌, ap, subst, append-nil}
 use Rattle.std.specs.Io.KnownBytes.{append_known}
-use Rattle.plan_model.proofs.SafeWays.{safe_not_bad}
 use Rattle.plan_model.specs.Network.{Network}
 use Rattle.plan_verify.specs.Lawful.{IsLawful}
-use Rattle.plan_verify.specs.Witnesses.{IsWitness}
 use Rattle.plan_verify.specs.declared.verdict.Verdict.{Verdict}
 use Rattle.plan_verify.specs.declared.verdict.Verdict.TheVariants as verdicts
-use Rattle.plan_verify.specs.declared.witness.Witness.{Witness}
 use Rattle.sccp_io.specs.Files.{Contents}
 use Rattle.sccp_report.specs.Verdicts.{verdict_text}
-use Rattle.sccp_tool.specs.Ending.{IsCut, Works}
-use Rattle.sccp_tool.specs.Moment.{Moment}
-use Rattle.sccp_tool.specs.Plans.{HasPlan}
+use Rattle.sccp_work.specs.Plans.{HasPlan}
 use Rattle.sccp_tool.specs.Task.{Verify}
-use Rattle.sccp_tool.specs.Verify.{status_of, verify_work, IsSafe, IsBad, IsWide, VerifyCause, VerifySure, VerifyTells}
-use Rattle.sccp_tool.specs.Work.{Work, judge, answered, IsJudged, Ends}
-use Rattle.sccp_tool.specs.Writing.{Writes}
-use Rattle.sccp_tool.specs.declared.status.Status.{Status}
-use Rattle.sccp_tool.specs.declared.status.Status.TheVariants.{Done, Refused, Usage, BadPlan, TooWide, TooLong}
-use Rattle.sccp_tool.specs.declared.stop.Stop.{Stop}
+use Rattle.sccp_work.specs.Verdict.{status_of, IsSafe, IsBad, IsWide}
+use Rattle.sccp_tool.specs.Verify.{verify_work, VerifyCause, VerifySure, VerifyTells}
+use Rattle.sccp_work.specs.Work.{Ends}
+use Rattle.sccp_work.specs.declared.status.Status.{Status}
+use Rattle.sccp_work.specs.declared.status.Status.TheVariants.{Done, Refused, Usage, BadPlan, TooWide, TooLong}
 use Rattle.sccp_tool.proofs.Causes.{Causes}
-use Rattle.sccp_tool.proofs.PlanLemmas.{PlanEnds, long, bad, good, Ends-with_plan, if_long, if_bad, at_plan, plan_files}
-use Rattle.sccp_tool.proofs.WorkLemmas.{Works-answered, Works-judge}
-
-abbrev pub judged_work : Network → Work
-judged_work plan = judge plan (λ verdict. answered (status_of verdict, verdict_text plan verdict))
-
--- ---- the verdict on a plan is printed
-
-pub not_cut : (v : Verdict) → IsCut (status_of v) → ⊥
-not_cut (verdicts.Accepted accepted) cut = cut
-not_cut (verdicts.Refused plan witness) cut = cut
-not_cut (verdicts.TooWide plan) cut = cut
-
-pub Works-verdict : (plan : Network) (verdict : Verdict) (status : Status) (text : List ℕ) (result : Result Status Stop) (b a : Moment) → IsJudged plan verdict → status ≡ status_of verdict → text ≡ verdict_text plan verdict
-    → Writes text result b.taken a.taken b.write_faults a.write_faults → IfOk result (λ s. s ≡ status) → a.contents ≡ b.contents → a.sound ≡ b.sound → a.read_faults ≡ b.read_faults → Works (judged_work plan) result b a
-Works-verdict plan verdict status text result b a judged of spelt writes is contents sound read_faults =
-    let whole = subst (λ t. Writes t result b.taken a.taken b.write_faults a.write_faults) spelt writes in
-    let answer = subst (λ t. IfOk result (λ s. s ≡ t)) of is in
-    Works-judge plan (λ v. answered (status_of v, verdict_text plan v)) verdict result b a judged
-    (Works-answered (status_of verdict, verdict_text plan verdict) result b a (not_cut verdict) whole answer contents sound read_faults)
+use Rattle.sccp_work.proofs.PlanLemmas.{PlanEnds, long, bad, good, Ends-with_plan, if_long, if_bad, at_plan, plan_files}
+use Rattle.sccp_work.proofs.VerdictLemmas.{judged_work, done_if_safe, refused_if_bad}
 
 -- ---- how the command ends
 
@@ -77,20 +53,6 @@ only contents name s text (good h) =
     (cause_of contents name h.3.0 h.3.2.verdict (λ P p. (h.0, h.1, h.2, (h.3.0, h.3.1, p))) h.3.2.lawful)
 
 -- ---- what each answer follows from
-
--- no safe plan has a bad route
-pub safe_or_bad : (plan : Network) → IsSafe plan → (w : Witness) → IsWitness plan w → ⊥
-safe_or_bad plan safe w is = safe_not_bad plan safe.0 w.cover w.spot w.markings w.hops w.kind safe.1.few safe.1.safe is.bad
-
-pub done_if_safe : (plan : Network) (v : Verdict) (s : Status) → IsLawful plan v → s ≡ status_of v → IsSafe plan → (IsWide plan → ⊥) → s ≡ Done
-done_if_safe plan (verdicts.Accepted accepted) s lawful e safe narrow = e
-done_if_safe plan (verdicts.Refused same witness) s lawful e safe narrow = absurd (safe_or_bad plan safe witness lawful)
-done_if_safe plan (verdicts.TooWide same) s lawful e safe narrow = absurd (narrow lawful)
-
-pub refused_if_bad : (plan : Network) (v : Verdict) (s : Status) → IsLawful plan v → s ≡ status_of v → IsBad plan → (s ≡ Refused) ⊎ (s ≡ TooWide)
-refused_if_bad plan (verdicts.Accepted accepted) s lawful e is = absurd (safe_or_bad plan (accepted.bound, lawful.0) is.0 is.1)
-refused_if_bad plan (verdicts.Refused same witness) s lawful e is = inl e
-refused_if_bad plan (verdicts.TooWide same) s lawful e is = inr e
 
 always : (c : Contents) (name : List ℕ) (t s : Status) (text : List ℕ) → VerifySure (Some c) name t → PlanEnds (Some c) name (Judged text) s → s ≡ t
 always c name Done s text has ends =

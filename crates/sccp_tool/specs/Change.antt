@@ -23,17 +23,17 @@ use Rattle.sccp_io.specs.Files.{Contents}
 use Rattle.sccp_report.specs.Changes.{change_text}
 use Rattle.sccp_report.specs.Verdicts.{accepted_line, verdict_text}
 use Rattle.trace_text.specs.Forms.{file_name}
-use Rattle.sccp_tool.specs.Ending.{Works}
-use Rattle.sccp_tool.specs.Limit.{within_limit, HasLongFile}
-use Rattle.sccp_tool.specs.Moment.{Moment}
-use Rattle.sccp_tool.specs.Plans.{bad_plan, HasPlan, HasBadPlan}
+use Rattle.sccp_work.specs.Ending.{Works}
+use Rattle.sccp_work.specs.Limit.{within_limit, HasLongFile}
+use Rattle.sccp_work.specs.Moment.{Moment}
+use Rattle.sccp_work.specs.Plans.{bad_plan, HasPlan, HasBadPlan}
 use Rattle.sccp_tool.specs.Task.{Task, Change as asked}
 use Rattle.sccp_tool.specs.Texts.{other_nodes}
-use Rattle.sccp_tool.specs.Verify.{IsSafe, IsBad, IsWide, IsOnVerdict}
-use Rattle.sccp_tool.specs.Work.{Work, print, judge, mix, answered, IsCompared}
-use Rattle.sccp_tool.specs.declared.status.Status.{Status}
-use Rattle.sccp_tool.specs.declared.status.Status.TheVariants.{Done, Refused, BadPlan, TooWide, TooLong, OtherNodes}
-use Rattle.sccp_tool.specs.declared.stop.Stop.{Stop}
+use Rattle.sccp_work.specs.Verdict.{IsSafe, IsBad, IsWide, IsOnVerdict}
+use Rattle.sccp_work.specs.Work.{Work, print, judge, mix, answered, IsCompared}
+use Rattle.sccp_work.specs.declared.status.Status.{Status}
+use Rattle.sccp_work.specs.declared.status.Status.TheVariants.{Done, Refused, BadPlan, TooWide, TooLong, OtherNodes}
+use Rattle.sccp_work.specs.declared.stop.Stop.{Stop}
 
 unfoldable pub change_of : List ℕ → List ℕ → Option Task
 change_of old new = option_and_then (λ name. option_map (asked name) (file_name new)) (file_name old)

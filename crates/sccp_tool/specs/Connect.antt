@@ -19,12 +19,12 @@ use Rattle.sccp_report.specs.Verdicts.{verdict_text}
 use Rattle.sccp_scrc.specs.Arriving.{point_of}
 use Rattle.trace_text.specs.Forms.{file_name}
 use Rattle.trace_text.specs.Hex.{hex_word}
-use Rattle.sccp_tool.specs.Plans.{with_plan}
+use Rattle.sccp_work.specs.Plans.{with_plan}
 use Rattle.sccp_tool.specs.Starts.{start_of}
 use Rattle.sccp_tool.specs.Task.{Task, Connect}
 use Rattle.sccp_tool.specs.Texts.{unknown_node}
-use Rattle.sccp_tool.specs.Verify.{status_of}
-use Rattle.sccp_tool.specs.Work.{Work, judge, answered}
+use Rattle.sccp_work.specs.Verdict.{status_of}
+use Rattle.sccp_work.specs.Work.{Work, judge, answered}
 use Rattle.sccp_tool.specs.declared.connect.Calling.{Calling}
 use Rattle.sccp_tool.specs.declared.start.Start.{Start}
 

@@ -5,13 +5,13 @@ use Rattle.m3ua_trace.specs.Traces.{trace_of, IsTraceOf}
 use Rattle.plan_model.specs.Network.{Network}
 use Rattle.sccp_io.specs.Files.{Contents}
 use Rattle.trace_text.specs.Forms.{file_name}
-use Rattle.sccp_tool.specs.Limit.{within_limit, HasFile, HasLongFile}
-use Rattle.sccp_tool.specs.Plans.{with_plan, HasPlan, HasBadPlan}
+use Rattle.sccp_work.specs.Limit.{within_limit, HasFile, HasLongFile}
+use Rattle.sccp_work.specs.Plans.{with_plan, HasPlan, HasBadPlan}
 use Rattle.sccp_tool.specs.Show.{answer_for}
 use Rattle.sccp_tool.specs.Task.{Task, Import}
-use Rattle.sccp_tool.specs.Work.{Work, answered}
-use Rattle.sccp_tool.specs.declared.status.Status.{Status}
-use Rattle.sccp_tool.specs.declared.status.Status.TheVariants.{Done, BadPlan, BadTrace, TooLong}
+use Rattle.sccp_work.specs.Work.{Work, answered}
+use Rattle.sccp_work.specs.declared.status.Status.{Status}
+use Rattle.sccp_work.specs.declared.status.Status.TheVariants.{Done, BadPlan, BadTrace, TooLong}
 
 unfoldable pub import_of : List ℕ → List ℕ → Option Task
 import_of plan file = option_and_then (λ p. option_map (Import p) (file_name file)) (file_name plan)

@@ -9,13 +9,13 @@ use Rattle.made_load.specs.Relays.{load_plan}
 use Rattle.made_load.specs.declared.counts.Counts.{Counts}
 use Rattle.sccp_report.specs.Values.{numbered}
 use Rattle.sccp_report.specs.Verdicts.{verdict_text}
-use Rattle.sccp_tool.specs.Replay.{workers_in}
-use Rattle.sccp_tool.specs.ReplayEnds.{IsOnRefusal}
+use Rattle.sccp_replay.specs.Workers.{workers_in}
+use Rattle.sccp_work.specs.Verdict.{IsOnRefusal}
 use Rattle.sccp_tool.specs.Task.{Task, Load}
-use Rattle.sccp_tool.specs.Verify.{status_of, IsSafe, IsBad, IsWide, Tells}
-use Rattle.sccp_tool.specs.Work.{Work, judge, answered}
-use Rattle.sccp_tool.specs.declared.status.Status.{Status}
-use Rattle.sccp_tool.specs.declared.status.Status.TheVariants.{Done, Refused, TooWide}
+use Rattle.sccp_work.specs.Verdict.{status_of, IsSafe, IsBad, IsWide, Tells}
+use Rattle.sccp_work.specs.Work.{Work, judge, answered}
+use Rattle.sccp_work.specs.declared.status.Status.{Status}
+use Rattle.sccp_work.specs.declared.status.Status.TheVariants.{Done, Refused, TooWide}
 
 -- one to ten decimal digits that spell a number up to the given one
 abbrev pub number_to : ℕ → List ℕ → Option ℕ

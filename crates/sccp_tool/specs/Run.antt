@@ -2,28 +2,28 @@
 use Rattle.std.specs.Prelude.{◌≡◌, ◌⊎◌, ℕ, List, Option, Some, None}
 use Rattle.std.specs.Io.KnownBytes.{append_known}
 use Rattle.sccp_io.specs.Files.{Contents}
-use Rattle.sccp_tool.specs.Account.{TellsReplay}
+use Rattle.sccp_replay.specs.Account.{TellsReplay}
 use Rattle.sccp_tool.specs.Change.{change_work, ChangeCause, ChangeSure, ChangeTells}
 use Rattle.sccp_tool.specs.Connect.{connect_work}
 use Rattle.sccp_tool.specs.Cuts.{cuts_work, CutsCause}
-use Rattle.sccp_tool.specs.Ending.{IsCut}
+use Rattle.sccp_work.specs.Ending.{IsCut}
 use Rattle.sccp_tool.specs.Import.{import_work, ImportCause, ImportTells}
-use Rattle.sccp_tool.specs.Limit.{IsThere}
-use Rattle.sccp_tool.specs.Plans.{TextCause}
+use Rattle.sccp_work.specs.Limit.{IsThere}
+use Rattle.sccp_work.specs.Plans.{TextCause}
 use Rattle.sccp_tool.specs.Load.{load_work, LoadCause, LoadSure, LoadTells}
-use Rattle.sccp_tool.specs.Replay.{replay_work}
-use Rattle.sccp_tool.specs.ReplayEnds.{ReplayCause, ReplaySure, ReplayTells, LaterPlansThere}
+use Rattle.sccp_replay.specs.Replay.{replay_work}
+use Rattle.sccp_replay.specs.ReplayEnds.{ReplayCause, ReplaySure, ReplayTells, LaterPlansThere}
 use Rattle.sccp_tool.specs.Route.{route_work}
 use Rattle.sccp_tool.specs.SendOn.{send_on_work}
 use Rattle.sccp_tool.specs.Show.{show_work, ShowCause}
 use Rattle.sccp_tool.specs.ShowHex.{show_hex_work, ShowHexCause}
 use Rattle.sccp_tool.specs.Task.{Task, ShowHex, Show, Verify, Route, Replay, Load, Cuts, Import, Change, Connect, SendOn}
 use Rattle.sccp_tool.specs.Texts.{usage}
-use Rattle.sccp_tool.specs.Trace.{lines_in}
+use Rattle.sccp_replay.specs.Trace.{lines_in}
 use Rattle.sccp_tool.specs.Verify.{verify_work, VerifyCause, VerifySure, VerifyTells}
-use Rattle.sccp_tool.specs.Work.{Work, answered}
-use Rattle.sccp_tool.specs.declared.status.Status.{Status}
-use Rattle.sccp_tool.specs.declared.status.Status.TheVariants.{Refused, Usage, TooWide}
+use Rattle.sccp_work.specs.Work.{Work, answered}
+use Rattle.sccp_work.specs.declared.status.Status.{Status}
+use Rattle.sccp_work.specs.declared.status.Status.TheVariants.{Refused, Usage, TooWide}
 
 abbrev pub work_of : Option Task → Work
 work_of None = answered (Usage, usage)

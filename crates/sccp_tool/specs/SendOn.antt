@@ -19,12 +19,12 @@ use Rattle.sccp_scrc.specs.declared.arrival.Arrival.{Arrival}
 use Rattle.sccp_scrc.specs.declared.arrival.Arrival.TheVariants.{Relayed, Ended, Local, Returned, Connection, Management, Undecodable}
 use Rattle.trace_text.specs.Forms.{file_name}
 use Rattle.trace_text.specs.Hex.{hex_word}
-use Rattle.sccp_tool.specs.Plans.{with_plan}
+use Rattle.sccp_work.specs.Plans.{with_plan}
 use Rattle.sccp_tool.specs.Task.{Task, SendOn}
 use Rattle.sccp_tool.specs.Texts.{unknown_node}
-use Rattle.sccp_tool.specs.Work.{Work, answered}
+use Rattle.sccp_work.specs.Work.{Work, answered}
 use Rattle.sccp_tool.specs.declared.send_on.Incoming.{Incoming}
-use Rattle.sccp_tool.specs.declared.status.Status.TheVariants.{Done}
+use Rattle.sccp_work.specs.declared.status.Status.TheVariants.{Done}
 
 -- ---- the words
 

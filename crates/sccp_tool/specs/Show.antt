@@ -8,14 +8,14 @@ use Rattle.trace_text.specs.Hex.{hex_word}
 use Rattle.trace_text.specs.Lines.{TextLine, lines_of, content_of}
 use Rattle.trace_text.specs.declared.line_fault.LineFault.{LineFault}
 use Rattle.trace_text.specs.declared.line_fault.LineKind.TheVariants.{NotALine}
-use Rattle.sccp_tool.specs.Limit.{within_limit, HasFile, HasLongFile}
-use Rattle.sccp_tool.specs.LineFault.{bad_line}
+use Rattle.sccp_work.specs.Limit.{within_limit, HasFile, HasLongFile}
+use Rattle.sccp_work.specs.LineFault.{bad_line}
 use Rattle.sccp_tool.specs.Task.{Task, Show}
-use Rattle.sccp_tool.specs.Work.{Work, answered}
+use Rattle.sccp_work.specs.Work.{Work, answered}
 use Rattle.sccp_tool.specs.declared.show.ShowError.{ShowError}
 use Rattle.sccp_tool.specs.declared.show.ShowError.TheVariants as errors
-use Rattle.sccp_tool.specs.declared.status.Status.{Status}
-use Rattle.sccp_tool.specs.declared.status.Status.TheVariants.{Done, BadTrace, TooLong}
+use Rattle.sccp_work.specs.declared.status.Status.{Status}
+use Rattle.sccp_work.specs.declared.status.Status.TheVariants.{Done, BadTrace, TooLong}
 
 -- FILE
 unfoldable pub show_words : List (List ℕ) → Option Task

@@ -3,9 +3,9 @@ use Rattle.std.specs.Prelude.{ℕ, List, [], ◌∷◌, Option, None, option_map
 use Rattle.sccp_report.specs.MessageText.{message_text}
 use Rattle.trace_text.specs.Hex.{hex_word}
 use Rattle.sccp_tool.specs.Task.{Task, ShowHex}
-use Rattle.sccp_tool.specs.Work.{Work, answered}
-use Rattle.sccp_tool.specs.declared.status.Status.{Status}
-use Rattle.sccp_tool.specs.declared.status.Status.TheVariants.{Done}
+use Rattle.sccp_work.specs.Work.{Work, answered}
+use Rattle.sccp_work.specs.declared.status.Status.{Status}
+use Rattle.sccp_work.specs.declared.status.Status.TheVariants.{Done}
 
 -- HEX: the octets of the message
 unfoldable pub show_hex_words : List (List ℕ) → Option Task

@@ -4,12 +4,6 @@ use Rattle.std.specs.Prelude.{ℕ, List, codes}
 unfoldable pub usage : List ℕ
 usage = codes "usage: show-hex HEX | show FILE | verify PLAN | route PLAN NODE SELECTOR SSN DIGITS | replay PLAN TRACE WORKERS | load NUMBER SIZE WORKERS | cuts HEX | change OLD NEW | connect PLAN NODE FROM SELECTOR SSN DIGITS HEX | send-on PLAN NODE ORIGIN SIZE HEX | import PLAN FILE\n"
 
-unfoldable pub too_long : List ℕ
-too_long = codes "too long\n"
-
-unfoldable pub read_fault : List ℕ
-read_fault = codes "read fault\n"
-
 unfoldable pub unknown_node : List ℕ
 unknown_node = codes "unknown node\n"
 

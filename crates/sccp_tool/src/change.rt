@@ -5,19 +5,12 @@ ghost use Rattle.plan_text.specs.Faults.{is_memory};
 ghost use Rattle.plan_verify.specs.Lawful.{IsLawful, plan_of};
 ghost use Rattle.sccp_tool.specs.Change.{change_of, change_words, change_work, change_status, old_word, new_word, plan_told, GivesAccepted, IsAnswered};
 ghost use Rattle.sccp_tool.specs.Commands.{texts};
-ghost use Rattle.sccp_tool.specs.Ending.{Works};
-ghost use Rattle.sccp_tool.specs.Moment.{moment};
+ghost use Rattle.sccp_work.specs.Ending.{Works};
+ghost use Rattle.sccp_work.specs.Moment.{moment};
 ghost use Rattle.sccp_tool.specs.Parsed.{task_in};
-ghost use Rattle.sccp_tool.specs.Plans.{bad_plan};
+ghost use Rattle.sccp_work.specs.Plans.{bad_plan};
 
 use crate::command::Command;
-use crate::limit::within_limit;
-use crate::opened::Opened;
-use crate::plans::bad_plan;
-use crate::status::Status;
-use crate::stop::{Stop, early};
-use crate::verify::lawful_text;
-use crate::writing::{print_last, put_all};
 use plan_change::{Change, ChangeFault};
 use plan_check::Accepted;
 use plan_model::{Plan, PlanFault};
@@ -25,6 +18,9 @@ use plan_verify::Verdict;
 use sccp_base::{Octets, OutOfMemory};
 use sccp_io::{Files, Sink};
 use sccp_report::{accepted_text, change_text};
+use sccp_work::{
+    Opened, Status, Stop, bad_plan, early, lawful_text, print_last, put_all, within_limit,
+};
 use std::alloc::Global;
 use trace_text::is_file_name;
 

@@ -15,8 +15,8 @@ use crate::show::show_words;
 use crate::show_hex::show_hex_words;
 use crate::start::Start;
 use crate::verify::verify_words;
-use crate::workers::Workers;
 use sccp_base::{Octets, OutOfMemory};
+use sccp_replay::Workers;
 use std::alloc::Global;
 
 /// What the words ask for, one variant a command.

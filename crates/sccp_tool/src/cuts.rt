@@ -4,15 +4,13 @@ ghost use Rattle.sccp_report.specs.CutsText.{cuts_text};
 ghost use Rattle.sccp_tool.specs.Commands.{texts};
 ghost use Rattle.sccp_tool.specs.Cuts.{cuts_words};
 ghost use Rattle.sccp_tool.specs.Parsed.{task_in};
-ghost use Rattle.sccp_tool.specs.Writing.{Writes};
+ghost use Rattle.sccp_work.specs.Writing.{Writes};
 
 use crate::command::Command;
-use crate::status::Status;
-use crate::stop::Stop;
-use crate::writing::print_last;
 use sccp_base::OutOfMemory;
 use sccp_io::Sink;
 use sccp_report::cuts_text;
+use sccp_work::{Status, Stop, print_last};
 use std::alloc::Global;
 use trace_text::octets_of;
 

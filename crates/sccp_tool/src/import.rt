@@ -1,22 +1,16 @@
 //! The command that makes a trace of a file of DATA messages of M3UA, one a line.
 ghost use Rattle.std.specs.Prelude.{◌≡◌, IfOk};
 ghost use Rattle.sccp_tool.specs.Commands.{texts};
-ghost use Rattle.sccp_tool.specs.Ending.{Works};
+ghost use Rattle.sccp_work.specs.Ending.{Works};
 ghost use Rattle.sccp_tool.specs.Import.{import_words, import_of, import_answer, trace_work, import_work};
-ghost use Rattle.sccp_tool.specs.Moment.{moment};
+ghost use Rattle.sccp_work.specs.Moment.{moment};
 ghost use Rattle.sccp_tool.specs.Parsed.{task_in};
 
 use crate::command::Command;
-use crate::limit::within_limit;
-use crate::line_fault::bad_line;
-use crate::opened::Opened;
-use crate::plans::with_plan;
-use crate::status::Status;
-use crate::stop::Stop;
-use crate::writing::print_last;
 use m3ua_trace::ImportError;
 use plan_model::Plan;
 use sccp_io::{Files, Sink};
+use sccp_work::{Opened, Status, Stop, bad_line, print_last, with_plan, within_limit};
 use std::alloc::{AllocError, Global};
 use trace_text::is_file_name;
 

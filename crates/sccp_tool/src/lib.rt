@@ -14,42 +14,20 @@
 //! passes on the words.
 #![tactic(auto)]
 
-mod alone;
-mod batch;
 mod change;
 mod command;
 mod connect;
-mod crew;
 mod cuts;
-mod gathered;
 mod import;
-mod joined;
-mod later_lines;
-mod limit;
-mod line_fault;
 mod load;
-mod opened;
-mod plans;
 mod program;
-mod reading;
 mod replay;
-mod replayer;
 mod route;
-mod router;
 mod send_on;
-mod settle;
-mod settled;
 mod show;
 mod show_hex;
 mod start;
-mod status;
-mod stop;
-mod taking;
-mod tell;
-mod tracing;
 mod verify;
-mod workers;
-mod writing;
 
 pub use program::{run, run_gated};
-pub use status::Status;
+pub use sccp_work::Status;

@@ -2,21 +2,18 @@
 ghost use Rattle.std.specs.Prelude.{◌≡◌, ◌<◌, IfOk, length};
 ghost use Rattle.plan_model.specs.Network.{IsPlan};
 ghost use Rattle.sccp_tool.specs.Commands.{texts};
-ghost use Rattle.sccp_tool.specs.Ending.{Works};
-ghost use Rattle.sccp_tool.specs.Moment.{moment};
+ghost use Rattle.sccp_work.specs.Ending.{Works};
+ghost use Rattle.sccp_work.specs.Moment.{moment};
 ghost use Rattle.sccp_tool.specs.Parsed.{task_in};
 ghost use Rattle.sccp_tool.specs.Route.{route_words, route_of, unmarked, hops_from, spot_at, route_text, route_work};
 
 use crate::command::Command;
-use crate::plans::with_plan;
 use crate::start::{Start, start_of};
-use crate::status::Status;
-use crate::stop::Stop;
-use crate::writing::print_last;
 use plan_model::{Plan, Spot};
 use sccp_base::{Marking, Octets, OutOfMemory};
 use sccp_io::{Files, Sink};
 use sccp_report::hops_text;
+use sccp_work::{Status, Stop, print_last, with_plan};
 use std::alloc::Global;
 use trace_text::is_file_name;
 

@@ -12,23 +12,20 @@ ghost use Rattle.sccp_report.specs.Values.{numbered, point_code_text};
 ghost use Rattle.sccp_scrc.specs.Arriving.{arrival};
 ghost use Rattle.sccp_scrc.specs.Unitdata.{called_of};
 ghost use Rattle.sccp_tool.specs.Commands.{texts};
-ghost use Rattle.sccp_tool.specs.Ending.{Works};
-ghost use Rattle.sccp_tool.specs.Moment.{moment};
+ghost use Rattle.sccp_work.specs.Ending.{Works};
+ghost use Rattle.sccp_work.specs.Moment.{moment};
 ghost use Rattle.sccp_tool.specs.Parsed.{task_in};
 ghost use Rattle.sccp_tool.specs.SendOn.{IsOfOctets, arrival_lines, connection_line, first_line, incoming_of, leaving_lines, send_on_of, send_on_text, send_on_words, send_on_work, size_of, to_line, type_line, uncut_lines};
 
 use crate::command::Command;
-use crate::plans::with_plan;
 use crate::route::UNKNOWN_NODE;
-use crate::status::Status;
-use crate::stop::Stop;
-use crate::writing::print_last;
 use long_segments::LongFault;
 use plan_model::Plan;
 use sccp_base::{Marking, Name, Octets, OutOfMemory, PointCode, Reference, cut, decimal};
 use sccp_io::{Files, Sink};
 use sccp_report::{Text, message_text};
 use sccp_scrc::{Arrival, arrive};
+use sccp_work::{Status, Stop, print_last, with_plan};
 use std::alloc::Global;
 use trace_text::{is_file_name, octets_of};
 

@@ -2,22 +2,17 @@
 ghost use Rattle.std.specs.Prelude.{◌≡◌, ◌≤◌, IfOk, OnOk};
 ghost use Rattle.trace_text.specs.Lines.{lines_of, text_line};
 ghost use Rattle.sccp_tool.specs.Commands.{texts};
-ghost use Rattle.sccp_tool.specs.Ending.{Works};
-ghost use Rattle.sccp_tool.specs.Moment.{moment};
+ghost use Rattle.sccp_work.specs.Ending.{Works};
+ghost use Rattle.sccp_work.specs.Moment.{moment};
 ghost use Rattle.sccp_tool.specs.Parsed.{task_in};
 ghost use Rattle.sccp_tool.specs.Show.{show_words, show_work, shown_content, shown_line, shown_lines, show_answer, Gives};
 ghost use Rattle.sccp_tool.specs.declared.show.ShowError.TheVariants.{Memory};
 
 use crate::command::Command;
-use crate::limit::within_limit;
-use crate::line_fault::bad_line;
-use crate::opened::Opened;
-use crate::status::Status;
-use crate::stop::Stop;
-use crate::writing::print_last;
 use sccp_base::OutOfMemory;
 use sccp_io::{Files, Sink};
 use sccp_report::message_text;
+use sccp_work::{Opened, Status, Stop, bad_line, print_last, within_limit};
 use std::alloc::{AllocError, Global};
 use trace_text::{LineFault, LineKind, content, first_line, is_file_name, octets_of};
 

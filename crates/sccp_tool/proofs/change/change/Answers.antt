@@ -1,10 +1,10 @@
 use Rattle.std.proofs.Common.{Err, refl}
 use Rattle.std.proofs.lemmas.Result.{err_from_is_err_and}
 use Rattle.sccp_tool.specs.Change.{old_word, new_word, with_accepted, mixed_work}
-use Rattle.sccp_tool.specs.Moment.{Moment, moment}
-use Rattle.sccp_tool.specs.declared.stop.Stop.TheVariants.{Memory}
+use Rattle.sccp_work.specs.Moment.{Moment, moment}
+use Rattle.sccp_work.specs.declared.stop.Stop.TheVariants.{Memory}
 use Rattle.sccp_tool.proofs.ChangeLemmas.{Works-mixed}
-use Rattle.sccp_tool.proofs.WorkLemmas.{Works-memory}
+use Rattle.sccp_work.proofs.WorkLemmas.{Works-memory}
 use Rattle.sccp_tool.proofs.change.change.Goals as goal
 
 pub returns-in-Err : goal.returns-in-Err

@@ -6,13 +6,13 @@ use Rattle.plan_model.specs.Network.{Network}
 use Rattle.plan_verify.specs.Lawful.{plan_of as judged_plan}
 use Rattle.plan_verify.specs.declared.verdict.Verdict.{Verdict}
 use Rattle.sccp_tool.specs.Change.{plan_told, accepted_on, read_on_plan}
-use Rattle.sccp_tool.specs.Ending.{Works, early}
-use Rattle.sccp_tool.specs.Moment.{Moment, moment}
-use Rattle.sccp_tool.specs.Work.{answered}
-use Rattle.sccp_tool.specs.declared.status.Status.TheVariants.{Refused, TooWide}
-use Rattle.sccp_tool.specs.declared.stop.Stop.TheVariants.{Memory}
+use Rattle.sccp_work.specs.Ending.{Works, early}
+use Rattle.sccp_work.specs.Moment.{Moment, moment}
+use Rattle.sccp_work.specs.Work.{answered}
+use Rattle.sccp_work.specs.declared.status.Status.TheVariants.{Refused, TooWide}
+use Rattle.sccp_work.specs.declared.stop.Stop.TheVariants.{Memory}
 use Rattle.sccp_tool.proofs.ChangeLemmas.{Works-accepted, Works-untold, Works-unaccepted, Works-unread}
-use Rattle.sccp_tool.proofs.WorkLemmas.{Works-memory}
+use Rattle.sccp_work.proofs.WorkLemmas.{Works-memory}
 use Rattle.sccp_tool.proofs.change.with_accepted.Goals as goal
 
 pub returns-in_err-verdict-in-Ok : goal.returns-in_err-verdict-in-Ok

@@ -3,10 +3,10 @@ use Rattle.std.proofs.lemmas.Result.{err_from_is_err_and}
 use Rattle.plan_model.specs.Network.{IsPlan}
 use Rattle.plan_verify.specs.Lawful.{IsLawful, plan_of}
 use Rattle.sccp_tool.specs.Connect.{connect_judged, connected}
-use Rattle.sccp_tool.specs.Moment.{Moment, moment}
-use Rattle.sccp_tool.specs.declared.stop.Stop.TheVariants.{Memory}
+use Rattle.sccp_work.specs.Moment.{Moment, moment}
+use Rattle.sccp_work.specs.declared.stop.Stop.TheVariants.{Memory}
 use Rattle.sccp_tool.proofs.ConnectLemmas.{Works-connected}
-use Rattle.sccp_tool.proofs.WorkLemmas.{Works-memory}
+use Rattle.sccp_work.proofs.WorkLemmas.{Works-memory}
 use Rattle.sccp_tool.proofs.connect.connect.Goals as goal
 
 pub returns-in_err-verdict : goal.returns-in_err-verdict

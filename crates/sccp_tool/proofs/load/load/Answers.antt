@@ -1,6 +1,6 @@
 use Rattle.std.proofs.Common.{refl, subst}
-use Rattle.sccp_tool.specs.Moment.{Moment}
-use Rattle.sccp_tool.specs.Work.{IsJudged}
+use Rattle.sccp_work.specs.Moment.{Moment}
+use Rattle.sccp_work.specs.Work.{IsJudged}
 use Rattle.sccp_tool.proofs.LoadLemmas.{Works-loaded}
 use Rattle.sccp_tool.proofs.load.load.Goals as goal
 

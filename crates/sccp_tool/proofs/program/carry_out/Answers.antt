@@ -1,10 +1,10 @@
 use Rattle.std.proofs.Common.{refl}
 use Rattle.sccp_tool.specs.Commands.{task_of, texts}
-use Rattle.sccp_tool.specs.Moment.{Moment, moment}
+use Rattle.sccp_work.specs.Moment.{Moment, moment}
 use Rattle.sccp_tool.specs.Run.{work_of}
 use Rattle.sccp_tool.specs.Texts.{usage}
-use Rattle.sccp_tool.specs.declared.status.Status.TheVariants.{Usage}
-use Rattle.sccp_tool.proofs.WorkLemmas.{Works-answered, Works-memory}
+use Rattle.sccp_work.specs.declared.status.Status.TheVariants.{Usage}
+use Rattle.sccp_work.proofs.WorkLemmas.{Works-answered, Works-memory}
 use Rattle.sccp_tool.proofs.program.carry_out.Goals as goal
 
 pub returns-in-Ok-None : goal.returns-in-Ok-None

@@ -1,11 +1,11 @@
 use Rattle.std.proofs.Common.{refl, Option}
 use Rattle.sccp_tool.specs.Commands.{task_of, texts}
-use Rattle.sccp_tool.specs.Ending.{Outcome}
-use Rattle.sccp_tool.specs.Moment.{Moment, moment}
+use Rattle.sccp_work.specs.Ending.{Outcome}
+use Rattle.sccp_work.specs.Moment.{Moment, moment}
 use Rattle.sccp_tool.specs.Run.{work_of}
 use Rattle.sccp_tool.specs.Task.{Task}
 use Rattle.sccp_tool.proofs.RunLemmas.{answer_told, journeys_told, done_cause, refused_cause, wide_cause, usage_cause, bad_plan_cause, bad_line_cause, long_cause, other_nodes_cause, read_cause, write_cause, sound_cause, named_cause}
-use Rattle.sccp_tool.proofs.WorkLemmas.{Outcome-closed}
+use Rattle.sccp_work.proofs.WorkLemmas.{Outcome-closed}
 use Rattle.sccp_tool.proofs.program.run_gated.Goals as goal
 
 pub returns : goal.returns

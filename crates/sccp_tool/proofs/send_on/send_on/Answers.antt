@@ -1,11 +1,11 @@
 use Rattle.std.proofs.Common.{Err}
 use Rattle.std.proofs.lemmas.Result.{err_from_is_err_and}
-use Rattle.sccp_tool.specs.Moment.{Moment, moment}
+use Rattle.sccp_work.specs.Moment.{Moment, moment}
 use Rattle.sccp_tool.specs.SendOn.{send_on_text}
-use Rattle.sccp_tool.specs.Work.{answered}
-use Rattle.sccp_tool.specs.declared.status.Status.TheVariants.{Done}
-use Rattle.sccp_tool.specs.declared.stop.Stop.TheVariants.{Memory}
-use Rattle.sccp_tool.proofs.WorkLemmas.{Works-memory}
+use Rattle.sccp_work.specs.Work.{answered}
+use Rattle.sccp_work.specs.declared.status.Status.TheVariants.{Done}
+use Rattle.sccp_work.specs.declared.stop.Stop.TheVariants.{Memory}
+use Rattle.sccp_work.proofs.WorkLemmas.{Works-memory}
 use Rattle.sccp_tool.proofs.send_on.send_on.Goals as goal
 
 pub returns-in_err-text : goal.returns-in_err-text

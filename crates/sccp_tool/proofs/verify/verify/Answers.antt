@@ -3,11 +3,11 @@ use Rattle.std.proofs.lemmas.Result.{err_from_is_err_and}
 use Rattle.plan_model.specs.Network.{IsPlan}
 use Rattle.plan_verify.specs.Lawful.{IsLawful, plan_of}
 use Rattle.sccp_report.specs.Verdicts.{verdict_text}
-use Rattle.sccp_tool.specs.Moment.{Moment, moment}
-use Rattle.sccp_tool.specs.Verify.{status_of}
-use Rattle.sccp_tool.specs.declared.stop.Stop.TheVariants.{Memory}
-use Rattle.sccp_tool.proofs.VerifyLemmas.{judged_work, Works-verdict}
-use Rattle.sccp_tool.proofs.WorkLemmas.{Works-memory}
+use Rattle.sccp_work.specs.Moment.{Moment, moment}
+use Rattle.sccp_work.specs.Verdict.{status_of}
+use Rattle.sccp_work.specs.declared.stop.Stop.TheVariants.{Memory}
+use Rattle.sccp_work.proofs.VerdictLemmas.{judged_work, Works-verdict}
+use Rattle.sccp_work.proofs.WorkLemmas.{Works-memory}
 use Rattle.sccp_tool.proofs.verify.verify.Goals as goal
 
 pub returns-in_err-verdict : goal.returns-in_err-verdict

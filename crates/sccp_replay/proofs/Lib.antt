@@ -1,0 +1,20 @@
+mod Accounting
+mod BatchSteps
+mod CrewSteps
+mod Fed
+mod Gathering
+mod LaterSteps
+pub mod ReplayAnswers
+pub mod ReplayCauses
+pub mod ReplayFiles
+pub mod ReplayTold
+mod ReplayerLemmas
+mod SettleSteps
+mod Settling
+mod Skipping
+mod Streaming
+mod TakeSteps
+mod TellSteps
+mod Telling
+mod TraceOctets
+mod TraceSteps

@@ -1,0 +1,12 @@
+pub mod Account
+pub mod Gathering
+pub mod LaterPlans
+pub mod Replay
+pub mod ReplayEnds
+pub mod Replayers
+pub mod Replaying
+pub mod Routers
+pub mod Routings
+pub mod Settling
+pub mod Trace
+pub mod Workers

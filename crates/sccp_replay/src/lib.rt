@@ -1,0 +1,25 @@
+//! A trace of traffic and failures that is replayed over the relays of a plan (ITU-T Q.714 sections 2 to 5), batch by batch, by
+//! one worker or several, while later plans of the trace are judged and published.
+//!
+//! The crate above may rely on this: what a replay reads, prints and answers is its work (`replay_work`, `specs/Replay`), whatever
+//! the number of workers. `specs/Account` says in a reader's words what its text contains.
+#![tactic(auto)]
+
+mod alone;
+mod batch;
+mod crew;
+mod gathered;
+mod joined;
+mod later_lines;
+mod replay;
+mod replayer;
+mod router;
+mod settle;
+mod settled;
+mod taking;
+mod tell;
+mod tracing;
+mod workers;
+
+pub use replay::replay;
+pub use workers::Workers;

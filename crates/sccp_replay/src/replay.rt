@@ -1,0 +1,97 @@
+//! The command that replays a trace over the relays of a plan.
+ghost use Rattle.plan_model.specs.Network.{IsPlan};
+ghost use Rattle.plan_verify.specs.Lawful.{IsLawful, plan_of};
+ghost use Rattle.sccp_work.specs.Ending.{Works};
+ghost use Rattle.sccp_replay.specs.LaterPlans.{first_plan_line};
+ghost use Rattle.sccp_work.specs.Moment.{moment};
+ghost use Rattle.sccp_replay.specs.Replay.{replay_work, replayed, start, trace_work};
+ghost use Rattle.sccp_replay.specs.Trace.{trace_of};
+ghost use Rattle.sccp_work.specs.Work.{print, read};
+
+use crate::later_lines::first_plan_line;
+use crate::replayer::Replayer;
+use crate::tracing::replay_trace;
+use crate::workers::Workers;
+use live_plan::Gate;
+use plan_check::Accepted;
+use plan_verify::Verdict;
+use sccp_io::{Files, Sink};
+use sccp_work::{Status, Stop, put_all, tell_verdict, with_plan};
+use std::alloc::Global;
+use std::sync::Wait;
+use std::thread::Threads;
+
+/// Replays the trace of the second file under the plan of the first one, with this number of workers.
+#[tactic(auto, unfolding(crate::specs::Replay::replay_work))]
+pub fn replay<R: Threads + Wait + Sync, G: Gate + Sync, F: Files, K: Sink>(
+    rt: &R,
+    gate: &G,
+    alloc: Global,
+    plan: &str,
+    trace: &str,
+    workers: &Workers,
+    files: &mut F,
+    out: &mut K,
+) -> Result<Status, Stop>
+    ensures { Works (replay_work plan.now trace.now workers.now.count) result
+        (moment F.contents F.sound F.faults K.taken K.faults files.old out.old)
+        (moment F.contents F.sound F.faults K.taken K.faults files.new out.new) }
+{
+    let first = with_plan(alloc, plan, files, out)?;
+    let verdict = plan_verify::verify(alloc, first)?;
+    replay_judged(rt, gate, alloc, verdict, plan, trace, workers, files, out)
+}
+
+/// Does what follows the verdict on the first plan.
+fn replay_judged<R: Threads + Wait + Sync, G: Gate + Sync, F: Files, K: Sink>(
+    rt: &R,
+    gate: &G,
+    alloc: Global,
+    verdict: Verdict,
+    plan: &str,
+    trace: &str,
+    workers: &Workers,
+    files: &mut F,
+    out: &mut K,
+) -> Result<Status, Stop>
+    requires plan { IsPlan (plan_of verdict) }
+    requires lawful { IsLawful (plan_of verdict) verdict }
+    ensures { Works (replayed plan.now trace.now workers.now.count (plan_of verdict) verdict) result
+        (moment F.contents F.sound F.faults K.taken K.faults files.old out.old)
+        (moment F.contents F.sound F.faults K.taken K.faults files.new out.new) }
+{
+    match verdict {
+        Verdict::Accepted(accepted) => replay_accepted(
+            rt, gate, alloc, accepted, plan, trace, workers, files, out,
+        ),
+        other => {
+            let told = tell_verdict(alloc, &other, out);
+            drop(other);
+            told
+        }
+    }
+}
+
+/// Writes the line of the first plan, which was accepted, and replays the trace.
+fn replay_accepted<R: Threads + Wait + Sync, G: Gate + Sync, F: Files, K: Sink>(
+    rt: &R,
+    gate: &G,
+    alloc: Global,
+    accepted: Accepted,
+    plan: &str,
+    trace: &str,
+    workers: &Workers,
+    files: &mut F,
+    out: &mut K,
+) -> Result<Status, Stop>
+    ensures { Works (print (first_plan_line plan.now accepted.bound) (read trace.now (λ octets. trace_work (start workers.now.count accepted.plan) (trace_of octets)))) result
+        (moment F.contents F.sound F.faults K.taken K.faults files.old out.old)
+        (moment F.contents F.sound F.faults K.taken K.faults files.new out.new) }
+{
+    let line = first_plan_line(alloc, plan, &accepted)?;
+    put_all(out, line.as_slice())?;
+    let mut at = Replayer::new(rt, alloc, accepted, workers.count())?;
+    let answered = replay_trace(rt, gate, alloc, &mut at, trace, files, out);
+    at.end(rt);
+    answered
+}

@@ -1,0 +1,187 @@
+//! A trace that is read and replayed in pieces.
+ghost use Rattle.std.specs.Prelude.{◌≡◌, ◌+◌, ◌≤◌, ◌++◌, [], length, IfOk, OnOk};
+ghost use Rattle.sccp_work.specs.Ending.{Works};
+ghost use Rattle.sccp_replay.specs.Gathering.{IsCounted, MayBeDone, lines_in};
+ghost use Rattle.sccp_work.specs.Moment.{moment};
+ghost use Rattle.sccp_replay.specs.Replay.{closing_of, end_line, lines_work, trace_work};
+ghost use Rattle.sccp_replay.specs.Replaying.{IsFed, rest_work};
+ghost use Rattle.sccp_replay.specs.Settling.{TakesLines};
+ghost use Rattle.sccp_replay.specs.Trace.{trace_of};
+ghost use Rattle.sccp_work.specs.Work.{read};
+
+use crate::batch::batch_text;
+use crate::gathered::Gathered;
+use crate::replayer::Replayer;
+use crate::taking::take_lines;
+use live_plan::Gate;
+use sccp_base::{List, OutOfMemory};
+use sccp_io::{Files, Sink};
+use sccp_report::Text;
+use sccp_work::{Status, Stop, bad_line, print_last, stopped};
+use std::alloc::Global;
+use std::sync::Wait;
+use std::thread::Threads;
+use trace_text::{LineFault, Numbered, Reader};
+
+/// How many octets are taken at a time.
+const PIECE: usize = 4096;
+
+/// More than the octets of any trace: before that number is read, a line is too long or there is one too many.
+const MOST_PIECES: u64 = 8_200_000_000;
+
+#[tactic(auto, unfolding(crate::specs::Replay::end_line))]
+fn put_end(text: &mut Text, count: usize) -> Result<(), OutOfMemory>
+    ensures { OnOk result (text.new ≡ text.old ++ end_line count) }
+{
+    text.put_counted(b"end ", count)?;
+    text.put(b"\n")
+}
+
+/// Appends the last line: how many lines the trace has, or the fault of the line after them.
+fn put_closing(
+    alloc: Global,
+    text: &mut Text,
+    count: usize,
+    fault: Option<LineFault>,
+) -> Result<Status, OutOfMemory>
+    ensures text { OnOk result (text.new ≡ text.old ++ (closing_of count fault).1) }
+    ensures status { IfOk result (λ s. s ≡ (closing_of count fault).0) }
+{
+    match fault {
+        None => {
+            put_end(text, count)?;
+            Ok(Status::Done)
+        }
+        Some(fault) => {
+            text.put(&bad_line(alloc, fault)?)?;
+            Ok(Status::BadTrace)
+        }
+    }
+}
+
+/// Does the last batch, and writes its text with the last line.
+#[tactic(auto, using(crate::proofs::TakeSteps::closing_stopped, crate::proofs::TakeSteps::closing_memory, crate::proofs::TakeSteps::closing_written))]
+fn write_last<R: Threads + Wait + Sync, G: Gate + Sync, F: Files, K: Sink>(
+    rt: &R,
+    gate: &G,
+    alloc: Global,
+    at: &mut Replayer,
+    batch: &mut Gathered,
+    count: usize,
+    fault: Option<LineFault>,
+    files: &mut F,
+    out: &mut K,
+) -> Result<Status, Stop>
+    requires joined { MayBeDone at.old batch.old }
+    ensures { Works (lines_work (closing_of count fault) at.old (lines_in batch.old) []) result
+        (moment F.contents F.sound F.faults K.taken K.faults files.old out.old)
+        (moment F.contents F.sound F.faults K.taken K.faults files.new out.new) }
+{
+    let mut text = batch_text(rt, gate, alloc, at, batch.take(alloc), files, out)?;
+    let status = put_closing(alloc, &mut text, count, fault)?;
+    print_last(out, text.into_octets().as_slice(), status)
+}
+
+/// Takes the lines that a reader gave, and counts them.
+#[tactic(auto, using(crate::proofs::Gathering::may_take, crate::proofs::Gathering::counted))]
+fn take_told<R: Threads + Wait + Sync, G: Gate + Sync, F: Files, K: Sink>(
+    rt: &R,
+    gate: &G,
+    alloc: Global,
+    at: &mut Replayer,
+    batch: &mut Gathered,
+    count: usize,
+    lines: List<Numbered>,
+    files: &mut F,
+    out: &mut K,
+) -> Result<usize, Stop>
+    requires begun { IsCounted count at.old batch.old }
+    requires few { count + length lines ≤ 1000000 }
+    ensures takes { TakesLines at.old (lines_in batch.old) lines result at.new (lines_in batch.new)
+        (moment F.contents F.sound F.faults K.taken K.faults files.old out.old)
+        (moment F.contents F.sound F.faults K.taken K.faults files.new out.new) }
+    ensures count { IfOk result (λ n. n ≡ count + length lines) }
+    ensures begun { IfOk result (λ n. IsCounted n at.new batch.new) }
+    ensures left { F.left files.new ≡ F.left files.old }
+{
+    let more = count + lines.as_slice().len();
+    take_lines(rt, gate, alloc, at, batch, lines, files, out)?;
+    Ok(more)
+}
+
+/// Takes the end of the trace: its last line, if no line feed ends it, and what is written then.
+#[tactic(auto, using(crate::proofs::TakeSteps::last_taken, crate::proofs::TakeSteps::last_stopped, crate::proofs::TakeSteps::works_memory))]
+fn take_end<R: Threads + Wait + Sync, G: Gate + Sync, F: Files, K: Sink>(
+    rt: &R,
+    gate: &G,
+    alloc: Global,
+    at: &mut Replayer,
+    batch: &mut Gathered,
+    reader: &mut Reader,
+    count: usize,
+    files: &mut F,
+    out: &mut K,
+) -> Result<Status, Stop>
+    requires begun { IsCounted count at.old batch.old }
+    requires fed { IsFed reader.old count 0 }
+    ensures { Works (rest_work count at.old (lines_in batch.old) [] reader.old []) result
+        (moment F.contents F.sound F.faults K.taken K.faults files.old out.old)
+        (moment F.contents F.sound F.faults K.taken K.faults files.new out.new) }
+{
+    let fed = reader.finish()?;
+    let count = take_told(rt, gate, alloc, at, batch, count, fed.lines, files, out)?;
+    write_last(rt, gate, alloc, at, batch, count, fed.fault, files, out)
+}
+
+/// Replays the trace of a file: its lines in batches, each written as soon as it is done. No later plan was accepted yet.
+pub fn replay_trace<R: Threads + Wait + Sync, G: Gate + Sync, F: Files, K: Sink>(
+    rt: &R,
+    gate: &G,
+    alloc: Global,
+    at: &mut Replayer,
+    name: &str,
+    files: &mut F,
+    out: &mut K,
+) -> Result<Status, Stop>
+    requires none { at.old.later ≡ [] }
+    ensures { Works (read name.now (λ octets. trace_work at.old (trace_of octets))) result
+        (moment F.contents F.sound F.faults K.taken K.faults files.old out.old)
+        (moment F.contents F.sound F.faults K.taken K.faults files.new out.new) }
+{
+    if let Err(fault) = files.begin(name) {
+        return Err(stopped(fault));
+    }
+    let mut reader = Reader::new(alloc);
+    let mut batch = Gathered::new(alloc);
+    let mut count = 0;
+    let mut piece = [0u8; PIECE];
+    for _turn in 0..MOST_PIECES {
+        let taken = match files.take(&mut piece) {
+            Ok(taken) => taken,
+            Err(fault) => return Err(stopped(fault)),
+        };
+        if taken == 0 {
+            return take_end(
+                rt,
+                gate,
+                alloc,
+                at,
+                &mut batch,
+                &mut reader,
+                count,
+                files,
+                out,
+            );
+        }
+        let fed = reader.feed(&piece[..taken])?;
+        count = take_told(
+            rt, gate, alloc, at, &mut batch, count, fed.lines, files, out,
+        )?;
+        if fed.fault.is_some() {
+            return write_last(
+                rt, gate, alloc, at, &mut batch, count, fed.fault, files, out,
+            );
+        }
+    }
+    unreachable!()
+}

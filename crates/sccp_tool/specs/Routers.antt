@@ -1,8 +1,0 @@
--- Who routes, as the code keeps it.
-use Rattle.sccp_tool.specs.Routings.{Routing}
-use Rattle.sccp_tool.specs.declared.router.Router.{Router}
-use Rattle.sccp_tool.specs.declared.router.Router.TheVariants.{Alone, Crew}
-
-abbrev pub routing_of : Router → Routing
-routing_of (Alone alone) = alone
-routing_of (Crew crew) = crew

@@ -1,0 +1,9 @@
+pub mod Finishing
+pub mod LimitLemmas
+pub mod PlanLemmas
+pub mod ReadingLemmas
+mod RoseLemmas
+pub mod Through
+pub mod VerdictLemmas
+pub mod WorkLemmas
+mod WritingLemmas

@@ -1,0 +1,13 @@
+pub mod Ending
+pub mod Limit
+pub mod LineFault
+pub mod Moment
+pub mod Numbers
+pub mod Opened
+pub mod Plans
+pub mod Reading
+pub mod Status
+pub mod Texts
+pub mod Verdict
+pub mod Work
+pub mod Writing

@@ -1,0 +1,26 @@
+//! What every command of the program is made of: its work as one value, the files that it reads whole, the plan that it reads
+//! first, the verdict on that plan, the text that it writes, and what ends it early.
+//!
+//! The crates above may rely on this: what a command does is its `Work` (`specs/Work`), and a call of this crate says how work
+//! goes on from what the call gave, or how it has ended. A file that a command needs whole has at most 1,048,576 octets.
+#![tactic(auto)]
+
+mod limit;
+mod line_fault;
+mod opened;
+mod plans;
+mod reading;
+mod status;
+mod stop;
+mod verdict;
+mod writing;
+
+pub use limit::within_limit;
+pub use line_fault::bad_line;
+pub use opened::Opened;
+pub use plans::{bad_plan, with_plan};
+pub use reading::stopped;
+pub use status::Status;
+pub use stop::{Stop, early};
+pub use verdict::{lawful_text, plan_of, tell_verdict};
+pub use writing::{print_last, put_all};

@@ -1,0 +1,38 @@
+//! A file that a command needs whole.
+ghost use Rattle.std.specs.Prelude.{◌≡◌};
+ghost use Rattle.sccp_work.specs.Limit.{GivesWhole};
+ghost use Rattle.sccp_work.specs.Moment.{moment};
+ghost use Rattle.sccp_work.specs.Opened.{other};
+
+use crate::opened::Opened;
+use crate::reading::read_whole;
+use crate::status::Status;
+use crate::stop::{Stop, early};
+use crate::writing::print_last;
+use sccp_io::{Files, Sink};
+use std::alloc::Global;
+
+const TOO_LONG: &[u8] = b"too long\n";
+
+/// How many octets a file may have that a command needs whole.
+const LONGEST_FILE: usize = 1_048_576;
+
+/// Reads a whole file. For one that is too long a line is printed, and that is the answer of the command.
+pub fn within_limit<F: Files, K: Sink>(
+    alloc: Global,
+    which: Opened,
+    name: &str,
+    files: &mut F,
+    out: &mut K,
+) -> Result<Vec<u8>, Stop>
+    ensures whole { GivesWhole name.now result
+        (moment F.contents F.sound F.faults K.taken K.faults files.old out.old)
+        (moment F.contents F.sound F.faults K.taken K.faults files.new out.new) }
+    // What is left of the other file stays.
+    ensures other { other which (F.left files.new) (F.left_beside files.new) ≡ other which (F.left files.old) (F.left_beside files.old) }
+{
+    match read_whole(alloc, files, which, name, LONGEST_FILE)? {
+        Some(octets) => Ok(octets),
+        None => Err(early(print_last(out, TOO_LONG, Status::TooLong))),
+    }
+}
