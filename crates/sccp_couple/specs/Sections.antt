@@ -3,7 +3,7 @@ use Rattle.std.specs.Prelude.{ℕ, ◌==◌, ◌+◌, Bool, true, false, not, �
 use Rattle.std.specs.List.{list_any, range_with_len}
 use Rattle.sccp_couple.specs.declared.section.Section.{Section}
 
--- the value is there, and is this one
+-- there is a value, and it is this one
 abbrev pub is_that : Option ℕ → ℕ → Bool
 is_that None n = false
 is_that (Some m) n = m == n
@@ -12,15 +12,15 @@ is_that (Some m) n = m == n
 abbrev pub section_at : List Section → ℕ → Option Section
 section_at sections own = find (λ s. s.own == own) sections
 
--- a section, where its point is this one
+-- a section, if its point is this one
 abbrev pub if_from : ℕ → Section → Option Section
 if_from origin s = if s.point == origin then Some s else None
 
--- the section that a message from this point with this destination local reference is known to
+-- the section to which a message from this point with this destination local reference belongs
 abbrev pub known : List Section → ℕ → ℕ → Option Section
 known sections origin dlr = option_and_then (if_from origin) (section_at sections dlr)
 
--- the other section of one
+-- the section that this one is coupled with
 abbrev pub other_of : List Section → Section → Option Section
 other_of sections s = option_and_then (section_at sections) s.other
 
@@ -44,7 +44,7 @@ change f own s = if s.own == own then f s else s
 abbrev pub changed : (Section → Section) → ℕ → List Section → List Section
 changed f own sections = map (change f own) sections
 
--- its remote reference is known
+-- its remote reference becomes known
 abbrev pub confirmed : ℕ → Section → Section
 confirmed remote s = record s { remote = Some remote }
 
@@ -67,7 +67,7 @@ without_other (Some own) sections = without own sections
 abbrev pub without_both : Section → List Section → List Section
 without_both s sections = without_other s.other (without s.own sections)
 
--- the numbers from 1 that no section has, in order, as far as two are surely among them
+-- the numbers from 1 that no section has, in order, far enough to include two of them
 abbrev pub is_unused : List Section → ℕ → Bool
 is_unused sections n = not (list_any (λ s. s.own == n) sections)
 
