@@ -1,4 +1,4 @@
--- A connection over several relays: the pairs that it goes through, and what entered and left them.
+-- A connection over several relays: the pairs that it goes through, and the data that entered and left them.
 use Rattle.std.specs.Prelude.{◌≡◌, ℕ, zero, suc, ◌≤◌, Bool, true, false, not, ◌&&◌, ◌==◌, if◌then◌else◌, List, [], ◌∷◌, ◌++◌, length, map, filter, find, filter_map, flat_map, Option, Some, None, option_and_then}
 use Rattle.std.specs.List.{list_any, list_all}
 use Rattle.sccp_message.specs.declared.message.Message.{Message}
@@ -8,7 +8,7 @@ use Rattle.sccp_couple.specs.Events.{Piece, Data, data_of}
 use Rattle.sccp_couple.specs.Runs.{Pair, Moment}
 use Rattle.couple_chain.specs.World.{Network, is_node, World}
 
--- a standing pair of a relay, with its two sections
+-- a pair that a relay has at this moment, with its two sections
 pub record Leg : Type 0 where
   pub node : ℕ
   pub pair : Pair
@@ -30,11 +30,11 @@ is_from sections point remote (Some near) = is_near_of point remote near
 abbrev pub starts_at : Moment → ℕ → ℕ → Pair → Bool
 starts_at m point remote pair = pair.stands && is_from m.sections point remote (section_at m.sections pair.near)
 
--- the relay's standing pair whose near section has this point and remote
+-- the pair of the relay whose near section has this point and remote
 abbrev pub leg_from : World → ℕ → ℕ → ℕ → Option Leg
 leg_from w point remote node = option_and_then (leg_of (w.moments node) node) (find (starts_at (w.moments node) point remote) (w.moments node).pairs)
 
--- the first of the relays that has one
+-- the leg of the first relay that has one
 abbrev pub or_else : Option Leg → Option Leg → Option Leg
 or_else (Some leg) later = Some leg
 or_else None later = later
@@ -43,7 +43,8 @@ abbrev pub first_leg : World → ℕ → ℕ → List ℕ → Option Leg
 first_leg w point remote [] = None
 first_leg w point remote (node ∷ nodes) = or_else (leg_from w point remote node) (first_leg w point remote nodes)
 
--- the leg that comes after one: of the relay that its far section has as its point, the one whose near section has this relay's point and the far section's own reference
+-- The leg after one, at the relay that is its far section's point. Its near section has the first relay's point, and the far
+-- section's own reference.
 abbrev pub next_leg : World → Leg → Option Leg
 next_leg w leg = leg_from w leg.node leg.far.own leg.far.point
 
@@ -54,7 +55,8 @@ before leg (Some legs) = Some (leg ∷ legs)
 abbrev pub if_joined : Leg → Leg → Option Leg
 if_joined leg next = if is_that leg.far.remote next.near.own then Some next else None
 
--- The legs from one on, at most as many as the number: all established, each far section's remote the next near section's own reference, and behind the last one an end.
+-- The legs that follow from one, at most `most` of them. All are established, and each far section's remote is the next near
+-- section's own reference. After the last one there is an end.
 abbrev pub legs_from : Network → World → ℕ → Option Leg → Option (List Leg)
 legs_from network w most None = None
 legs_from network w zero (Some leg) = None
@@ -64,11 +66,12 @@ legs_from network w (suc most) (Some leg) =
     then before leg (legs_from network w most (option_and_then (if_joined leg) (next_leg w leg)))
     else Some (leg ∷ [])
 
+-- the legs of the line from an end's point with the reference that it gave; there are at most 15
 abbrev pub legs : Network → World → ℕ → ℕ → Option (List Leg)
 legs network w point remote =
     if is_node network point then None else legs_from network w 15 (first_leg w point remote network.nodes)
 
--- the DT1 of these messages that have this DLR: M and data
+-- the DT1 of these messages that have this DLR, as M bit and data
 abbrev pub piece_if_for : Option ℕ → Option Data → Option Piece
 piece_if_for dlr None = None
 piece_if_for dlr (Some d) = if is_that dlr d.dlr then Some d.piece else None
@@ -79,7 +82,7 @@ piece_for dlr message = piece_if_for dlr (data_of message)
 abbrev pub pieces_for : Option ℕ → List Message → List Piece
 pieces_for dlr messages = filter_map (piece_for dlr) messages
 
--- A connection over several relays. What was handed to an end is what its link delivered.
+-- A connection over several relays. What an end was handed is what its link delivered.
 pub record Line : Type 0 where
   pub path : List ℕ
   pub end_point : ℕ
@@ -88,6 +91,7 @@ pub record Line : Type 0 where
   pub back_in : List Piece
   pub back_out : List Piece
 
+-- the last leg of a list that is not empty
 abbrev pub last_of : Leg → List Leg → Leg
 last_of leg [] = leg
 last_of leg (next ∷ rest) = last_of next rest
@@ -115,7 +119,7 @@ line network w point reference = line_of w point (legs network w point reference
 abbrev pub both_of : Pair → List ℕ
 both_of pair = pair.near ∷ pair.far ∷ []
 
--- the own references that a relay gave, as often as it gave them
+-- the own references that a relay gave, each as often as it gave it
 abbrev pub given : Moment → List ℕ
 given m = flat_map both_of m.pairs
 
@@ -148,7 +152,7 @@ pub record IsInOrder (l : Line) : Type 0 where
   pub forth : Begins l.forth_out l.forth_in
   pub back : Begins l.back_out l.back_in
 
--- all that went in came out
+-- all that went in has left
 pub record IsThrough (l : Line) : Type 0 where
   pub forth : l.forth_out ≡ l.forth_in
   pub back : l.back_out ≡ l.back_in

@@ -20,7 +20,8 @@ use Rattle.sccp_couple.specs.Coupling.{coupled}
 use Rattle.sccp_couple.specs.Runs as coupling
 use Rattle.sccp_couple.specs.Runs.{Moment}
 
--- The relays' points, in the plan's order, and what the plan says of a CR that comes to a relay from a point. A point that no relay has is an end.
+-- The relays' points, in the plan's order, and what the plan says of a CR that a relay receives from a point. A point that no
+-- relay has is an end.
 pub record Network : Type 0 where
   pub nodes : List ℕ
   pub way : ℕ → ℕ → Message → Way
@@ -32,12 +33,13 @@ is_node network point = list_any (λ n. n == point) network.nodes
 abbrev pub Links : Type 0
 Links = ℕ → ℕ → List Message
 
--- the coupling of each relay, what stands on each link, and what each link has delivered, oldest first
+-- the coupling of each relay, what each link holds, and what each link has delivered, oldest first
 pub record World : Type 0 where
   pub moments : ℕ → Moment
   pub waiting : Links
   pub arrived : Links
 
+-- the world in which nothing has happened
 abbrev pub start : World
 start = record { moments = λ point. coupling.start; waiting = λ from to. []; arrived = λ from to. [] }
 
@@ -64,7 +66,7 @@ messages_to point sent = filter_map (goes_to point) sent
 abbrev pub with_sent : ℕ → List Answer → Links → Links
 with_sent node sent links = λ a b. if a == node then links a b ++ messages_to b sent else links a b
 
--- what a message from a point is to a relay
+-- a message from a point, as an event of a relay
 abbrev pub event_at : Network → ℕ → ℕ → Message → Event
 event_at network node origin message = record { origin = origin; message = message; way = network.way node origin message }
 
@@ -84,7 +86,7 @@ left w from to message rest = record {
   arrived = with_link from to (w.arrived from to ++ message ∷ []) w.arrived;
 }
 
--- a delivery, where these messages stand on the link: of none, nothing changes; at an end, the message comes out
+-- a delivery, if the link holds these messages: without any, nothing changes; at an end, the message leaves the world
 abbrev pub delivered_of : Network → World → ℕ → ℕ → List Message → World
 delivered_of network w from to [] = w
 delivered_of network w from to (message ∷ rest) =
@@ -93,7 +95,7 @@ delivered_of network w from to (message ∷ rest) =
 abbrev pub delivered : Network → World → ℕ → ℕ → World
 delivered network w from to = delivered_of network w from to (w.waiting from to)
 
--- CR and CC with this source local reference, which names a section of the sender
+-- whether a message is a CR or CC with this source local reference, which names a section of the sender
 abbrev pub requests : ℕ → Message → Bool
 requests own (messages.Cr slr class called params) = slr == own
 requests own _ = false
@@ -105,6 +107,7 @@ confirms own _ = false
 abbrev pub names : ℕ → Message → Bool
 names own message = requests own message || confirms own message
 
+-- the source local reference of a CR or CC
 abbrev pub name_of : Message → Option ℕ
 name_of (messages.Cr slr class called params) = Some slr
 name_of (messages.Cc dlr slr class params) = Some slr
@@ -118,14 +121,15 @@ abbrev pub uses_again : Network → World → ℕ → Option ℕ → Bool
 uses_again network w from None = false
 uses_again network w from (Some own) = is_used network w from own
 
--- the message can be written, and what is written reads: of each parameter that is known for its type, the first one does
+-- The message can be written, and what is written reads: of each parameter that is known for its type, the first one must
+-- read.
 abbrev pub unread : Message → Option ℕ
 unread message = first_unread (option_map_or (λ r. r.known) (row (content message).code) []) (content message).params
 
 abbrev pub is_writable : Message → Bool
 is_writable message = is_none (write_fault message) && is_none (unread message)
 
--- the first test that fails
+-- the first test that fails, in the order of testing
 abbrev pub fault_by : Bool → Bool → Bool → Bool → Bool → Option OfferFault
 fault_by from_relay to_end connectionless used unwritable =
     if from_relay then Some NotAnEnd
@@ -139,6 +143,7 @@ abbrev pub offer_fault : Network → World → ℕ → ℕ → Message → Optio
 offer_fault network w from to message =
     fault_by (is_node network from) (not (is_node network to)) (is_some (called_of message)) (uses_again network w from (name_of message)) (not (is_writable message))
 
+-- a message is put on a link
 abbrev pub put : World → ℕ → ℕ → Message → World
 put w from to message = record {
   moments = w.moments;
@@ -154,27 +159,30 @@ offered_if None w from to message = put w from to message
 abbrev pub offered : Network → World → ℕ → ℕ → Message → World
 offered network w from to message = offered_if (offer_fault network w from to message) w from to message
 
--- what a delivery answers
+-- the answer of a delivery
 abbrev pub delivery_of : Network → ℕ → List Message → Delivered
 delivery_of network to [] = Nothing
 delivery_of network to (message ∷ rest) = if is_node network to then Handled else Out message
 
+-- the answer of the delivery of one link
 abbrev pub delivery : Network → World → ℕ → ℕ → Delivered
 delivery network w from to = delivery_of network to (w.waiting from to)
 
--- of the links that hold a message the least, by its first point and then its second
+-- of the links that hold a message, the least by its first point and then its second
 pub record IsNextLink (w : World) (from to : ℕ) : Type 0 where
   pub holds : w.waiting from to ≢ []
   pub least : (a b : ℕ) → w.waiting a b ≢ [] → (from < a) ⊎ ((from ≡ a) × (to ≤ b))
 
+-- a world after one more happening
 abbrev pub happens : Network → World → Happening → World
 happens network w (Offers from to message) = offered network w from to message
 happens network w (Delivers from to) = delivered network w from to
 
+-- a world after these happenings
 abbrev pub run : Network → World → List Happening → World
 run network w [] = w
 run network w (h ∷ history) = run network (happens network w h) history
 
--- the world that a history leaves
+-- the world after a history, which begins with the start
 abbrev pub after : Network → List Happening → World
 after network history = run network start history
