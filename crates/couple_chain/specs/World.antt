@@ -1,4 +1,4 @@
--- Relays and ends, the links between their points, and what happens there (ITU-T Q.714 section 3, coupling of connection sections).
+-- Relays and ends, the links between their points, and what happens there (ITU-T Q.714 section 3: coupling of sections).
 use Rattle.std.specs.Prelude.{ℕ, ◌≡◌, ◌≢◌, ◌<◌, ◌≤◌, ◌⊎◌, ◌==◌, Bool, false, not, ◌&&◌, ◌||◌, if◌then◌else◌, List, [], ◌∷◌, ◌++◌, filter_map, Option, Some, None, is_some, is_none}
 use Rattle.std.specs.List.{list_any}
 use Rattle.std.specs.Option.{option_map_or}
