@@ -6,8 +6,8 @@ use Rattle.couple_chain.specs.World.{World}
 use Rattle.chain_world.specs.Kept.{Kept, kept, world_of}
 use Rattle.chain_call.specs.declared.handed.Handed.{Handed}
 
--- the plan, all that has happened in its world, what ends were handed since the connection began, and how many messages were
--- offered and how many deliveries made since then
+-- The plan, and all that has happened in its world. Since the connection began: what ends were handed, how many messages were
+-- offered, and how many deliveries were made.
 pub record Course : Type 0 where
   pub plan : plans.Network
   pub history : List Happening

@@ -112,8 +112,8 @@ abbrev pub has_more : List ℕ → Bool
 has_more [] = false
 has_more (octet ∷ rest) = true
 
--- one DT1 for each octet, with M on all but the last, all of them offered on the link from one point to another with this
--- destination reference
+-- One DT1 for each octet, with M on all but the last. All are offered on the link from one point to another, with this
+-- destination reference.
 abbrev pub sent_by : ℕ → ℕ → ℕ → List ℕ → Course → Course
 sent_by from to reference [] c = c
 sent_by from to reference (octet ∷ rest) c = sent_by from to reference rest (offered from to (messages.Dt1 reference (has_more rest) (octet ∷ [])) c)
@@ -132,8 +132,8 @@ released call own c = offered call.from call.entry (messages.Rlsd own 1 0 []) c
 
 -- ---- the outcome
 
--- what went over the connection: the data that the far end was handed with its reference 2, the data that the other end was
--- handed with its reference 1, and the sections that are left
+-- What went over the connection: the data that the far end was handed with its reference 2, and those that the other end was
+-- handed with its reference 1. Last, the sections that are left.
 unfoldable pub through : Call → ℕ → Course → Through
 through call far c = record { forth = data_at far 2 c.handed; back = data_at call.from 1 c.handed; sections = sections_of (network_of c.plan) (world_at c) }
 
@@ -178,8 +178,8 @@ abbrev pub if_settled : (Course → Outcome) → Option Course → Outcome
 if_settled next None = Unsettled
 if_settled next (Some c) = next c
 
--- the outcome of a connection once the links are empty after its confirmation; its line begins at the end that requested it,
--- which gave the reference 1
+-- The outcome of a connection once the links are empty after its confirmation. Its line begins at the end that requested it,
+-- which gave the reference 1.
 unfoldable pub with_line : Call → Course → Outcome
 with_line call c = on_line call c (line (network_of c.plan) (world_at c) call.from 1)
 

@@ -3,8 +3,8 @@
 //! An end requests a connection, and the end that is handed the request confirms it. Octets go forth and back, and the
 //! connection is released. Between these steps the links deliver until none holds a message.
 //!
-//! The layer above may rely on this: the outcome is the one that the definition gives (`specs/Steps`), a function of the plan
-//! and of what was asked for.
+//! The layer above may rely on this: the outcome is what the definition gives (`specs/Steps`). It depends only on the plan
+//! and on what was asked for.
 #![tactic(auto)]
 
 mod call;

@@ -366,8 +366,8 @@ fn run(alloc: Global, course: &mut Course, call: &Call) -> Result<Outcome, OutOf
 /// Makes a connection in a world in which something may have happened already. Messages offered and deliveries are counted
 /// from now on.
 ///
-/// An end requests the connection (CR), the end that is handed the request confirms it (CC), octets go forth and then back,
-/// one in each DT1, and it is released (RLSD). The only error is lack of memory.
+/// An end requests the connection (CR), and the end that is handed the request confirms it (CC). Octets go forth and then
+/// back, one in each DT1, and the connection is released (RLSD). The only error is lack of memory.
 pub fn connect_in(alloc: Global, world: World, call: &Call) -> Result<Outcome, OutOfMemory>
     ensures { IfOk result (λ o. o ≡ outcome call.now (beginning world)) }
 {

@@ -25,8 +25,7 @@ use Rattle.chain_world.proofs.Nodes.{point_by}
 
 -- ---- references that are given once
 
--- references from a place on are given once each, if the one at this place is not given again and those after it are given
--- once each
+-- references from a place on are given once each, if the first is not given again and those after it are given once each
 pub given_once : (ns : List ℕ) (i : ℕ) (b : Bool) → i < length ns → ((own : ℕ) → slice_get ns i ≡ Some own → b ≡ list_any (λ m. m == own) (drop (i + 1) ns)) → no_repeat (drop i ns) ≡ (not b && no_repeat (drop (i + 1) ns))
 given_once ns i b lt h =
     let own : ℕ = get_or ns i 0 in
@@ -45,8 +44,8 @@ nothing_left (n ∷ ns) (suc i) h = nothing_left ns i (omega arith)
 
 -- ---- over the relays, in the order of the nodes
 
--- if each relay passes a test exactly if its point passes another one, then all relays pass the one exactly if all points
--- pass the other
+-- Let each relay pass a test exactly if its point passes another one. Then all relays pass the one exactly if all points pass
+-- the other.
 pub all_by_node : (f : Relaying → Bool) (g : ℕ → Bool) (rs : List Relaying) (nodes : List Node) → length rs ≡ length nodes → ((i : ℕ) (d : Relaying) (e : Node) → i < length rs → f (get_or rs i d) ≡ g (get_or nodes i e).pc) →
     list_all f rs ≡ list_all g (map (λ (node : Node). node.pc) nodes)
 all_by_node f g [] [] same h = refl

@@ -39,8 +39,8 @@ abbrev pub or_stage : Option Stage → Option Stage → Option Stage
 or_stage (Some stage) later = Some stage
 or_stage None later = later
 
--- the pair whose near section has this point and remote, at the first relay that has one; the first relay of the list has the
--- place `node`
+-- The pair whose near section has this point and remote, at the first relay that has one. The first relay of the list has the
+-- place `node`.
 abbrev pub first_in : ℕ → List Relaying → ℕ → ℕ → Option Stage
 first_in node [] point remote = None
 first_in node (r ∷ relays) point remote = or_stage (stage_of r.sections node point remote) (first_in (node + 1) relays point remote)
@@ -53,8 +53,8 @@ sections_at relays node = option_map_or (λ r. r.sections) (slice_get relays nod
 abbrev pub joined_to : Stage → Stage → Option Stage
 joined_to stage next = if is_that stage.far.remote next.near.own then Some next else None
 
--- the pair after one, at the relay at this place: its near section has the point of the relay before and the own reference of
--- that relay's far section
+-- The pair after one, at the relay at this place. Its near section has the point of the relay before, and the own reference
+-- of that relay's far section.
 abbrev pub next_in : plans.Network → List Relaying → Stage → ℕ → Option Stage
 next_in plan relays stage node = option_and_then (joined_to stage) (stage_of (sections_at relays node) node (point_of plan stage.node) stage.far.own)
 
@@ -62,8 +62,8 @@ next_in plan relays stage node = option_and_then (joined_to stage) (stage_of (se
 abbrev pub is_open : Stage → Bool
 is_open stage = is_some stage.near.remote && is_some stage.far.remote
 
--- the pairs that follow from an open one: only that one if its far section has an end's point, otherwise also those that
--- follow from the next pair
+-- The pairs that follow from an open one. If its far section has an end's point, that is only this pair. Otherwise those from
+-- the next pair follow.
 abbrev pub stages_onward : (Stage → Option (List Stage)) → plans.Network → List Relaying → Stage → Option ℕ → Option (List Stage)
 stages_onward rest plan relays stage None = Some (stage ∷ [])
 stages_onward rest plan relays stage (Some node) = option_map (λ stages. stage ∷ stages) (option_and_then rest (next_in plan relays stage node))
@@ -102,8 +102,8 @@ passed_at relays node = option_map_or (λ r. r.passed) (slice_get relays node) [
 abbrev pub delivered_by : List Link → ℕ → ℕ → List (List ℕ)
 delivered_by links from to = take (gone_from links from to) (octets_on links from to)
 
--- the line over these pairs, of which the first and the last are given again: what went in is read from the relays' records,
--- and what came out from the links
+-- The line over these pairs, of which the first and the last are given again. What went in is read from the relays' records,
+-- and what came out from the links.
 abbrev pub over : plans.Network → List Relaying → List Link → ℕ → List Stage → Stage → Stage → lines.Line
 over plan relays links point path first last = record {
   path = map (λ stage. point_of plan stage.node) path;

@@ -1,4 +1,4 @@
-//! A running chain of coupled relays: the relays of a plan, the ends around them, and the links between their points, which
+//! A running chain of coupled relays: the relays of a plan, the ends around them, and the links between their points. Links
 //! keep the order of their messages (Q.714 section 3).
 //!
 //! A world keeps its history: the list of its accepted offers and of its deliveries. The layer above may rely on this: each

@@ -241,10 +241,10 @@ impl World {
 
     /// An end puts a message on its link to a relay.
     ///
-    /// The faults in the order of testing: `NotAnEnd` if the message is from a relay's point, `NotANode` if it goes to no
-    /// relay, `Connectionless`, `UsedReference` if it is a CR or CC whose source local reference an earlier accepted one of
-    /// this end had, and `NotWritable` if it cannot be written or does not read again. Lack of memory is `OutOfMemory`. Each
-    /// fault leaves all as it was.
+    /// The faults in the order of testing are: `NotAnEnd` if the message is from a relay's point, `NotANode` if it goes to no
+    /// relay, and `Connectionless`. Then `UsedReference` if it is a CR or CC whose source local reference an earlier accepted
+    /// one of this end had. The last is `NotWritable` if it cannot be written or does not read again. Lack of memory is
+    /// `OutOfMemory`. Each fault leaves all as it was.
     ///
     /// What goes on the link is what the octets say. That is the message itself, unless it has an address that no octets can
     /// express.
@@ -389,11 +389,12 @@ impl World {
         least(self.links.as_slice())
     }
 
-    /// The line of a connection from an end's point and the local reference that the end gave. `None` if the point is a relay's,
-    /// if a pair on the way is missing or not established, or if there are more than 15 pairs. The only error is lack of memory.
+    /// The line of a connection from an end's point and the local reference that the end gave. It is `None` if the point is a
+    /// relay's, if a pair on the way is missing or not established, or after 15 pairs without an end. The only error is lack
+    /// of memory.
     ///
-    /// If no relay gave one own reference twice, what came out of the line is the beginning of what went in, both ways. If also
-    /// no link holds a message, it is the whole.
+    /// If no relay gave one own reference twice, what came out of the line is the beginning of what went in, both ways. If
+    /// also no link holds a message, it is the whole.
     pub fn line(&self, point: PointCode, reference: Reference) -> Result<Option<Line>, OutOfMemory>
         ensures line { IfOk result (λ l. option_map (told_line self.now.plan) l ≡ line (network_of self.now.plan) (world_of self.now) point reference) }
         ensures inside { IfOk result (λ l. IfSome l (λ x. All (λ node. node < length self.now.plan.nodes) x.path)) }

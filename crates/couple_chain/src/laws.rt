@@ -17,8 +17,8 @@ ghost use Rattle.couple_chain.specs.Fit.{IsFit};
 ghost use Rattle.couple_chain.specs.Logged.{IsLogged};
 ghost use Rattle.couple_chain.specs.Relays.{first_relay, relay_run};
 
-/// What came out at either end of a line is the beginning of what went in at the other, if no relay gave one own reference
-/// twice. If no link holds a message, it is the whole.
+/// If no relay gave one own reference twice, what came out at either end of a line is the beginning of what went in at the
+/// other. If also no link holds a message, it is the whole.
 pub fn lines_keep_order()
     ensures order { (network : Network) (history : List Happening) (point reference : ℕ) (l : Line) → IsFresh network (after network history) → line network (after network history) point reference ≡ Some l → IsInOrder l }
     ensures all { (network : Network) (history : List Happening) (point reference : ℕ) (l : Line) → IsFresh network (after network history) → IsSettled (after network history) → line network (after network history) point reference ≡ Some l → IsThrough l }

@@ -25,8 +25,8 @@ pub record IsShare (plans : List Verified) (states : List State) (jobs : List Jo
   pub within : (r : ℕ) (s : Served) → slice_get answers r ≡ Some s → (from ≤ s.number) × (s.number ≤ upto)
   pub rising : (q r : ℕ) (s t : Served) → q ≤ r → slice_get answers q ≡ Some s → slice_get answers r ≡ Some t → s.number ≤ t.number
 
--- The answers of a batch: one for each job, in order, under a plan of the list that is no earlier than the one at the
--- beginning. In a share, which is the jobs of equal index modulo the count, the numbers never fall.
+-- The answers of a batch: one for each job, in order, under a plan of the list. That is no earlier one than at the beginning.
+-- In a share, which is the jobs of equal index modulo the count, the numbers never fall.
 pub record AreServed (plans : List Verified) (states : List State) (jobs : List Job) (count from : ℕ) (answers : List Served) : Type 0 where
   pub long : length answers ≡ length jobs
   pub each : (i : ℕ) (job : Job) (s : Served) → slice_get jobs i ≡ Some job → slice_get answers i ≡ Some s → IsServed plans states job s × (from ≤ s.number)
@@ -85,7 +85,7 @@ module _ {P : Type 0} {g : Ghosts P} where
   abbrev pub machine_of : List Verified → List (Worker P g) → Machine
   machine_of plans workers = record { plans = plans; numbers = map (λ w. w.kept.number) workers }
 
-  -- if no worker kept a plan with a higher number than the last one's: publications, and workers that learn of them, lead from
-  -- the plans and numbers before to those after
+  -- If no worker kept a plan with a higher number than the last one's, the batch is a list of events. Publications, and
+  -- workers that learn of them, lead from the plans and numbers before to those after.
   abbrev pub IsByEvents : List Verified → List Verified → List (Worker P g) → List (Worker P g) → Type 0
   IsByEvents before after workers workers' = IsValid (machine_of before workers) → LeadsTo (machine_of before workers) (machine_of after workers')

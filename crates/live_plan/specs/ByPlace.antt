@@ -1,5 +1,5 @@
--- Calls of a closure with the items of a slice and their places, of which the first is given: what they ask for, and what
--- they change.
+-- Calls of a closure with the items of a slice and their places: what they ask for, and what they change. The place of the
+-- first item is given.
 use Rattle.std.specs.Prelude.{ℕ, ◌+◌, ◌<◌, List, length, slice_index_or}
 use denote.Ref.{MutBor}
 use denote.Param.Members.{Shared}

@@ -56,7 +56,7 @@ fn serve_latest<R: Threads + Sync, G: Gate + Sync>(
     serve_blocks(rt, alloc, threads, &setting, jobs, gate)
 }
 
-/// Serves a batch of jobs as `run_batch` does, or faster if there are no further plans: then all jobs go under the last plan,
+/// Serves a batch of jobs as `run_batch` does, or faster if there are no further plans. Then all jobs go under the last plan,
 /// each thread takes the next few jobs when it has served some, and the workers rest. The only error is lack of memory.
 pub fn serve_jobs<R: Threads + Wait + Sync, G: Gate + Sync>(
     rt: &R,

@@ -8,8 +8,8 @@ use std::alloc::AllocError;
 use std::snapshot::Snapshot;
 use std::sync::Arc;
 
-/// The last plan with its number, the batch in which it is shown, and the plans that were still to be published when the
-/// batch began. These plans take no room: a snapshot has no bytes.
+/// The last plan with its number, and the batch in which it is shown. Also the plans that were still to be published when the
+/// batch began: these take no room, since a snapshot has no bytes.
 #[derive(Drop)]
 pub struct Shown {
     pub batch: u64,

@@ -41,8 +41,8 @@ abbrev pub sent_in : List Section → ℕ → ℕ → Event → List Piece
 sent_in sections own other event =
     if knows sections other event then pieces_toward (section_at sections own) (coupled sections event).sent else []
 
--- the two sections that one CR made, whether the pair is still there, and what was passed from each side and sent to each
--- side while it was
+-- The two sections that one CR made, and whether the pair is still there. Then what was passed from each side and sent to
+-- each side while it was.
 pub record Pair : Type 0 where
   pub near : ℕ
   pub far : ℕ

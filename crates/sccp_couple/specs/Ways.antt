@@ -44,8 +44,8 @@ at_subsystem plan node marking (Some ssn) =
     else if holds marking (Subsystem (point_of plan node) ssn) then Refused 10
     else Refused 6
 
--- the refusal cause for a title that has no row: no translation for an address of such nature (18), destination address
--- unknown (4), unequipped user (19)
+-- the refusal cause for a title without a row: no translation for an address of such nature (18), destination address unknown
+-- (4), unequipped user (19)
 abbrev pub refusal_of : ℕ → ℕ
 refusal_of cause = if cause == 0 then 18 else if cause == 1 then 4 else 19
 
