@@ -53,8 +53,8 @@ sections_at relays node = option_map_or (λ r. r.sections) (slice_get relays nod
 abbrev pub joined_to : Stage → Stage → Option Stage
 joined_to stage next = if is_that stage.far.remote next.near.own then Some next else None
 
--- The pair after one, at the relay at this place. Its near section has the point of the relay before, and the own reference
--- of that relay's far section.
+-- The pair after one, at the relay at this place. Its near section has the point of the relay before, and as its remote the
+-- own reference of that relay's far section.
 abbrev pub next_in : plans.Network → List Relaying → Stage → ℕ → Option Stage
 next_in plan relays stage node = option_and_then (joined_to stage) (stage_of (sections_at relays node) node (point_of plan stage.node) stage.far.own)
 

@@ -135,8 +135,8 @@ fn joined_to(stage: &Stage, next: Stage) -> Option<Stage>
     }
 }
 
-/// The pair after one, at a relay given by its place. Its near section has the first relay's point and the own reference of
-/// that relay's far section. It must be joined to the first pair.
+/// The pair after one, at a relay given by its place. Its near section has the first relay's point, and as its remote the own
+/// reference of that relay's far section. It must be joined to the first pair.
 fn next_stage(plan: &Plan, relays: &[Relay], stage: &Stage, node: u8) -> Option<Stage>
     requires inside { stage.now.node < length plan.now.nodes }
     requires node { node < length relays.now }

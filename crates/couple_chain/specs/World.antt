@@ -26,6 +26,7 @@ pub record Network : Type 0 where
   pub nodes : List ℕ
   pub way : ℕ → ℕ → Message → Way
 
+-- the point is that of a relay
 abbrev pub is_node : Network → ℕ → Bool
 is_node network point = list_any (λ n. n == point) network.nodes
 
@@ -59,6 +60,7 @@ with_moment node moment moments = λ n. if n == node then moment else moments n
 abbrev pub goes_to : ℕ → Answer → Option Message
 goes_to point sent = if sent.to == point then Some sent.message else None
 
+-- those of these answers that go to a point, in order
 abbrev pub messages_to : ℕ → List Answer → List Message
 messages_to point sent = filter_map (goes_to point) sent
 
@@ -92,18 +94,21 @@ delivered_of network w from to [] = w
 delivered_of network w from to (message ∷ rest) =
     if is_node network to then handled (left w from to message rest) to (event_at network to from message) else left w from to message rest
 
+-- the world after one delivery of a link
 abbrev pub delivered : Network → World → ℕ → ℕ → World
 delivered network w from to = delivered_of network w from to (w.waiting from to)
 
--- whether a message is a CR or CC with this source local reference, which names a section of the sender
+-- whether a message is a CR with this source local reference
 abbrev pub requests : ℕ → Message → Bool
 requests own (messages.Cr slr class called params) = slr == own
 requests own _ = false
 
+-- whether a message is a CC with this source local reference
 abbrev pub confirms : ℕ → Message → Bool
 confirms own (messages.Cc dlr slr class params) = slr == own
 confirms own _ = false
 
+-- whether a message is a CR or a CC with this source local reference, which then names a section of the sender
 abbrev pub names : ℕ → Message → Bool
 names own message = requests own message || confirms own message
 
@@ -117,15 +122,16 @@ name_of _ = None
 abbrev pub is_used : Network → World → ℕ → ℕ → Bool
 is_used network w from own = list_any (λ to. list_any (names own) (put_on w from to)) network.nodes
 
+-- a source local reference, if there is one, was used before
 abbrev pub uses_again : Network → World → ℕ → Option ℕ → Bool
 uses_again network w from None = false
 uses_again network w from (Some own) = is_used network w from own
 
--- The message can be written, and what is written reads: of each parameter that is known for its type, the first one must
--- read.
+-- the name of a parameter that is known for the message's type, and of which the first one does not read, if there is one
 abbrev pub unread : Message → Option ℕ
 unread message = first_unread (option_map_or (λ r. r.known) (row (content message).code) []) (content message).params
 
+-- the message can be written, and what is written reads
 abbrev pub is_writable : Message → Bool
 is_writable message = is_none (write_fault message) && is_none (unread message)
 
@@ -139,6 +145,7 @@ fault_by from_relay to_end connectionless used unwritable =
     else if unwritable then Some NotWritable
     else None
 
+-- the fault of an offer, if it is to be refused
 abbrev pub offer_fault : Network → World → ℕ → ℕ → Message → Option OfferFault
 offer_fault network w from to message =
     fault_by (is_node network from) (not (is_node network to)) (is_some (called_of message)) (uses_again network w from (name_of message)) (not (is_writable message))
@@ -156,6 +163,7 @@ abbrev pub offered_if : Option OfferFault → World → ℕ → ℕ → Message 
 offered_if (Some fault) w from to message = w
 offered_if None w from to message = put w from to message
 
+-- the world after an offer
 abbrev pub offered : Network → World → ℕ → ℕ → Message → World
 offered network w from to message = offered_if (offer_fault network w from to message) w from to message
 

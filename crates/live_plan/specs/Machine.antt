@@ -5,6 +5,7 @@ use Rattle.std.specs.List.{All}
 use mathlib.Core.List.{IsPrefix}
 use Rattle.plan_check.specs.Verified.{Verified}
 
+-- the published plans, and the number of the plan that each worker keeps
 pub record Machine : Type 0 where
   pub plans : List Verified
   pub numbers : List ℕ
@@ -16,6 +17,7 @@ pub data Event : Type 0 where
   Enter : ℕ → Event
   Learn : ℕ → ℕ → Event
 
+-- the machine after a worker's number has changed
 abbrev pub with_number : Machine → ℕ → ℕ → Machine
 with_number m worker n = record { plans = m.plans; numbers = slice_set m.numbers worker n }
 
@@ -31,10 +33,12 @@ MayCome m (Publish plan) = Unit {0}
 MayCome m (Enter worker) = Unit {0}
 MayCome m (Learn worker n) = n ≤ length m.plans
 
+-- each of these events can happen when its turn is there
 abbrev pub MayAllCome : Machine → List Event → Type 0
 MayAllCome m [] = Unit {0}
 MayAllCome m (e ∷ es) = MayCome m e × MayAllCome (after_event m e) es
 
+-- the machine after a list of events
 abbrev pub after_events : Machine → List Event → Machine
 after_events = fold after_event
 

@@ -8,6 +8,7 @@ use Rattle.live_plan.specs.declared.known.Known.{Known}
 use Rattle.live_plan.specs.declared.published.Shown.{Shown}
 use Rattle.live_plan.specs.Plans.{HasPlan}
 
+-- what a seat knows: a batch, its plans, and how many of them are published
 abbrev pub known : ℕ → List Verified → ℕ → Known
 known batch plans number = record { batch = batch; plans = plans; number = number }
 

@@ -54,6 +54,7 @@ on_request sections origin slr class way =
 -- If no section knows it, its destination reference is unassigned (error cause 0). If its source reference is another one
 -- than the first, it is inconsistent (error cause 1).
 
+-- a CC at the section that knows it
 abbrev pub on_confirm : List Section → ℕ → ℕ → ℕ → List Parameter → Option Section → Outcome
 on_confirm sections origin slr class params None = only_sends sections (to_one origin (messages.Err slr 0))
 on_confirm sections origin slr class params (Some s) =
@@ -66,6 +67,7 @@ on_confirm sections origin slr class params (Some s) =
 
 -- ---- CREF: the far side refuses, so both sections end
 
+-- a CREF at the section that knows it; without one nothing changes
 abbrev pub on_refusal : List Section → ℕ → List Parameter → Option Section → Outcome
 on_refusal sections cause params None = only_sends sections []
 on_refusal sections cause params (Some s) =
@@ -78,6 +80,7 @@ on_refusal sections cause params (Some s) =
 
 -- ---- DT1: data go on over an established section
 
+-- a DT1 at the section that knows it; it changes no section
 abbrev pub on_data : List Section → Bool → List ℕ → Option Section → Outcome
 on_data sections more payload None = only_sends sections []
 on_data sections more payload (Some s) =
@@ -85,6 +88,7 @@ on_data sections more payload (Some s) =
 
 -- ---- RLSD: it is completed at once and its section ends; the other section is released, or ends too if it has no remote yet
 
+-- a release that its section accepts, with the other section's own reference, and its completion
 abbrev pub release : List Section → Section → List Answer → ℕ → List Parameter → Option ℕ → Outcome
 release sections s complete cause params None = record { sections = without s.own sections; sent = complete }
 release sections s complete cause params (Some other) =
@@ -95,6 +99,7 @@ release sections s complete cause params (Some other) =
     }
     else record { sections = without_both s sections; sent = complete }
 
+-- an RLSD at the section that knows it; without one it is completed all the same
 abbrev pub on_release : List Section → ℕ → ℕ → ℕ → ℕ → List Parameter → Option Section → Outcome
 on_release sections origin dlr slr cause params None = only_sends sections (to_one origin (messages.Rlc slr dlr))
 on_release sections origin dlr slr cause params (Some s) =
@@ -104,6 +109,7 @@ on_release sections origin dlr slr cause params (Some s) =
 
 -- ---- RLC: a section that is being released ends
 
+-- an RLC at the section that knows it; it is never answered
 abbrev pub on_complete : List Section → ℕ → Option Section → Outcome
 on_complete sections slr None = only_sends sections []
 on_complete sections slr (Some s) =
@@ -113,6 +119,7 @@ on_complete sections slr (Some s) =
 
 -- ---- every other type changes nothing and is not answered
 
+-- what a message from this point does
 abbrev pub on_message : List Section → ℕ → Way → Message → Outcome
 on_message sections origin way (messages.Cr slr class called params) = on_request sections origin slr class way
 on_message sections origin way (messages.Cc dlr slr class params) = on_confirm sections origin slr class params (known sections origin dlr)

@@ -15,23 +15,26 @@ abbrev pub is_open : List Section → Option Section → Bool
 is_open sections None = false
 is_open sections (Some s) = is_established sections s
 
--- what the section with this own reference passes on: a DT1 that belongs to it while it and its other both have a remote
+-- what a DT1 carries, as a list
 abbrev pub piece_of : Option Data → List Piece
 piece_of None = []
 piece_of (Some d) = d.piece ∷ []
 
+-- what the section with this own reference passes on: a DT1 that belongs to it while it and its other both have a remote
 abbrev pub passed_in : List Section → ℕ → Event → List Piece
 passed_in sections own event =
     if knows sections own event && is_open sections (section_at sections own) then piece_of (data_of event.message) else []
 
--- of these messages, the DT1 that go to this section's point and remote
+-- what a DT1 carries, if it goes to this point and has this remote as its destination reference
 abbrev pub piece_if : ℕ → Option ℕ → ℕ → Option Data → Option Piece
 piece_if point remote to None = None
 piece_if point remote to (Some d) = if (to == point) && is_that remote d.dlr then Some d.piece else None
 
+-- the data of a message, if it is a DT1 to this section's point and remote
 abbrev pub piece_toward : Section → Answer → Option Piece
 piece_toward s sent = piece_if s.point s.remote sent.to (data_of sent.message)
 
+-- the data of these messages that go to this section, if it is there
 abbrev pub pieces_toward : Option Section → List Answer → List Piece
 pieces_toward None sent = []
 pieces_toward (Some s) sent = filter_map (piece_toward s) sent
@@ -82,11 +85,12 @@ carried sections event p = if p.stands then grown sections event p else p
 abbrev pub new_pair : ℕ → ℕ → Pair
 new_pair near far = record { near = near; far = far; stands = true; passed_near = []; passed_far = []; sent_near = []; sent_far = [] }
 
--- the pair that the event makes: the two sections that now have the two smallest references unused before
+-- a new pair, if one is made
 abbrev pub made_if : Bool → ℕ → ℕ → List Pair
 made_if true near far = new_pair near far ∷ []
 made_if false near far = []
 
+-- the pair that the event makes: the two sections that now have the two smallest references unused before
 abbrev pub made : List Section → Event → List Pair
 made sections event =
     made_if (is_joined (coupled sections event).sections (first_new sections) (second_new sections)) (first_new sections) (second_new sections)
@@ -109,6 +113,7 @@ abbrev pub run : Moment → List Event → Moment
 run m [] = m
 run m (event ∷ events) = run (happens m event) events
 
+-- the moment before the first event
 abbrev pub start : Moment
 start = record { sections = []; pairs = [] }
 
@@ -116,14 +121,16 @@ start = record { sections = []; pairs = [] }
 abbrev pub after : List Event → Moment
 after events = run start events
 
--- the DT1 that answer an event
+-- what data carry, if there are any
 abbrev pub any_piece : Option Data → Option Piece
 any_piece None = None
 any_piece (Some d) = Some d.piece
 
+-- the data of a message, if it is a DT1
 abbrev pub piece_in : Answer → Option Piece
 piece_in sent = any_piece (data_of sent.message)
 
+-- the data of each DT1 that answers an event
 abbrev pub answered : List Section → Event → List Piece
 answered sections event = filter_map piece_in (coupled sections event).sent
 

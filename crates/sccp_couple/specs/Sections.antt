@@ -37,10 +37,11 @@ is_established sections s = is_some s.remote && has_remote (other_of sections s)
 abbrev pub is_near_of : ℕ → ℕ → Section → Bool
 is_near_of point remote s = s.near && ((s.point == point) && is_that s.remote remote)
 
--- one section is changed, and the others stay
+-- a section, changed if it has this own reference
 abbrev pub change : (Section → Section) → ℕ → Section → Section
 change f own s = if s.own == own then f s else s
 
+-- the sections with one of them changed
 abbrev pub changed : (Section → Section) → ℕ → List Section → List Section
 changed f own sections = map (change f own) sections
 
@@ -52,25 +53,28 @@ confirmed remote s = record s { remote = Some remote }
 abbrev pub released : Section → Section
 released s = record s { other = None }
 
--- one section ends
+-- a section with another own reference
 abbrev pub is_other_than : ℕ → Section → Bool
 is_other_than own s = not (s.own == own)
 
+-- the sections without the one of this own reference
 abbrev pub without : ℕ → List Section → List Section
 without own sections = filter (is_other_than own) sections
 
--- a section and its other one end
+-- the sections without the one of this own reference, if there is a reference
 abbrev pub without_other : Option ℕ → List Section → List Section
 without_other None sections = sections
 without_other (Some own) sections = without own sections
 
+-- the sections without a section and its other one
 abbrev pub without_both : Section → List Section → List Section
 without_both s sections = without_other s.other (without s.own sections)
 
--- the numbers from 1 that no section has, in order, far enough to include two of them
+-- no section has this number as its own reference
 abbrev pub is_unused : List Section → ℕ → Bool
 is_unused sections n = not (list_any (λ s. s.own == n) sections)
 
+-- the numbers from 1 that no section has, in order, far enough to include two of them
 abbrev pub unused : List Section → List ℕ
 unused sections = filter (is_unused sections) (range_with_len 1 (length sections + 2))
 
@@ -86,5 +90,6 @@ with_pair near far point remote to sections =
 abbrev pub first_new : List Section → ℕ
 first_new sections = slice_index (unused sections) 0
 
+-- the second of the two
 abbrev pub second_new : List Section → ℕ
 second_new sections = slice_index (unused sections) 1
