@@ -1,4 +1,4 @@
-//! What each type of message does, but the request.
+//! What a node does with each type of message, except CR and RLSD.
 ghost use Rattle.std.specs.Prelude.{◌≡◌, ◌≤◌, ◌++◌, map, length, true, Some, IfOk, OnOk, OnErr};
 ghost use Rattle.sccp_layout.specs.Joining.{are_short};
 ghost use Rattle.sccp_message.specs.declared.message.Message.{Message};
@@ -18,7 +18,7 @@ use sccp_manage::Sent;
 use sccp_message::Message;
 use std::alloc::Global;
 
-/// A confirmation that is known to a section.
+/// A confirmation that belongs to a section.
 fn confirm_known(
     alloc: Global,
     sections: &mut Sections,
@@ -66,7 +66,7 @@ pub(crate) fn on_confirm(
     }
 }
 
-/// A refusal that is known to a section.
+/// A refusal that belongs to a section.
 fn refuse_known(
     alloc: Global,
     sections: &mut Sections,
@@ -108,7 +108,7 @@ pub(crate) fn on_refusal(
     }
 }
 
-/// Data that are known to a section.
+/// Data that belong to a section.
 fn data_known(
     alloc: Global,
     sections: &Sections,

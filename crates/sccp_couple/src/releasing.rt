@@ -1,4 +1,4 @@
-//! Released (RLSD).
+//! What a node does with a released message (RLSD).
 ghost use Rattle.std.specs.Prelude.{◌≡◌, ◌++◌, map, true, Some, IfOk, OnOk, OnErr};
 ghost use Rattle.sccp_layout.specs.Joining.{are_short};
 ghost use Rattle.sccp_message.specs.declared.message.Message.{Message};
@@ -17,7 +17,7 @@ use sccp_manage::Sent;
 use sccp_message::Message;
 use std::alloc::Global;
 
-/// The release is completed toward its origin.
+/// Completes the release toward its origin.
 fn complete(
     alloc: Global,
     origin: PointCode,
@@ -29,7 +29,7 @@ fn complete(
     to_one(alloc, origin, Message::Rlc { dlr: slr, slr: dlr })
 }
 
-/// The release is completed toward its origin, and goes on to the other point.
+/// Completes the release toward its origin, and sends a release to the other point.
 #[tactic(auto, using(crate::proofs::Fits::release_fits))]
 fn complete_and_release(
     alloc: Global,
@@ -55,7 +55,7 @@ fn complete_and_release(
     to_two(alloc, origin, completed, other.point, released)
 }
 
-/// The section ends, and its other one is released, or ends too where it has no remote.
+/// Ends the section, and releases its other one. If the other one has no remote, it ends as well.
 fn release_both(
     alloc: Global,
     sections: &mut Sections,
@@ -97,7 +97,7 @@ fn release_both(
     }
 }
 
-/// A release that is known to a section.
+/// A release that belongs to a section.
 fn release_known(
     alloc: Global,
     sections: &mut Sections,

@@ -1,3 +1,4 @@
+//! What a relay makes of a connection request: a refusal with its cause, or the point that it goes to.
 ghost use Rattle.std.specs.Prelude.{◌≡◌, ◌<◌, ◌≤◌, ◌==◌, if◌then◌else◌, length, true, IfOk, IsSomeAnd, Some, slice_get};
 ghost use Rattle.std.specs.List.{list_any};
 ghost use Rattle.sccp_base.specs.Marks.{holds};
@@ -58,7 +59,7 @@ fn is_equipped(plan: &Plan, node: u8, ssn: u8) -> bool
     node_of(plan, node).is_equipped(ssn)
 }
 
-/// Whether the node's own subsystem is out of service.
+/// Whether the node's own subsystem is out of service in this marking.
 fn is_out_of_service(plan: &Plan, node: u8, marking: &Marking, ssn: u8) -> bool
     requires { node < length plan.now.nodes }
     ensures { result ≡ holds marking.now (Subsystem (point_of plan.now node) ssn) }
@@ -66,7 +67,7 @@ fn is_out_of_service(plan: &Plan, node: u8, marking: &Marking, ssn: u8) -> bool
     marking.holds(Mark::Subsystem(point_of(plan, node), ssn))
 }
 
-/// The refusal cause of a request that is routed on a subsystem number.
+/// The refusal cause of a request that is routed on a subsystem number (Q.713 section 3.15).
 fn at_subsystem(plan: &Plan, node: u8, marking: &Marking, ssn: Option<u8>) -> u8
     requires { node < length plan.now.nodes }
     ensures { Way.Refused result ≡ at_subsystem plan.now node marking.now ssn }
@@ -85,7 +86,7 @@ fn at_subsystem(plan: &Plan, node: u8, marking: &Marking, ssn: Option<u8>) -> u8
     }
 }
 
-/// The refusal cause of a title without a row.
+/// The refusal cause of a title that no row of the translation matches.
 fn refusal_of(cause: u8) -> u8
     ensures { result ≡ refusal_of cause }
 {
@@ -96,14 +97,14 @@ fn refusal_of(cause: u8) -> u8
     }
 }
 
-/// The refusal cause where each target is closed.
+/// The refusal cause of a title whose targets are all closed.
 fn blocked_cause(cause: u8) -> u8
     ensures { result ≡ (if cause == 3 then 10 else 5) }
 {
     if cause == 3 { 10 } else { 5 }
 }
 
-/// Whether one more translation uses the hop counter up.
+/// Whether one more translation would use up the hop counter.
 fn is_used_up(params: &List<Param>) -> bool
     ensures { result ≡ is_used_up (param_of params.now names.hops) }
 {
@@ -113,7 +114,7 @@ fn is_used_up(params: &List<Param>) -> bool
     }
 }
 
-/// On to a point, with another called address.
+/// Sends the request on to a point, with another called address.
 #[tactic(auto, using(crate::proofs::Counting::count_short))]
 fn onward(
     alloc: Global,
@@ -135,7 +136,7 @@ fn onward(
     }
 }
 
-/// What a step makes of the request.
+/// What the request becomes after a step of the translation.
 #[tactic(auto, using(crate::proofs::Counting::relay_room, crate::proofs::Counting::place_room))]
 fn after_step(
     alloc: Global,
@@ -156,7 +157,7 @@ fn after_step(
 {
     match step {
         Step::Sent { next, .. } => {
-            // That there are at most 32 digits is known from this call alone.
+            // The proof learns only from this call that there are at most 32 digits.
             let _count = next.digits.len();
             let to = point_of(plan, next.node);
             onward(alloc, to, onward_address(called, spot, step), params)
@@ -174,7 +175,7 @@ fn after_step(
     }
 }
 
-/// What a relay makes of a request, by tests in this order: the class, the routing, the hop counter, and the title.
+/// What a relay makes of a request. The tests are made in this order: class, routing, hop counter, title.
 pub(crate) fn request_way(
     alloc: Global,
     plan: &Plan,
