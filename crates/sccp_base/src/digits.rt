@@ -1,4 +1,4 @@
-ghost use Rattle.std.specs.Prelude.{◌≡◌, ℕ, ◌<◌, ◌≤◌, ◌+◌, List, [], ◌∷◌, ◌++◌, length, IsTrue, ◌↔◌, slice_get, Some, drop, SomeIff, replicate};
+ghost use Rattle.std.specs.Prelude.{◌≡◌, ℕ, ◌<◌, ◌≤◌, ◌+◌, List, [], ◌∷◌, ◌++◌, length, IsTrue, ◌↔◌, Some, drop, SomeIff, replicate};
 ghost use Rattle.std.specs.List.{starts_with, All};
 ghost use Rattle.std.specs.Prelude.{nat_eq, nat_le, ◌*◌, if◌then◌else◌, IfOk, IfSome, slice_index};
 ghost use Rattle.sccp_base.specs.Bcd.{halves, unpacked, packed};
@@ -106,13 +106,6 @@ impl Digits {
         ensures halves { All (λ d. d < 16) result.now }
     {
         &self.halves[..usize::from(self.len)]
-    }
-
-    pub fn at(&self, place: usize) -> u8
-        requires { place < length self.now }
-        ensures { slice_get self.now place ≡ Some result }
-    {
-        self.halves[place]
     }
 
     pub fn is_decimal(&self) -> bool
