@@ -93,13 +93,7 @@ pub(crate) fn travel<S: HoldsMarking>(
 fn most_arrivals_of(message: &Message) -> u8
     ensures { result ≡ most_arrivals (Ok message.now) }
 {
-    match message {
-        Message::Xudt { .. }
-        | Message::Xudts { .. }
-        | Message::Ludt { .. }
-        | Message::Ludts { .. } => 15,
-        _ => 14,
-    }
+    if message.hops().is_some() { 15 } else { 14 }
 }
 
 /// The nodes that octets come to, behind the path, and the last arrival, or none where the message is cut off. The message is

@@ -1,37 +1,11 @@
-//! The called address and the hop counter of connectionless messages, and their change.
+//! The change of the called address and the hop counter of connectionless messages.
 ghost use Rattle.std.specs.Prelude.{◌≡◌};
-ghost use Rattle.std.specs.Option.{option_copied};
-ghost use Rattle.sccp_scrc.specs.Unitdata.{called_of, hops_of, redirected};
+ghost use Rattle.sccp_message.specs.Unitdata.{called_of};
+ghost use Rattle.sccp_scrc.specs.Unitdata.{redirected};
 
 use sccp_address::Address;
 use sccp_message::Message;
 use std::mem;
-
-pub(crate) fn called(message: &Message) -> Option<&Address>
-    ensures { option_copied result ≡ called_of message.now }
-{
-    match message {
-        Message::Udt { called, .. }
-        | Message::Udts { called, .. }
-        | Message::Xudt { called, .. }
-        | Message::Xudts { called, .. }
-        | Message::Ludt { called, .. }
-        | Message::Ludts { called, .. } => Some(called),
-        _ => None,
-    }
-}
-
-pub(crate) fn hops(message: &Message) -> Option<u8>
-    ensures { result ≡ hops_of message.now }
-{
-    match message {
-        Message::Xudt { hops, .. }
-        | Message::Xudts { hops, .. }
-        | Message::Ludt { hops, .. }
-        | Message::Ludts { hops, .. } => Some(*hops),
-        _ => None,
-    }
-}
 
 // The message of each type that has a called address with another one, behind the fields that stay: a line for each type
 // with what stands first in its fixed part, those with a hop counter last.
