@@ -12,8 +12,9 @@ use Rattle.sccp_layout.specs.declared.parts.JoinFault.{JoinFault}
 use Rattle.sccp_message.specs.declared.message.Message.{Message}
 use Rattle.sccp_message.specs.Reading.{reading}
 use Rattle.sccp_message.specs.Written.{message_octets, Sound}
+use Rattle.sccp_message.specs.Unitdata.{called_of}
 use Rattle.sccp_scrc.specs.Arriving.{point_of}
-use Rattle.sccp_scrc.specs.Unitdata.{called_of, octets_of, write_fault}
+use Rattle.sccp_scrc.specs.Unitdata.{octets_of, write_fault}
 use Rattle.plan_model.specs.Network as plans
 use Rattle.plan_model.specs.Network.{IsPlan, node_of}
 use Rattle.sccp_scrc.proofs.Redirected.{reads_again}

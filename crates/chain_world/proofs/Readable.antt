@@ -20,9 +20,10 @@ use Rattle.sccp_message.specs.Fields.{first_unread}
 use Rattle.sccp_message.specs.Messages.{message_of}
 use Rattle.sccp_message.specs.Reading.{as_split, part_of, address_in, unread, fields_in, message_if, message_in, reading}
 use Rattle.sccp_message.specs.Written.{content, message_octets, parts_from, Sound, IsMessage}
+use Rattle.sccp_message.specs.Unitdata.{called_of}
 use Rattle.sccp_message.proofs.Octets.{octets_at}
 use Rattle.sccp_message.proofs.Writing.{typed, fits_of}
-use Rattle.sccp_scrc.specs.Unitdata.{called_of, write_fault}
+use Rattle.sccp_scrc.specs.Unitdata.{write_fault}
 use Rattle.sccp_scrc.proofs.Redirected.{reads_again, octets_written}
 use Rattle.couple_chain.specs.World as chains
 use Rattle.couple_chain.specs.World.{Network, World, is_node, name_of, uses_again, fault_by, is_writable, offer_fault}

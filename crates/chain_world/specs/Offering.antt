@@ -3,7 +3,8 @@ use Rattle.std.specs.Prelude.{ℕ, ◌==◌, Bool, true, false, not, ◌&&◌, O
 use Rattle.sccp_message.specs.declared.message.Message.{Message}
 use Rattle.sccp_message.specs.declared.fault.DecodeFault.{DecodeFault}
 use Rattle.sccp_message.specs.Reading.{reading}
-use Rattle.sccp_scrc.specs.Unitdata.{called_of, octets_of}
+use Rattle.sccp_message.specs.Unitdata.{called_of}
+use Rattle.sccp_scrc.specs.Unitdata.{octets_of}
 use Rattle.couple_chain.specs.declared.happening.Happening.{Happening}
 use Rattle.couple_chain.specs.declared.happening.Happening.TheVariants.{Offers, Delivers}
 use Rattle.couple_chain.specs.declared.offer_fault.OfferFault.{OfferFault}

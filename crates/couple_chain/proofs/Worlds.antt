@@ -6,7 +6,7 @@ use Rattle.std.proofs.lemmas.Bool.{not-false, cases_Bool, cases_eq, eq-eqb, eqb-
 use Rattle.std.proofs.lemmas.List.Elements.{All-nil}
 use Rattle.sccp_message.specs.declared.message.Message.{Message}
 use Rattle.sccp_message.specs.declared.message.Message.TheVariants as messages
-use Rattle.sccp_scrc.specs.Unitdata.{called_of}
+use Rattle.sccp_message.specs.Unitdata.{called_of}
 use Rattle.sccp_couple.specs.declared.section.Section.{Section}
 use Rattle.sccp_couple.specs.Sections.{is_that, section_at}
 use Rattle.sccp_couple.specs.Events.{Event}

@@ -6,8 +6,9 @@ use Rattle.sccp_message.specs.declared.message.Message.{Message}
 use Rattle.sccp_message.specs.declared.message.Message.TheVariants as messages
 use Rattle.sccp_message.specs.Fields.{first_unread}
 use Rattle.sccp_message.specs.Written.{content}
+use Rattle.sccp_message.specs.Unitdata.{called_of}
 use Rattle.sccp_layout.specs.Table.{row}
-use Rattle.sccp_scrc.specs.Unitdata.{called_of, write_fault}
+use Rattle.sccp_scrc.specs.Unitdata.{write_fault}
 use Rattle.sccp_couple.specs.declared.way.Way.{Way}
 use Rattle.sccp_couple.specs.Events.{Event, Answer}
 pub use Rattle.couple_chain.specs.declared.happening.Happening.{Happening}

@@ -6,10 +6,10 @@ use Rattle.sccp_base.specs.declared.mark.Mark.{Mark}
 use Rattle.sccp_message.specs.Reading.{reading}
 use Rattle.sccp_message.specs.declared.fault.DecodeFault.{DecodeFault}
 use Rattle.sccp_message.specs.declared.message.Message.{Message}
+use Rattle.sccp_message.specs.Unitdata.{hops_of}
 use Rattle.plan_model.specs.Network.{Network, node_of}
 use Rattle.plan_model.specs.declared.node.Node.{Node}
 use Rattle.sccp_scrc.specs.Arriving.{arrival, point_of}
-use Rattle.sccp_scrc.specs.Unitdata.{hops_of}
 use Rattle.sccp_scrc.specs.declared.arrival.Arrival.{Arrival}
 use Rattle.sccp_scrc.specs.declared.arrival.Arrival.TheVariants as arrivals
 use Rattle.relay_net.specs.Journeys.{held_at, onward, travel, most_arrivals, journey}

@@ -1,9 +1,8 @@
 //! The values that the texts and integers of a plan text spell.
 ghost use Rattle.std.specs.Prelude.{◌≡◌, ◌≤◌, IfSome, length};
 ghost use Rattle.plan_text.specs.Words.{within, digits_up_to, place_of};
-ghost use Rattle.sccp_base.specs.Text.{byte_of};
 
-use sccp_base::{Digits, PointCode, cut, decimal};
+use sccp_base::{Digits, PointCode, byte, cut};
 
 /// The integer, if it is from `least` to `most`.
 #[tactic(auto, unfolding(crate::specs::Words::within))]
@@ -37,22 +36,12 @@ pub(crate) fn place_of(text: &[u8]) -> Option<(PointCode, u8)>
 {
     match cut(text, b'/') {
         Some((point, ssn)) => match PointCode::parse(point) {
-            Some(pc) => match byte_of(ssn) {
+            Some(pc) => match byte(ssn) {
                 Some(ssn) => Some((pc, ssn)),
                 None => None,
             },
             None => None,
         },
         None => None,
-    }
-}
-
-/// A number up to 255 of one to three decimal digits.
-fn byte_of(text: &[u8]) -> Option<u8>
-    ensures { result ≡ byte_of text.now }
-{
-    match decimal(text, 3) {
-        Some(value) if value < 256 => Some(value as u8),
-        _ => None,
     }
 }

@@ -13,6 +13,7 @@ use Rattle.sccp_message.specs.declared.message.Message.TheVariants.{Xudt, Xudts,
 use Rattle.sccp_message.specs.declared.fault.DecodeFault.{DecodeFault}
 use Rattle.sccp_message.specs.Reading.{reading}
 use Rattle.sccp_message.specs.Written.{message_octets}
+use Rattle.sccp_message.specs.Unitdata.{called_of, hops_of}
 use Rattle.plan_model.specs.declared.spot.Spot.{Spot}
 use Rattle.plan_model.specs.declared.hop.Step.{Step}
 use Rattle.plan_model.specs.declared.hop.Step.TheVariants as steps
@@ -21,7 +22,7 @@ use Rattle.plan_model.specs.Steps.{step}
 use Rattle.plan_model.proofs.Leading.{Facts, step_facts}
 use Rattle.sccp_scrc.specs.declared.arrival.Arrival.{Arrival}
 use Rattle.sccp_scrc.specs.declared.arrival.Arrival.TheVariants as arrivals
-use Rattle.sccp_scrc.specs.Unitdata.{called_of, hops_of, redirected, write_fault, octets_of}
+use Rattle.sccp_scrc.specs.Unitdata.{redirected, write_fault, octets_of}
 use Rattle.sccp_scrc.specs.Rewriting.{one_less, to_relay, rewritten, spot_of}
 use Rattle.sccp_scrc.specs.Returning.{returned}
 use Rattle.sccp_scrc.specs.Arriving.{point_of, subsystems_of, at_subsystem, leaving, after_step, translated, is_last_hop, at_title, by_called, of_message, arrival}

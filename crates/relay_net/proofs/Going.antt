@@ -10,6 +10,7 @@ use Rattle.sccp_address.proofs.Kept.{AreOctets}
 use Rattle.sccp_message.specs.declared.message.Message.{Message}
 use Rattle.sccp_message.specs.Reading.{reading}
 use Rattle.sccp_message.specs.Written.{message_octets}
+use Rattle.sccp_message.specs.Unitdata.{hops_of}
 use Rattle.plan_model.specs.declared.spot.Spot.{Spot}
 use Rattle.plan_model.specs.declared.hop.Step.{Step}
 use Rattle.plan_model.specs.declared.hop.Step.TheVariants as steps
@@ -22,7 +23,7 @@ use Rattle.plan_model.proofs.Leading.{Facts, step_facts}
 use Rattle.plan_model.proofs.Within.{Within, not_within, within_next, within_end}
 use Rattle.sccp_scrc.specs.declared.arrival.Arrival.{Arrival}
 use Rattle.sccp_scrc.specs.declared.arrival.Arrival.TheVariants as arrivals
-use Rattle.sccp_scrc.specs.Unitdata.{hops_of, redirected, octets_of}
+use Rattle.sccp_scrc.specs.Unitdata.{redirected, octets_of}
 use Rattle.sccp_scrc.specs.Rewriting.{one_less, to_relay, to_place, rewritten}
 use Rattle.sccp_scrc.specs.Returning.{service_for}
 use Rattle.sccp_scrc.specs.Unchanged.{SameData, IsFor}

@@ -6,11 +6,11 @@ use Rattle.sccp_message.specs.declared.message.Message.{Message}
 use Rattle.sccp_message.specs.declared.fault.DecodeFault.{DecodeFault}
 use Rattle.sccp_message.specs.Reading.{reading}
 use Rattle.sccp_message.specs.Written.{message_octets}
+use Rattle.sccp_message.specs.Unitdata.{called_of}
 use Rattle.plan_model.specs.Network.{Network, IsPlan, node_of}
 use Rattle.sccp_scrc.specs.declared.arrival.Arrival.{Arrival}
 use Rattle.sccp_scrc.specs.declared.arrival.Arrival.TheVariants.{Relayed}
 use Rattle.sccp_scrc.specs.declared.arrival.Arrival.TheVariants as arrivals
-use Rattle.sccp_scrc.specs.Unitdata.{called_of}
 use Rattle.sccp_scrc.specs.Arriving.{arrival, by_called, of_message, point_of}
 use Rattle.sccp_scrc.specs.Passing.{sent_on, IsPassed, ReadsAgain}
 use Rattle.sccp_scrc.proofs.Redirected.{reads_again}

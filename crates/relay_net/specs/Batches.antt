@@ -6,7 +6,7 @@ use Rattle.sccp_manage.specs.declared.event.Event.TheVariants.{Knock}
 use Rattle.sccp_message.specs.Reading.{reading}
 use Rattle.sccp_message.specs.declared.message.Message.{Message}
 use Rattle.sccp_message.specs.declared.fault.DecodeFault.{DecodeFault}
-use Rattle.sccp_scrc.specs.Unitdata.{called_of}
+use Rattle.sccp_message.specs.Unitdata.{called_of}
 use Rattle.plan_model.specs.Network.{Network}
 use Rattle.relay_net.specs.declared.happening.Happening.{Happening}
 use Rattle.relay_net.specs.declared.happening.Happening.TheVariants.{Managed, Delivered}

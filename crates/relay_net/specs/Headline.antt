@@ -5,6 +5,7 @@ use Rattle.sccp_base.specs.declared.mark.Mark.{Mark}
 use Rattle.sccp_base.specs.declared.mark.Mark.TheVariants.{PointCode, Sccp, Subsystem}
 use Rattle.sccp_message.specs.declared.message.Message.{Message}
 use Rattle.sccp_message.specs.Reading.{reading}
+use Rattle.sccp_message.specs.Unitdata.{called_of, hops_of}
 use Rattle.plan_model.specs.declared.spot.Spot.{Spot}
 use Rattle.plan_model.specs.Network.{Network}
 use Rattle.plan_model.specs.Covered.{Covered, IsAllowed}
@@ -12,7 +13,7 @@ use Rattle.plan_model.specs.Next.{next_of}
 use Rattle.plan_model.specs.Named.{NamesMarks}
 use Rattle.plan_model.specs.Steps.{step}
 use Rattle.sccp_address.specs.declared.address.Address.{Address}
-use Rattle.sccp_scrc.specs.Unitdata.{called_of, hops_of, Room}
+use Rattle.sccp_scrc.specs.Unitdata.{Room}
 use Rattle.sccp_scrc.specs.Rewriting.{spot_of}
 use Rattle.sccp_scrc.specs.Unchanged.{IsFor}
 use Rattle.sccp_scrc.specs.Arriving.{point_of}

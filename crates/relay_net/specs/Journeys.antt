@@ -4,13 +4,13 @@ use Rattle.sccp_base.specs.declared.mark.Mark.{Mark}
 use Rattle.sccp_message.specs.declared.message.Message.{Message}
 use Rattle.sccp_message.specs.declared.fault.DecodeFault.{DecodeFault}
 use Rattle.sccp_message.specs.Reading.{reading}
+use Rattle.sccp_message.specs.Unitdata.{hops_of}
 use Rattle.plan_model.specs.Network.{Network, node_of}
 use Rattle.sccp_scrc.specs.declared.way.Way.{Way}
 use Rattle.sccp_scrc.specs.declared.way.Way.TheVariants.{Direct, Shut, ByTitle}
 use Rattle.sccp_scrc.specs.declared.service.Service.{Service}
 use Rattle.sccp_scrc.specs.declared.arrival.Arrival.{Arrival}
 use Rattle.sccp_scrc.specs.declared.arrival.Arrival.TheVariants as arrivals
-use Rattle.sccp_scrc.specs.Unitdata.{hops_of}
 use Rattle.sccp_scrc.specs.Arriving.{arrival, point_of}
 use Rattle.relay_net.specs.declared.end.End.{End}
 use Rattle.relay_net.specs.declared.end.End.TheVariants as ends

@@ -2,7 +2,7 @@
 ghost use Rattle.std.specs.Prelude.{◌≡◌, IfOk};
 ghost use Rattle.std.specs.Option.{option_and_then};
 ghost use Rattle.sccp_message.specs.Reading.{reading};
-ghost use Rattle.sccp_scrc.specs.Unitdata.{called_of};
+ghost use Rattle.sccp_message.specs.Unitdata.{called_of};
 ghost use Rattle.relay_net.specs.Batches.{ssn_if_routed, ssn_in};
 ghost use Rattle.relay_net.specs.Journeys.{last_node};
 
@@ -33,14 +33,9 @@ fn ssn_if_routed(address: &Address) -> Option<u8>
 fn ssn_of(message: &Message) -> Option<u8>
     ensures { result ≡ option_and_then ssn_if_routed (called_of message.now) }
 {
-    match message {
-        Message::Udt { called, .. }
-        | Message::Udts { called, .. }
-        | Message::Xudt { called, .. }
-        | Message::Xudts { called, .. }
-        | Message::Ludt { called, .. }
-        | Message::Ludts { called, .. } => ssn_if_routed(called),
-        _ => None,
+    match message.called() {
+        Some(address) => ssn_if_routed(address),
+        None => None,
     }
 }
 

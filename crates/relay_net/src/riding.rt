@@ -1,8 +1,8 @@
 //! The way of a message from relay to relay. It is changed in place and written only when it leaves them.
 ghost use Rattle.std.specs.Prelude.{◌≡◌, ◌<◌, ◌++◌, length, map, IfOk, IfSome};
 ghost use Rattle.sccp_message.specs.Written.{message_octets};
+ghost use Rattle.sccp_message.specs.Unitdata.{called_of};
 ghost use Rattle.plan_model.specs.Network.{node_of};
-ghost use Rattle.sccp_scrc.specs.Unitdata.{called_of};
 ghost use Rattle.sccp_scrc.specs.Arriving.{by_called, arrival};
 ghost use Rattle.sccp_scrc.specs.Passing.{sent_on, IsPassed, ReadsAgain};
 ghost use Rattle.relay_net.specs.Journeys.{held_at, travel};

@@ -95,13 +95,7 @@ pub(crate) fn travel<S: HoldsMarking>(
 fn most_arrivals_of(message: &Message) -> u8
     ensures { result ≡ most_arrivals (Ok message.now) }
 {
-    match message {
-        Message::Xudt { .. }
-        | Message::Xudts { .. }
-        | Message::Ludt { .. }
-        | Message::Ludts { .. } => 15,
-        _ => 14,
-    }
+    if message.hops().is_some() { 15 } else { 14 }
 }
 
 /// The last arrival of octets, none if the message is cut off. Its nodes are appended to the path. Only here is the message

@@ -1,9 +1,10 @@
 //! Addresses and their global titles.
-ghost use Rattle.std.specs.Prelude.{◌≡◌, ◌%◌, length, IfSome};
+ghost use Rattle.std.specs.Prelude.{◌≡◌, ◌%◌, length, IfOk, IfSome};
 ghost use Rattle.std.specs.Option.{SomeIff};
 ghost use Rattle.sccp_address.specs.Addresses.{selector_in, digits_in};
 
-use sccp_base::{Digits, Octets, PointCode, Selector};
+use sccp_base::{Digits, Octets, OutOfMemory, PointCode, Selector};
+use std::alloc::Global;
 
 /// A called or calling address (Q.713 sections 3.4 and 3.5).
 #[derive(Drop)]
@@ -47,6 +48,42 @@ impl Title {
         } else {
             Some(Title::Global { selector, digits })
         }
+    }
+
+    // The same title in memory of its own.
+    fn try_clone(&self, alloc: Global) -> Result<Title, OutOfMemory>
+        ensures { IfOk result (λ copy. copy ≡ self.now) }
+    {
+        match self {
+            Title::Absent => Ok(Title::Absent),
+            Title::Global { selector, digits } => Ok(Title::Global {
+                selector: *selector,
+                digits: *digits,
+            }),
+            Title::Raw { kind, octets } => {
+                let octets = octets.try_clone(alloc)?;
+                Ok(Title::Raw {
+                    kind: *kind,
+                    octets,
+                })
+            }
+        }
+    }
+}
+
+impl Address {
+    /// The same address in memory of its own.
+    pub fn try_clone(&self, alloc: Global) -> Result<Address, OutOfMemory>
+        ensures { IfOk result (λ copy. copy ≡ self.now) }
+    {
+        let title = self.title.try_clone(alloc)?;
+        Ok(Address {
+            national: self.national,
+            by_ssn: self.by_ssn,
+            pc: self.pc,
+            ssn: self.ssn,
+            title,
+        })
     }
 }
 

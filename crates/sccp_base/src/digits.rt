@@ -1,5 +1,5 @@
 //! Digits of a global title: their order, and how they are read and written as text and as octets.
-ghost use Rattle.std.specs.Prelude.{◌≡◌, ℕ, ◌<◌, ◌≤◌, ◌+◌, List, [], ◌∷◌, ◌++◌, length, IsTrue, ◌↔◌, slice_get, Some, drop, SomeIff, replicate};
+ghost use Rattle.std.specs.Prelude.{◌≡◌, ℕ, ◌<◌, ◌≤◌, ◌+◌, List, [], ◌∷◌, ◌++◌, length, IsTrue, ◌↔◌, Some, drop, SomeIff, replicate};
 ghost use Rattle.std.specs.List.{starts_with, All};
 ghost use Rattle.std.specs.Prelude.{nat_eq, nat_le, ◌*◌, if◌then◌else◌, IfOk, IfSome, slice_index};
 ghost use Rattle.sccp_base.specs.Bcd.{halves, unpacked, packed};
@@ -110,14 +110,6 @@ impl Digits {
         ensures halves { All (λ d. d < 16) result.now }
     {
         &self.halves[..usize::from(self.len)]
-    }
-
-    /// The digit at a place, counted from 0.
-    pub fn at(&self, place: usize) -> u8
-        requires { place < length self.now }
-        ensures { slice_get self.now place ≡ Some result }
-    {
-        self.halves[place]
     }
 
     /// Whether each digit is below 10.

@@ -35,4 +35,4 @@ pub use point_code::PointCode;
 pub use reference::Reference;
 pub use selector::Selector;
 pub use seven::Seven;
-pub use text::{cut, decimal};
+pub use text::{byte, cut, decimal};

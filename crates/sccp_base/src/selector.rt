@@ -2,9 +2,9 @@
 ghost use Rattle.std.specs.Prelude.{◌≡◌};
 ghost use Rattle.std.specs.Option.{SomeIff};
 ghost use Rattle.sccp_base.specs.Selector.{IsSelector, numbers};
-ghost use Rattle.sccp_base.specs.Text.{selector_of, byte_of};
+ghost use Rattle.sccp_base.specs.Text.{selector_of};
 
-use crate::text::{cut, decimal};
+use crate::text::{byte, cut};
 use std::marker::Model;
 
 /// What selects the rows of a translation: the kind of a global title, 1 to 4, and the numbers that this kind has. A
@@ -106,15 +106,5 @@ impl Selector {
             }
             _ => None,
         }
-    }
-}
-
-/// Reads a number up to 255 of one to three decimal digits.
-fn byte(text: &[u8]) -> Option<u8>
-    ensures { result ≡ byte_of text.now }
-{
-    match decimal(text, 3) {
-        Some(value) if value < 256 => Some(value as u8),
-        _ => None,
     }
 }

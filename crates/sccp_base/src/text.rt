@@ -1,7 +1,7 @@
 //! Readers of a text's parts.
 ghost use Rattle.std.specs.Prelude.{◌≡◌, ◌≤◌, ◌<◌};
 ghost use Rattle.std.specs.Option.{option_map};
-ghost use Rattle.sccp_base.specs.Text.{cut_at, decimal_of};
+ghost use Rattle.sccp_base.specs.Text.{cut_at, decimal_of, byte_of};
 
 /// The text before the first separator, and the text after it. `None` if there is no separator.
 pub fn cut(text: &[u8], separator: u8) -> Option<(&[u8], &[u8])>
@@ -31,4 +31,14 @@ pub fn decimal(text: &[u8], most: usize) -> Option<u64>
         value = 10 * value + u64::from(*octet - b'0');
     }
     Some(value)
+}
+
+/// A number up to 255 that one to three decimal digits spell, as a subsystem number is written.
+pub fn byte(text: &[u8]) -> Option<u8>
+    ensures { result ≡ byte_of text.now }
+{
+    match decimal(text, 3) {
+        Some(value) if value < 256 => Some(value as u8),
+        _ => None,
+    }
 }

@@ -20,7 +20,7 @@ use Rattle.sccp_message.specs.Messages.{without_address, with_called, with_both,
 use Rattle.sccp_message.specs.Reading.{part_of}
 use Rattle.sccp_message.specs.Reads.{Reads}
 use Rattle.sccp_message.specs.Written.{content}
-use Rattle.sccp_scrc.specs.Unitdata.{called_of}
+use Rattle.sccp_message.specs.Unitdata.{called_of}
 use Rattle.sccp_message.proofs.Made.{made, made_here}
 use Rattle.sccp_couple.specs.Sending.{HasShortParts}
 

@@ -8,7 +8,6 @@ ghost use Rattle.sccp_couple.specs.Sections.{known, section_at};
 ghost use Rattle.sccp_couple.specs.Coupling.{on_confirm, on_refusal, on_data, on_release, on_complete, release, to_one};
 ghost use Rattle.sccp_couple.specs.Sending.{written_sent};
 
-use crate::params::copied;
 use crate::section::Section;
 use crate::sections::Sections;
 use crate::sending::{confirm_toward, data_toward, error, refuse_toward, to_one, to_two};

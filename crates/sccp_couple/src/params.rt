@@ -22,14 +22,6 @@ pub(crate) fn first_octet(octets: &[u8]) -> u8
     }
 }
 
-/// A copy of the parameter in memory of its own.
-fn copy_of(alloc: Global, param: &Param) -> Result<Param, OutOfMemory>
-    ensures { IfOk result (λ copy. copy ≡ param.now) }
-{
-    let octets = Octets::from_vec(Vec::from_slice(alloc, param.octets())?);
-    Ok(Param::new(param.name(), octets).unwrap())
-}
-
 /// The hop counter, one less.
 fn counted(alloc: Global, param: &Param) -> Result<Param, OutOfMemory>
     ensures { IfOk result (λ copy. copy ≡ parameter param.now.name (counted param.now.octets)) }
@@ -46,19 +38,8 @@ fn next_of(alloc: Global, param: &Param, is_first: bool) -> Result<Param, OutOfM
     if is_first && param.name() == HOPS {
         counted(alloc, param)
     } else {
-        copy_of(alloc, param)
+        param.try_clone(alloc)
     }
-}
-
-/// Copies of the parameters in memory of their own.
-pub(crate) fn copied(alloc: Global, params: &List<Param>) -> Result<List<Param>, OutOfMemory>
-    ensures { IfOk result (λ copy. copy ≡ params.now) }
-{
-    let mut copy = List::new(alloc);
-    for param in params.as_slice() {
-        copy.push(copy_of(alloc, param)?)?;
-    }
-    Ok(copy)
 }
 
 /// The parameters, with the first hop counter one less.

@@ -7,12 +7,11 @@ ghost use Rattle.sccp_couple.specs.Sections.{known};
 ghost use Rattle.sccp_couple.specs.Coupling.{on_release, release, to_one};
 ghost use Rattle.sccp_couple.specs.Sending.{written_sent};
 
-use crate::params::copied;
 use crate::section::Section;
 use crate::sections::Sections;
 use crate::sending::{error, to_one, to_two};
 use sccp_base::{List, OutOfMemory, PointCode, Reference};
-use sccp_layout::Param;
+use sccp_layout::{Param, copied_params};
 use sccp_manage::Sent;
 use sccp_message::Message;
 use std::alloc::Global;
@@ -44,7 +43,7 @@ fn complete_and_release(
     requires { are_short params.now ≡ true }
     ensures { IfOk result (λ sent. sent ≡ map written_sent (to_one origin (Message.Rlc slr dlr) ++ to_one other.now.point (Message.Rlsd remote other.now.own cause params.now))) }
 {
-    let params = copied(alloc, params)?;
+    let params = copied_params(alloc, params)?;
     let completed = Message::Rlc { dlr: slr, slr: dlr };
     let released = Message::Rlsd {
         dlr: remote,

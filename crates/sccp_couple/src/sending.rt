@@ -7,10 +7,9 @@ ghost use Rattle.sccp_message.specs.Written.{message_octets, Writable};
 ghost use Rattle.sccp_couple.specs.Coupling.{to_one, to_remote, toward};
 ghost use Rattle.sccp_couple.specs.Sending.{written_sent};
 
-use crate::params::copied;
 use crate::section::Section;
 use sccp_base::{List, Octets, OutOfMemory, PointCode, Reference};
-use sccp_layout::Param;
+use sccp_layout::{Param, copied_params};
 use sccp_manage::Sent;
 use sccp_message::{EncodeFault, Message, encode};
 use std::alloc::Global;
@@ -112,7 +111,7 @@ fn confirmation(
     requires { are_short params.now ≡ true }
     ensures { IfOk result (λ sent. sent ≡ map written_sent (to_one to (Message.Cc dlr slr class params.now))) }
 {
-    let params = copied(alloc, params)?;
+    let params = copied_params(alloc, params)?;
     let message = Message::Cc {
         dlr,
         slr,
@@ -153,7 +152,7 @@ fn refusal_with(
     requires { are_short params.now ≡ true }
     ensures { IfOk result (λ sent. sent ≡ map written_sent (to_one to (Message.Cref dlr cause params.now))) }
 {
-    let params = copied(alloc, params)?;
+    let params = copied_params(alloc, params)?;
     to_one(alloc, to, Message::Cref { dlr, cause, params })
 }
 

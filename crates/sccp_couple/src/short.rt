@@ -1,7 +1,7 @@
 //! Which messages a coupling takes, and which lengths they keep.
 ghost use Rattle.std.specs.Prelude.{◌≡◌, ◌↔◌, true, None};
 ghost use Rattle.sccp_message.specs.Reads.{Reads};
-ghost use Rattle.sccp_scrc.specs.Unitdata.{called_of};
+ghost use Rattle.sccp_message.specs.Unitdata.{called_of};
 ghost use Rattle.sccp_couple.specs.Sending.{HasShortParts};
 
 use sccp_message::Message;
@@ -10,14 +10,9 @@ use sccp_message::Message;
 pub fn is_connection(message: &Message) -> bool
     ensures { (result ≡ true) ↔ (called_of message.now ≡ None) }
 {
-    match message {
-        Message::Udt { .. }
-        | Message::Udts { .. }
-        | Message::Xudt { .. }
-        | Message::Xudts { .. }
-        | Message::Ludt { .. }
-        | Message::Ludts { .. } => false,
-        _ => true,
+    match message.called() {
+        Some(_) => false,
+        None => true,
     }
 }
 

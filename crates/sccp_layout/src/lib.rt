@@ -18,7 +18,7 @@ mod table;
 
 pub use fixed::Fixed;
 pub use joining::{join, join_parts};
-pub use param::Param;
+pub use param::{Param, copied_params};
 pub use part::Part;
 pub use parts::{JoinFault, Parts, SplitFault};
 pub use shape::Layout;

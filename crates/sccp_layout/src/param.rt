@@ -1,9 +1,10 @@
 //! Optional parameters.
-ghost use Rattle.std.specs.Prelude.{◌≡◌, ◌<◌};
+ghost use Rattle.std.specs.Prelude.{◌≡◌, ◌<◌, IfOk};
 ghost use Rattle.std.specs.Option.{SomeIff};
 ghost use Rattle.sccp_layout.specs.Parameter.{parameter};
 
-use sccp_base::Octets;
+use sccp_base::{List, Octets, OutOfMemory};
+use std::alloc::Global;
 use std::marker::Model;
 
 /// An optional parameter: its name, which is not 0, and its contents (Q.713 section 3).
@@ -50,4 +51,26 @@ impl Param {
     {
         self.octets.as_slice()
     }
+
+    /// The same parameter in memory of its own.
+    pub fn try_clone(&self, alloc: Global) -> Result<Param, OutOfMemory>
+        ensures { IfOk result (λ copy. copy ≡ self.now) }
+    {
+        let octets = self.octets.try_clone(alloc)?;
+        Ok(Param {
+            name: self.name,
+            octets,
+        })
+    }
+}
+
+/// The same parameters in memory of their own.
+pub fn copied_params(alloc: Global, params: &List<Param>) -> Result<List<Param>, OutOfMemory>
+    ensures { IfOk result (λ copy. copy ≡ params.now) }
+{
+    let mut copy = List::new(alloc);
+    for param in params.as_slice() {
+        copy.push(param.try_clone(alloc)?)?;
+    }
+    Ok(copy)
 }

@@ -8,3 +8,4 @@ pub mod Messages
 pub mod Reads
 pub mod Written
 pub mod Survey
+pub mod Unitdata

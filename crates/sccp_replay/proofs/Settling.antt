@@ -21,7 +21,7 @@ use Rattle.sccp_address.specs.declared.address.Address.{Address}
 use Rattle.sccp_message.specs.Reading.{reading}
 use Rattle.sccp_message.specs.declared.fault.DecodeFault.{DecodeFault}
 use Rattle.sccp_message.specs.declared.message.Message.{Message}
-use Rattle.sccp_scrc.specs.Unitdata.{called_of}
+use Rattle.sccp_message.specs.Unitdata.{called_of}
 use Rattle.sccp_report.specs.Roles.{Role, routed, later, aside, alone, role_of, role_by_called, role_of_message, role_at, is_for_management, management_data, status_due, named}
 use Rattle.sccp_report.specs.Verdicts.{verdict_text}
 use Rattle.trace_text.specs.declared.line.Line.{Line}

@@ -5,11 +5,11 @@ use Rattle.sccp_message.specs.Reading.{reading}
 use Rattle.sccp_message.specs.declared.fault.DecodeFault.{DecodeFault}
 use Rattle.sccp_message.specs.declared.message.Message.{Message}
 use Rattle.sccp_message.specs.declared.message.Message.TheVariants as messages
+use Rattle.sccp_message.specs.Unitdata.{called_of}
 use Rattle.sccp_manage.specs.Statuses.{status_of}
 use Rattle.sccp_manage.specs.declared.status.StatusKind.{StatusKind}
 use Rattle.sccp_manage.specs.declared.status.StatusKind.TheVariants.{Allowed, Prohibited, Test, OutOfServiceRequest, OutOfServiceGrant, Congested}
 use Rattle.sccp_manage.specs.declared.status.StatusMessage.{StatusMessage}
-use Rattle.sccp_scrc.specs.Unitdata.{called_of}
 use Rattle.plan_model.specs.Network.{Network}
 use Rattle.relay_net.specs.declared.outcome.Outcome.{Outcome}
 use Rattle.trace_text.specs.declared.line.Line.{Line}

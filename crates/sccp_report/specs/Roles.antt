@@ -7,9 +7,9 @@ use Rattle.sccp_message.specs.Reading.{reading}
 use Rattle.sccp_message.specs.declared.fault.DecodeFault.{DecodeFault}
 use Rattle.sccp_message.specs.declared.message.Message.{Message}
 use Rattle.sccp_message.specs.declared.message.Message.TheVariants.{Udt, Xudt, Ludt}
+use Rattle.sccp_message.specs.Unitdata.{called_of}
 use Rattle.sccp_manage.specs.declared.event.Event.{Event}
 use Rattle.sccp_manage.specs.declared.event.Event.TheVariants as events
-use Rattle.sccp_scrc.specs.Unitdata.{called_of}
 use Rattle.plan_model.specs.Network.{Network, has_name}
 use Rattle.relay_net.specs.Batches.{Incoming, Due, due}
 use Rattle.relay_net.specs.States.{CanHappen}

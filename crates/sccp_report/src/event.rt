@@ -7,7 +7,7 @@ ghost use Rattle.sccp_report.specs.Roles.{named, management_data};
 ghost use Rattle.sccp_report.specs.Events.{connection_words, kind_word, status_words, management_words, coupling_words, message_words, message_line, at_node, point_words, ssn_words, tick_words, node_in, line_words, event_line, event_text};
 
 use crate::mark::put_destination;
-use crate::message_parts::{is_connectionless, management_data};
+use crate::message_parts::management_data;
 use crate::report::put_undecodable;
 use crate::sent::put_sent_lines;
 use crate::text::Text;
@@ -114,7 +114,7 @@ fn put_coupling(text: &mut Text, message: &Message) -> Result<(), OutOfMemory>
 fn put_message(text: &mut Text, message: &Message) -> Result<(), OutOfMemory>
     ensures { OnOk result (text.new ≡ text.old ++ message_words message.now) }
 {
-    if is_connectionless(message) {
+    if message.is_connectionless() {
         return put_management(text, message);
     }
     put_coupling(text, message)

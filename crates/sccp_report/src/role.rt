@@ -3,10 +3,10 @@ ghost use Rattle.std.specs.Prelude.{◌≡◌, ◌<◌, length, IfOk, IfSome};
 ghost use Rattle.std.specs.Option.{option_copied, option_map};
 ghost use Rattle.sccp_message.specs.Reading.{reading};
 ghost use Rattle.sccp_message.specs.Reads.{Reads};
-ghost use Rattle.sccp_scrc.specs.Unitdata.{called_of};
+ghost use Rattle.sccp_message.specs.Unitdata.{called_of};
 ghost use Rattle.sccp_report.specs.Roles.{StandsIn, alone, as_role, event_role, incoming, named, is_for_management, role_by_called, role_of, role_of_message, status_at};
 
-use crate::message_parts::{called, management_data};
+use crate::message_parts::management_data;
 use plan_model::Plan;
 use relay_net::Happening;
 use sccp_address::Address;
@@ -88,7 +88,7 @@ fn role_of_message(
     ensures stands { IfOk result (λ role. StandsIn plan.now (as_role role)) }
     ensures value { IfOk result (λ role. as_role role ≡ role_by_called (incoming entry origin octets.now) message (called_of message)) }
 {
-    match called(&message) {
+    match message.called() {
         Some(address) => {
             if is_for_management(address) {
                 let role = management_role(alloc, plan, entry, origin, management_data(&message));

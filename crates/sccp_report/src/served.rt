@@ -5,7 +5,6 @@ ghost use Rattle.sccp_report.specs.Values.{octets_text};
 
 use crate::back::{put_back, put_ended};
 use crate::mark::put_marks;
-use crate::message_parts::payload;
 use crate::node::put_path;
 use crate::segment::put_segments;
 use crate::sent::put_sent_lines;
@@ -20,7 +19,7 @@ use std::alloc::Global;
 fn put_data_of(text: &mut Text, message: &Message) -> Result<(), OutOfMemory>
     ensures { OnOk result (text.new ≡ text.old ++ octets_text (data_of message.now)) }
 {
-    match payload(message) {
+    match message.payload() {
         Some(payload) => text.put_octets(payload.as_slice()),
         None => text.put_octets(&[]),
     }

@@ -21,6 +21,7 @@ use Rattle.sccp_message.specs.Reads.{Reads}
 use Rattle.sccp_message.proofs.Laws.{message_takes}
 use Rattle.sccp_message.proofs.Made.{reads_kept, reads_sound}
 use Rattle.sccp_message.specs.Written.{message_octets, Writable, Sound, IsMessage}
+use Rattle.sccp_message.specs.Unitdata.{called_of, hops_of}
 use Rattle.plan_rules.specs.Rule.{Rule}
 use Rattle.plan_rules.specs.declared.target.Target.TheVariants.{Relay, Final}
 use Rattle.plan_model.specs.declared.node.Node.{Node}
@@ -28,7 +29,7 @@ use Rattle.plan_model.specs.declared.spot.Spot.{Spot}
 use Rattle.plan_model.specs.Network.{Network, IsPlan, LeadsOn, has_point, node_of}
 use Rattle.plan_model.specs.Steps.{step}
 use Rattle.plan_model.proofs.Leading.{IsSentBy, IsEndedBy}
-use Rattle.sccp_scrc.specs.Unitdata.{called_of, hops_of, redirected, octets_of, Room}
+use Rattle.sccp_scrc.specs.Unitdata.{redirected, octets_of, Room}
 use Rattle.sccp_scrc.specs.Rewriting.{one_less, to_relay, to_place, spot_of, title_spot}
 use Rattle.sccp_scrc.specs.Arriving.{point_of, after_step, translated, is_last_hop, at_title, by_called, of_message, arrival, at_subsystem}
 use Rattle.sccp_scrc.proofs.Redirected.{Sound-redirected, IsMessage-redirected, Writable-redirected, Room-redirected, called-redirected, reads_again, octets_written, called_kept}

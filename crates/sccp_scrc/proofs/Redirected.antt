@@ -11,9 +11,10 @@ use Rattle.sccp_message.specs.declared.message.Message.{Message}
 use Rattle.sccp_message.specs.declared.message.Message.TheVariants.{Udt, Udts, Xudt, Xudts, Ludt, Ludts}
 use Rattle.sccp_message.specs.Reading.{reading}
 use Rattle.sccp_message.specs.Written.{message_octets, Writable, Sound, IsMessage}
+use Rattle.sccp_message.specs.Unitdata.{called_of, hops_of}
 use Rattle.sccp_message.proofs.Writing.{written_reads}
 use Rattle.sccp_message.proofs.Laws.{message_again}
-use Rattle.sccp_scrc.specs.Unitdata.{called_of, hops_of, redirected, write_fault, octets_of, Room}
+use Rattle.sccp_scrc.specs.Unitdata.{redirected, write_fault, octets_of, Room}
 
 pub Sound-redirected : (x : Address) (f : ℕ → ℕ) (m : Message) → Sound m → Sound (redirected x f m)
 Sound-redirected x f (Udt c a b d) h = h

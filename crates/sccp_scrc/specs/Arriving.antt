@@ -9,6 +9,7 @@ use Rattle.sccp_address.specs.declared.address.Address.{Address}
 use Rattle.sccp_message.specs.declared.message.Message.{Message}
 use Rattle.sccp_message.specs.declared.fault.DecodeFault.{DecodeFault}
 use Rattle.sccp_message.specs.Reading.{reading}
+use Rattle.sccp_message.specs.Unitdata.{called_of, hops_of}
 use Rattle.plan_model.specs.declared.spot.Spot.{Spot}
 use Rattle.plan_model.specs.declared.hop.Step.{Step}
 use Rattle.plan_model.specs.declared.hop.Step.TheVariants as steps
@@ -16,7 +17,7 @@ use Rattle.plan_model.specs.Network.{Network}
 use Rattle.plan_model.specs.Steps.{step}
 use Rattle.sccp_scrc.specs.declared.arrival.Arrival.{Arrival}
 use Rattle.sccp_scrc.specs.declared.arrival.Arrival.TheVariants.{Relayed, Ended, Local, Connection, Management, Undecodable}
-use Rattle.sccp_scrc.specs.Unitdata.{called_of, hops_of, octets_of}
+use Rattle.sccp_scrc.specs.Unitdata.{octets_of}
 use Rattle.sccp_scrc.specs.Rewriting.{rewritten, spot_of}
 use Rattle.sccp_scrc.specs.Returning.{returned}
 

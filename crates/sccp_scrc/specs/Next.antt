@@ -3,10 +3,10 @@ use Rattle.std.specs.Prelude.{ℕ, Bool, true, false, Option, Some, None}
 use Rattle.std.specs.Option.{option_and_then}
 use Rattle.sccp_address.specs.declared.address.Address.{Address}
 use Rattle.sccp_message.specs.declared.message.Message.{Message}
+use Rattle.sccp_message.specs.Unitdata.{called_of}
 use Rattle.plan_model.specs.declared.spot.Spot.{Spot}
 use Rattle.plan_model.specs.declared.hop.Step.{Step}
 use Rattle.plan_model.specs.declared.hop.Step.TheVariants.{Sent, Ended, Blocked, NoRow, Overgrown}
-use Rattle.sccp_scrc.specs.Unitdata.{called_of}
 use Rattle.sccp_scrc.specs.Rewriting.{to_relay, to_place, spot_of}
 
 -- an address after a step; none if the message does not go on

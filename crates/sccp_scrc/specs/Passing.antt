@@ -5,13 +5,14 @@ use Rattle.sccp_base.specs.declared.mark.Mark.{Mark}
 use Rattle.sccp_address.specs.declared.address.Address.{Address}
 use Rattle.sccp_message.specs.declared.message.Message.{Message}
 use Rattle.sccp_message.specs.Written.{message_octets, IsMessage, Sound}
+use Rattle.sccp_message.specs.Unitdata.{called_of}
 use Rattle.plan_model.specs.declared.hop.Step.{Step}
 use Rattle.plan_model.specs.declared.hop.Step.TheVariants as steps
 use Rattle.plan_model.specs.Network.{Network}
 use Rattle.plan_model.specs.Steps.{step}
 use Rattle.sccp_scrc.specs.declared.arrival.Arrival.{Arrival}
 use Rattle.sccp_scrc.specs.declared.arrival.Arrival.TheVariants.{Relayed, Ended, Local, Returned, Connection, Management, Undecodable}
-use Rattle.sccp_scrc.specs.Unitdata.{called_of, redirected}
+use Rattle.sccp_scrc.specs.Unitdata.{redirected}
 use Rattle.sccp_scrc.specs.Rewriting.{one_less, to_relay, spot_of}
 
 -- the message that goes on to a relay after a step

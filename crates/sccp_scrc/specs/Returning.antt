@@ -9,12 +9,13 @@ use Rattle.sccp_base.specs.declared.mark.Mark.TheVariants.{PointCode, Sccp}
 use Rattle.sccp_address.specs.declared.address.Address.{Address}
 use Rattle.sccp_message.specs.declared.message.Message.{Message}
 use Rattle.sccp_message.specs.declared.message.Message.TheVariants.{Udt, Udts, Xudt, Xudts, Ludt, Ludts}
+use Rattle.sccp_message.specs.Unitdata.{called_of}
 use Rattle.sccp_scrc.specs.declared.way.Way.{Way}
 use Rattle.sccp_scrc.specs.declared.way.Way.TheVariants.{Direct, Shut, ByTitle}
 use Rattle.sccp_scrc.specs.declared.service.Service.{Service}
 use Rattle.sccp_scrc.specs.declared.arrival.Arrival.{Arrival}
 use Rattle.sccp_scrc.specs.declared.arrival.Arrival.TheVariants.{Returned}
-use Rattle.sccp_scrc.specs.Unitdata.{called_of, octets_of}
+use Rattle.sccp_scrc.specs.Unitdata.{octets_of}
 use Rattle.sccp_scrc.specs.Rewriting.{spot_of}
 
 -- return on error (3.6)

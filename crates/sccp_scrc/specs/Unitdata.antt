@@ -1,4 +1,4 @@
--- The fields of connectionless messages (ITU-T Q.713 sections 4.10 to 4.14 and 4.18 to 4.20). The other types have none of them.
+-- Connectionless messages with another called address (ITU-T Q.713 sections 4.10, 4.11 and 4.18 to 4.21), and whether a message can be written.
 use Rattle.std.specs.Prelude.{ℕ, ◌≤◌, List, length, Option, Some, None, is_none, if◌then◌else◌}
 use Rattle.std.specs.Option.{option_map_or}
 use Rattle.sccp_address.specs.declared.address.Address.{Address}
@@ -9,24 +9,6 @@ use Rattle.sccp_layout.specs.Table.{row}
 use Rattle.sccp_message.specs.declared.message.Message.{Message}
 use Rattle.sccp_message.specs.declared.message.Message.TheVariants.{Udt, Udts, Xudt, Xudts, Ludt, Ludts}
 use Rattle.sccp_message.specs.Written.{content, message_octets, parts_from, Writable}
-
--- the called address (3.4)
-abbrev pub called_of : Message → Option Address
-called_of (Udt class called calling payload) = Some called
-called_of (Udts cause called calling payload) = Some called
-called_of (Xudt class hops called calling payload params) = Some called
-called_of (Xudts cause hops called calling payload params) = Some called
-called_of (Ludt class hops called calling payload params) = Some called
-called_of (Ludts cause hops called calling payload params) = Some called
-called_of m = None
-
--- the hop counter (3.18), which UDT and UDTS do not have
-abbrev pub hops_of : Message → Option ℕ
-hops_of (Xudt class hops called calling payload params) = Some hops
-hops_of (Xudts cause hops called calling payload params) = Some hops
-hops_of (Ludt class hops called calling payload params) = Some hops
-hops_of (Ludts cause hops called calling payload params) = Some hops
-hops_of m = None
 
 -- the message with another called address and, if it has a hop counter, that counter changed
 abbrev pub redirected : Address → (ℕ → ℕ) → Message → Message

@@ -4,15 +4,14 @@ ghost use Rattle.std.specs.List.{list_any};
 ghost use Rattle.sccp_address.specs.declared.address.Address.{Address};
 ghost use Rattle.sccp_base.specs.declared.mark.Mark.{Mark};
 ghost use Rattle.sccp_message.specs.declared.message.Message.{Message};
+ghost use Rattle.sccp_message.specs.Unitdata.{called_of};
 ghost use Rattle.plan_model.specs.Routes.{StaysIn};
 ghost use Rattle.sccp_scrc.specs.declared.service.Service.{Service};
-ghost use Rattle.sccp_scrc.specs.Unitdata.{called_of};
 ghost use Rattle.sccp_scrc.specs.Next.{onward_address, next_place};
 ghost use Rattle.sccp_scrc.specs.Arriving.{by_called, point_of, subsystems_of, at_subsystem, after_step, at_title, is_last_hop, arrival};
 ghost use Rattle.sccp_scrc.specs.Outcomes.{IsRelayed, IsEnded, IsLocal, IsReturned};
 
 use crate::arrival::Arrival;
-use crate::fields::{called, hops};
 use crate::leaving::{place, relay};
 use crate::returning::returned;
 use crate::rewriting::{address_after, spot_in};
@@ -152,7 +151,7 @@ fn at_title(
     requires called { IsSome (called_of message) }
     ensures { (address : Address) → called_of message ≡ Some address → IfOk result (λ a. a ≡ at_title plan.now node marking.now origin message address) }
 {
-    if is_last_hop(hops(&message)) {
+    if is_last_hop(message.hops()) {
         return returned(alloc, marking, origin, message, 12, List::new(alloc));
     }
     match spot_in(node, &message) {
@@ -176,7 +175,7 @@ fn at_title(
 pub(crate) fn routing(message: &Message) -> Option<(bool, Option<u8>)>
     ensures { result ≡ option_map (λ a. (a.by_ssn, a.ssn)) (called_of message.now) }
 {
-    match called(message) {
+    match message.called() {
         Some(address) => Some((address.by_ssn, address.ssn)),
         None => None,
     }

@@ -1,39 +1,11 @@
-//! The called address and the hop counter of connectionless messages, and their change.
+//! The change of the called address and the hop counter of connectionless messages.
 ghost use Rattle.std.specs.Prelude.{◌≡◌};
-ghost use Rattle.std.specs.Option.{option_copied};
-ghost use Rattle.sccp_scrc.specs.Unitdata.{called_of, hops_of, redirected};
+ghost use Rattle.sccp_message.specs.Unitdata.{called_of};
+ghost use Rattle.sccp_scrc.specs.Unitdata.{redirected};
 
 use sccp_address::Address;
 use sccp_message::Message;
 use std::mem;
-
-/// The called address of a message, if its type has one.
-pub(crate) fn called(message: &Message) -> Option<&Address>
-    ensures { option_copied result ≡ called_of message.now }
-{
-    match message {
-        Message::Udt { called, .. }
-        | Message::Udts { called, .. }
-        | Message::Xudt { called, .. }
-        | Message::Xudts { called, .. }
-        | Message::Ludt { called, .. }
-        | Message::Ludts { called, .. } => Some(called),
-        _ => None,
-    }
-}
-
-/// The hop counter of a message, if its type has one (Q.713 section 3.18).
-pub(crate) fn hops(message: &Message) -> Option<u8>
-    ensures { result ≡ hops_of message.now }
-{
-    match message {
-        Message::Xudt { hops, .. }
-        | Message::Xudts { hops, .. }
-        | Message::Ludt { hops, .. }
-        | Message::Ludts { hops, .. } => Some(*hops),
-        _ => None,
-    }
-}
 
 // Gives a message of each type that has a called address another one; its other fields stay. The call has a line for each
 // group of types, each with the name of its first field. The types with a hop counter are in the last one.

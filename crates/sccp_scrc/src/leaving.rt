@@ -1,12 +1,12 @@
 //! Messages that leave a node: their octets, and the return of those that cannot be written.
 ghost use Rattle.std.specs.Prelude.{◌≡◌, ◌==◌, if◌then◌else◌, IfOk, IsSome};
 ghost use Rattle.sccp_scrc.specs.declared.arrival.Arrival.TheVariants.{Relayed, Ended, Local};
-ghost use Rattle.sccp_scrc.specs.Unitdata.{called_of, redirected, octets_of};
+ghost use Rattle.sccp_message.specs.Unitdata.{called_of};
+ghost use Rattle.sccp_scrc.specs.Unitdata.{redirected, octets_of};
 ghost use Rattle.sccp_scrc.specs.Rewriting.{one_less};
 ghost use Rattle.sccp_scrc.specs.Arriving.{leaving};
 
 use crate::arrival::Arrival;
-use crate::fields::hops;
 use crate::returning::returned;
 use crate::rewriting::{restore, rewrite};
 use sccp_address::Address;
@@ -39,7 +39,7 @@ pub(crate) fn relay(
     requires called { IsSome (called_of message) }
     ensures { IfOk result (λ a. a ≡ leaving marking.now origin message (Relayed pc) (octets_of (redirected to one_less message))) }
 {
-    let before = hops(&message).unwrap_or(0);
+    let before = message.hops().unwrap_or(0);
     let (new, old) = rewrite(message, to);
     match octets_of(alloc, &new) {
         Ok(Some(octets)) => {
@@ -74,7 +74,7 @@ fn depart(
     requires called { IsSome (called_of message) }
     ensures { IfOk result (λ a. a ≡ leaving marking.now origin message (Ended pc ssn) (octets_of (redirected to one_less message))) }
 {
-    let before = hops(&message).unwrap_or(0);
+    let before = message.hops().unwrap_or(0);
     let (new, old) = rewrite(message, to);
     match octets_of(alloc, &new) {
         Ok(Some(octets)) => {

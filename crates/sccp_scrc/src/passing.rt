@@ -3,14 +3,14 @@ ghost use Rattle.std.specs.Prelude.{◌≡◌, ◌<◌, length, true, false, not
 ghost use Rattle.std.specs.Option.{option_map_or};
 ghost use Rattle.sccp_address.specs.declared.address.Address.{Address};
 ghost use Rattle.sccp_message.specs.Written.{Writable};
+ghost use Rattle.sccp_message.specs.Unitdata.{called_of};
 ghost use Rattle.plan_model.specs.Routes.{StaysIn};
-ghost use Rattle.sccp_scrc.specs.Unitdata.{called_of, redirected, octets_of};
+ghost use Rattle.sccp_scrc.specs.Unitdata.{redirected, octets_of};
 ghost use Rattle.sccp_scrc.specs.Rewriting.{one_less};
 ghost use Rattle.sccp_scrc.specs.Arriving.{by_called, after_step, at_title};
 ghost use Rattle.sccp_scrc.specs.Passing.{sent_by, sent_from, sent_on, IsPassed};
 
 use crate::arriving::{is_last_hop, own_point};
-use crate::fields::{called, hops};
 use crate::leaving::octets_of;
 use crate::lengths::fits;
 use crate::rewriting::{relay_address, restore_in_place, rewrite_in_place, spot_in};
@@ -38,7 +38,7 @@ fn pass_written(alloc: Global, message: &mut Message, to: Address) -> Result<boo
     ensures passed { IfOk result (λ passed. passed ≡ true → (message.new ≡ redirected to one_less message.old) × Writable (redirected to one_less message.old)) }
     ensures kept { IfOk result (λ passed. passed ≡ false → (message.new ≡ message.old) × (octets_of (redirected to one_less message.old) ≡ None)) }
 {
-    let before = hops(message).unwrap_or(0);
+    let before = message.hops().unwrap_or(0);
     let old = rewrite_in_place(message, to);
     if can_be_written(alloc, message)? {
         return Ok(true);
@@ -103,7 +103,7 @@ fn pass_by_title(
     ensures { (address : Address) → called_of message.old ≡ Some address →
         IfOk result (λ pc. IsPassed (λ origin. at_title plan.now node marking.now origin message.old address) (sent_from plan.now node marking.now message.old address) message.old message.new pc) }
 {
-    if is_last_hop(hops(message)) {
+    if is_last_hop(message.hops()) {
         return Ok(None);
     }
     match spot_in(node, message) {
@@ -119,7 +119,7 @@ fn pass_by_title(
 fn is_titled(message: &Message) -> bool
     ensures { result ≡ option_map_or (λ a. not a.by_ssn) (called_of message.now) false }
 {
-    match called(message) {
+    match message.called() {
         Some(address) => !address.by_ssn,
         None => false,
     }

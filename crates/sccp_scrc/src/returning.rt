@@ -2,11 +2,10 @@
 ghost use Rattle.std.specs.Prelude.{◌≡◌, IfOk};
 ghost use Rattle.std.specs.Option.{option_map_or};
 ghost use Rattle.sccp_scrc.specs.declared.way.Way.TheVariants.{Direct};
-ghost use Rattle.sccp_scrc.specs.Unitdata.{called_of};
+ghost use Rattle.sccp_message.specs.Unitdata.{called_of};
 ghost use Rattle.sccp_scrc.specs.Returning.{way_to, way_back, asks_for_return, service_message, service_for, service_by, returned};
 
 use crate::arrival::Arrival;
-use crate::fields::called;
 use crate::leaving::octets_of;
 use crate::rewriting::spot;
 use crate::service::Service;
@@ -84,7 +83,7 @@ fn service_message(cause: u8, message: Message) -> Option<Message>
 fn way_of(marking: &Marking, origin: PointCode, message: &Message) -> Way
     ensures { result ≡ option_map_or (way_back marking.now origin) (called_of message.now) (Direct origin) }
 {
-    match called(message) {
+    match message.called() {
         Some(address) => way_back(marking, origin, address),
         None => Way::Direct(origin),
     }

@@ -2,11 +2,12 @@
 ghost use Rattle.std.specs.Prelude.{◌≡◌, ◌<◌, ℕ, length, IfSome, IsSome, Some, unwrap_or, option_map};
 ghost use Rattle.sccp_address.specs.declared.address.Address.{Address};
 ghost use Rattle.sccp_message.specs.declared.message.Message.{Message};
-ghost use Rattle.sccp_scrc.specs.Unitdata.{called_of, hops_of, redirected};
+ghost use Rattle.sccp_message.specs.Unitdata.{called_of, hops_of};
+ghost use Rattle.sccp_scrc.specs.Unitdata.{redirected};
 ghost use Rattle.sccp_scrc.specs.Rewriting.{one_less, ssn_after, rerouted, to_relay, to_place, spot_of};
 ghost use Rattle.sccp_scrc.specs.Next.{onward_address, new_address, spot_in};
 
-use crate::fields::{called, hops, redirect, redirect_in_place};
+use crate::fields::{redirect, redirect_in_place};
 use plan_model::{Spot, Step};
 use sccp_address::{Address, Title};
 use sccp_message::Message;
@@ -86,7 +87,7 @@ pub(crate) fn address_after(message: &Message, spot: &Spot, step: &Step) -> Opti
     requires { spot_in spot.now.node message.now ≡ Some spot.now }
     ensures { result ≡ new_address message.now step.now }
 {
-    let address = called(message)?;
+    let address = message.called()?;
     onward_address(address, spot, step)
 }
 
@@ -94,7 +95,7 @@ pub(crate) fn address_after(message: &Message, spot: &Spot, step: &Step) -> Opti
 pub(crate) fn relay_address(message: &Message, next: Spot) -> Option<Address>
     ensures { result ≡ option_map (λ a. to_relay a next) (called_of message.now) }
 {
-    match called(message) {
+    match message.called() {
         Some(address) => Some(to_relay(address, next)),
         None => None,
     }
@@ -105,7 +106,7 @@ pub(crate) fn rewrite(message: Message, called: Address) -> (Message, Option<Add
     ensures changed { result.0 ≡ redirected called one_less message }
     ensures old { result.1 ≡ called_of message }
 {
-    let before = hops(&message).unwrap_or(0);
+    let before = message.hops().unwrap_or(0);
     redirect(message, called, one_less(before))
 }
 
@@ -114,7 +115,7 @@ pub(crate) fn rewrite_in_place(message: &mut Message, called: Address) -> Option
     ensures changed { message.new ≡ redirected called one_less message.old }
     ensures old { result ≡ called_of message.old }
 {
-    let before = hops(message).unwrap_or(0);
+    let before = message.hops().unwrap_or(0);
     redirect_in_place(message, called, one_less(before))
 }
 
@@ -168,7 +169,7 @@ pub(crate) fn spot_in(node: u8, message: &Message) -> Option<Spot>
     ensures value { result ≡ spot_in node message.now }
     ensures node { IfSome result (λ s. s.node ≡ node) }
 {
-    match called(message) {
+    match message.called() {
         Some(address) => spot(node, address),
         None => None,
     }

@@ -9,12 +9,12 @@ use Rattle.sccp_base.specs.Names.{name_of}
 use Rattle.sccp_base.specs.Text.{cut_at, decimal_of, point_code_of}
 use Rattle.sccp_message.specs.Reading.{reading}
 use Rattle.sccp_message.specs.declared.message.Message.{Message}
+use Rattle.sccp_message.specs.Unitdata.{called_of}
 use Rattle.sccp_report.specs.Events.{coupling_words}
 use Rattle.sccp_report.specs.Hops.{marks_text}
 use Rattle.sccp_report.specs.MessageText.{undecodable_line}
 use Rattle.sccp_report.specs.Values.{numbered, octets_text, point_code_text}
 use Rattle.sccp_scrc.specs.Arriving.{arrival}
-use Rattle.sccp_scrc.specs.Unitdata.{called_of}
 use Rattle.sccp_scrc.specs.declared.arrival.Arrival.{Arrival}
 use Rattle.sccp_scrc.specs.declared.arrival.Arrival.TheVariants.{Relayed, Ended, Local, Returned, Connection, Management, Undecodable}
 use Rattle.trace_text.specs.Forms.{file_name}

@@ -1,13 +1,12 @@
 //! The forms of a line of a trace.
 ghost use Rattle.std.specs.Prelude.{◌≡◌, IfOk, option_map};
 ghost use Rattle.sccp_base.specs.Names.{name_of};
-ghost use Rattle.sccp_base.specs.Text.{byte_of};
 ghost use Rattle.trace_text.specs.Forms.{file_name, node_and_point, node_and_subsystem, message, line_of_fields, is_skipped, line_of_cut, line_of};
 
 use crate::file_name::is_file_name;
 use crate::hex_word::octets_of;
 use crate::line::Line;
-use sccp_base::{Name, Octets, OutOfMemory, PointCode, cut, decimal};
+use sccp_base::{Name, Octets, OutOfMemory, PointCode, byte, cut};
 use std::alloc::Global;
 
 /// The line that these octets write, if they write one.
@@ -170,16 +169,6 @@ fn node_and_subsystem(fields: &[u8]) -> Option<(Name, u8)>
 {
     let (node, ssn) = cut(fields, b' ')?;
     let node = Name::parse(node)?;
-    let ssn = subsystem_of(ssn)?;
+    let ssn = byte(ssn)?;
     Some((node, ssn))
-}
-
-/// A subsystem number: one to three decimal digits up to 255.
-fn subsystem_of(text: &[u8]) -> Option<u8>
-    ensures { result ≡ byte_of text.now }
-{
-    match decimal(text, 3) {
-        Some(value) if value < 256 => Some(value as u8),
-        _ => None,
-    }
 }

@@ -42,7 +42,7 @@ fn put(made: &mut Vec<u8>, piece: &str, number: u32) -> Result<(), AllocError> {
     Ok(())
 }
 
-/// Puts what an octet of a piece with this number stands for at the end.
+/// Puts at the end what an octet of a piece with this number means.
 fn put_octet(made: &mut Vec<u8>, octet: u8, number: u32) -> Result<(), AllocError> {
     match octet {
         b'%' => {
