@@ -7,3 +7,4 @@ pub mod Messages
 pub mod Reads
 pub mod Written
 pub mod Survey
+pub mod Unitdata

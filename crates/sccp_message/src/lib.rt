@@ -19,6 +19,7 @@ mod message;
 mod params;
 mod round_trip;
 mod surveying;
+mod unitdata;
 
 pub use canonical_form::{canonical, canonical_as};
 pub use cause::{CauseTable, cause_text};
