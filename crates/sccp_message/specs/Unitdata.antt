@@ -1,4 +1,5 @@
--- The fields of connectionless messages (ITU-T Q.713 sections 4.10, 4.11 and 4.18 to 4.21). Of these fields, the other types have data only.
+-- The called address, the hop counter and the data of a message, whatever its type (ITU-T Q.713 section 4).
+-- Only the six connectionless types have an address, and four of them a hop counter.
 use Rattle.std.specs.Prelude.{ℕ, Bool, List, Option, Some, None, is_some}
 use Rattle.sccp_address.specs.declared.address.Address.{Address}
 use Rattle.sccp_message.specs.declared.message.Message.{Message}

@@ -1,4 +1,4 @@
--- Connectionless messages with another called address (ITU-T Q.713 sections 4.10, 4.11 and 4.18 to 4.21), and whether a message can be written.
+-- Connectionless messages with another called address (ITU-T Q.713 section 4), and whether a message can be written.
 use Rattle.std.specs.Prelude.{ℕ, ◌≤◌, List, length, Option, Some, None, is_none, if◌then◌else◌}
 use Rattle.std.specs.Option.{option_map_or}
 use Rattle.sccp_address.specs.declared.address.Address.{Address}
