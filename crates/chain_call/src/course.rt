@@ -203,7 +203,8 @@ impl Course {
     }
 }
 
-/// One more. No count comes to its type's end, since what is counted is kept.
+/// One more. A count past its type's end is answered as want of memory, but no run is long enough for so many offers or
+/// deliveries.
 fn one_more(count: u64) -> Result<u64, OutOfMemory>
     ensures { IfOk result (λ more. more ≡ count + 1) }
 {
