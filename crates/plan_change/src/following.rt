@@ -17,7 +17,7 @@ use crate::halt::Halt;
 use crate::open_hop::OpenHop;
 use crate::plans::Plans;
 use crate::stop::Origin;
-use crate::way::{Way, one_turn, spot_of};
+use crate::way::{Way, one_turn};
 use plan_check::allows;
 use plan_classes::{Class, Image, class_row, image_by, opening, reaches_by, sample};
 use plan_mixed::{Which, new_of, old_of};
@@ -188,7 +188,7 @@ fn without_row(
 {
     one_turn(
         alloc,
-        spot_of(class, sample(class)),
+        class.spot_of(&sample(class)),
         which,
         Marking::new(alloc),
     )
@@ -210,7 +210,7 @@ fn bad_way(
 {
     let Origin { which, target, .. } = origin;
     let marking = opening(alloc, plans.held(which), class, target)?;
-    one_turn(alloc, spot_of(class, digits), which, marking)
+    one_turn(alloc, class.spot_of(&digits), which, marking)
 }
 
 /// The longest of a class's titles that have zeros alone behind the known digits.

@@ -1,5 +1,6 @@
 ghost use Rattle.std.specs.Prelude.{◌≡◌, ◌+◌, ◌<◌, ◌≤◌, ◌↔◌, length, IsTrue, SomeIff};
 
+use plan_model::Spot;
 use sccp_base::{Digits, Selector};
 use std::marker::Model;
 
@@ -30,7 +31,7 @@ impl Model for Class {
 }
 
 impl Class {
-    ghost use Rattle.plan_classes.specs.Titles.{titles, IsClass, IsMember, closed, extended};
+    ghost use Rattle.plan_classes.specs.Titles.{titles, IsClass, IsMember, spot_of, closed, extended};
 
     /// `None` where `least` is above `most`, or the number of known digits and `most` add up to more than 32.
     pub fn new(
@@ -113,6 +114,18 @@ impl Class {
         ensures class { IsClass self.now }
     {
         self.most
+    }
+
+    /// A title of the class as a spot, by its digits.
+    pub fn spot_of(&self, digits: &Digits) -> Spot
+        ensures { result ≡ spot_of self.now digits.now }
+    {
+        Spot {
+            node: self.node,
+            selector: self.selector,
+            ssn: self.ssn,
+            digits: *digits,
+        }
     }
 
     /// Whether these are the digits of one of its titles.

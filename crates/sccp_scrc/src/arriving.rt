@@ -7,7 +7,7 @@ ghost use Rattle.plan_model.specs.Routes.{StaysIn};
 ghost use Rattle.sccp_scrc.specs.declared.service.Service.{Service};
 ghost use Rattle.sccp_scrc.specs.Unitdata.{called_of};
 ghost use Rattle.sccp_scrc.specs.Next.{onward_address, next_place};
-ghost use Rattle.sccp_scrc.specs.Arriving.{by_called, point_of, subsystems_of, at_subsystem, after_step, at_title, is_last_hop, arrival};
+ghost use Rattle.sccp_scrc.specs.Arriving.{by_called, subsystems_of, at_subsystem, after_step, at_title, is_last_hop, arrival};
 ghost use Rattle.sccp_scrc.specs.Outcomes.{IsRelayed, IsEnded, IsLocal, IsReturned};
 
 use crate::arrival::Arrival;
@@ -20,13 +20,6 @@ use sccp_address::Address;
 use sccp_base::{List, Mark, Marking, OutOfMemory, PointCode};
 use sccp_message::{DecodeFault, Message, decode};
 use std::alloc::Global;
-
-pub(crate) fn own_point(plan: &Plan, node: u8) -> PointCode
-    requires { node < length plan.now.nodes }
-    ensures { result ≡ point_of plan.now node }
-{
-    plan.nodes().as_slice()[usize::from(node)].pc
-}
 
 fn is_own(plan: &Plan, node: u8, ssn: u8) -> bool
     requires { node < length plan.now.nodes }
@@ -65,7 +58,7 @@ fn at_subsystem(
     if !is_own(plan, node, ssn) {
         return returned(alloc, marking, origin, message, 4, List::new(alloc));
     }
-    let own = own_point(plan, node);
+    let own = plan.point_of(node);
     if marking.holds(Mark::Subsystem(own, ssn)) {
         return match one_mark(alloc, Mark::Subsystem(own, ssn)) {
             Ok(marks) => returned(alloc, marking, origin, message, 3, marks),
@@ -99,7 +92,7 @@ fn after(
         Step::Sent { next, .. } => match to {
             Some(to) => relay(
                 alloc,
-                own_point(plan, next.node),
+                plan.point_of(next.node),
                 marking,
                 origin,
                 message,
@@ -110,7 +103,7 @@ fn after(
         Step::Ended { pc, ssn, .. } => match to {
             Some(to) => place(
                 alloc,
-                own_point(plan, node),
+                plan.point_of(node),
                 pc,
                 ssn,
                 marking,
