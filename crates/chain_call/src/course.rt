@@ -205,7 +205,8 @@ impl Course {
     }
 }
 
-/// The next count. No count reaches the end of its type, since what is counted is kept.
+/// One more. A count past its type's end is answered as want of memory, but no run is long enough for that many offers or
+/// deliveries.
 fn one_more(count: u64) -> Result<u64, OutOfMemory>
     ensures { IfOk result (λ more. more ≡ count + 1) }
 {

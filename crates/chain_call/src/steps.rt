@@ -265,16 +265,6 @@ fn carry_on(
     carry(alloc, course, call, far, own, request)
 }
 
-/// The point of the node at a place.
-fn point_of(plan: &Plan, place: u8) -> PointCode
-    ensures { result ≡ point_of plan.now place }
-{
-    match plan.nodes().as_slice().get(usize::from(place)) {
-        Some(node) => node.pc,
-        None => PointCode::new(0).unwrap(),
-    }
-}
-
 /// The name of the node at a point.
 #[tactic(auto, unfolding(crate::specs::Steps::name_at))]
 fn name_at(plan: &Plan, point: PointCode) -> Option<Name>
@@ -291,7 +281,7 @@ fn names_of(alloc: Global, plan: &Plan, places: &[u8]) -> Result<List<Name>, Out
 {
     let mut names = List::new(alloc);
     for place in places {
-        if let Some(name) = name_at(plan, point_of(plan, *place)) {
+        if let Some(name) = name_at(plan, plan.point_of(*place)) {
             names.push(name)?;
         }
     }

@@ -9,7 +9,7 @@ ghost use Rattle.chain_world.specs.Staged.{told_piece, told_line, passed_at, pie
 use crate::line::{Line, Piece};
 use crate::link::{Link, delivered};
 use crate::pieces::{passed_by, pieces_of};
-use crate::stage::{Stage, follow, point_at};
+use crate::stage::{Stage, follow};
 use couple_chain::Relay;
 use plan_model::Plan;
 use sccp_base::{List, OutOfMemory, PointCode, Reference};
@@ -84,7 +84,7 @@ fn forth_out(
     requires { last.now.node < length plan.now.nodes }
     ensures { IfOk result (λ pieces. map told_piece pieces ≡ pieces_in last.now.far.remote (delivered_by links.now (point_of plan.now last.now.node) last.now.far.point)) }
 {
-    let from = point_at(plan, last.node);
+    let from = plan.point_of(last.node);
     let to = last.far.point;
     let remote = last.far.remote;
     handed(alloc, links, from, to, remote)
@@ -101,7 +101,7 @@ fn back_out(
     requires { first.now.node < length plan.now.nodes }
     ensures { IfOk result (λ pieces. map told_piece pieces ≡ pieces_in first.now.near.remote (delivered_by links.now (point_of plan.now first.now.node) point)) }
 {
-    let from = point_at(plan, first.node);
+    let from = plan.point_of(first.node);
     let remote = first.near.remote;
     handed(alloc, links, from, point, remote)
 }

@@ -2,8 +2,8 @@
 ghost use Rattle.std.specs.Prelude.{◌≡◌, ◌<◌, ◌≤◌, find, length, position, IfOk, IfSome};
 ghost use Rattle.std.specs.Option.{option_copied};
 ghost use Rattle.sccp_couple.specs.Sections.{is_that, is_near_of, section_at};
+ghost use Rattle.plan_model.specs.Limits.{most_nodes};
 ghost use Rattle.plan_model.specs.Network.{has_point};
-ghost use Rattle.sccp_scrc.specs.Arriving.{point_of};
 ghost use Rattle.chain_world.specs.Staged.{stage_of, sections_at, first_in, joined_to, next_in, is_open, stages_from};
 
 use couple_chain::Relay;
@@ -79,7 +79,7 @@ fn stage_at(relays: &[Relay], node: u8, point: PointCode, remote: Reference) -> 
 
 /// The pair at the first relay that has one whose near section has this point and remote.
 pub(crate) fn first_stage(relays: &[Relay], point: PointCode, remote: Reference) -> Option<Stage>
-    requires { length relays.now ≤ 64 }
+    requires { length relays.now ≤ most_nodes }
     ensures { result ≡ first_in 0 relays.now point remote }
 {
     for (i, relay) in relays.iter().enumerate() {
@@ -95,14 +95,6 @@ fn is_open(stage: &Stage) -> bool
     ensures { result ≡ is_open stage.now }
 {
     stage.near.remote.is_some() && stage.far.remote.is_some()
-}
-
-/// The point of a node.
-pub(crate) fn point_at(plan: &Plan, node: u8) -> PointCode
-    requires { node < length plan.now.nodes }
-    ensures { result ≡ point_of plan.now node }
-{
-    plan.nodes().as_slice()[usize::from(node)].pc
 }
 
 /// The relay whose point a pair's far section has. There is none if the point is an end's.
@@ -143,7 +135,7 @@ fn next_stage(plan: &Plan, relays: &[Relay], stage: &Stage, node: u8) -> Option<
     ensures value { result ≡ next_in plan.now relays.now stage.now node }
     ensures node { IfSome result (λ next. next.node ≡ node) }
 {
-    let point = point_at(plan, stage.node);
+    let point = plan.point_of(stage.node);
     let own = stage.far.own;
     let next = stage_at(relays, node, point, own)?;
     joined_to(stage, next)

@@ -5,6 +5,7 @@ use Rattle.std.proofs.Common.{sym, ◌∙◌, ap, subst, inl, inr, ⊎_elim, ari
 use Rattle.std.proofs.lemmas.Bool.{cases_lt}
 use Rattle.std.proofs.lemmas.List.{get_or_past, length-map}
 use Rattle.std.proofs.lemmas.Option.{slice_get_within, slice_get-get_or, get_or_from_slice_get}
+use Rattle.plan_model.specs.Limits.{most_covers}
 use Rattle.plan_model.specs.declared.cover.Cover.{Cover}
 use Rattle.plan_model.specs.declared.spot.Spot.{Spot}
 use Rattle.plan_model.specs.declared.hop.Step.{Step}
@@ -132,7 +133,7 @@ suits_all old new spot (Ended pc ssn target) also a b each = (
       subst (λ (o : Option Cover). IsSomeAnd o (λ q. Contains q.allowed (pc, ssn))) c.at there,
 )
   where
-    few : (d : HasCover new spot) → d.number < 256
+    few : (d : HasCover new spot) → d.number < most_covers
     few d = omega (arith, slice_get_within new.covers d.number d.cover d.at, also.few_covers)
 
 -- a walk that ended without a bad title shows that the mixture is safe for its hops
@@ -178,7 +179,7 @@ first_covered old new layers number spot is also are h =
     start : IsFromStart old new stop.0
     start = of_all (IsFromStart old new) (stops_at layers 0) h.0 stop.0 stop.1 are.first
 
-    few : start.j < 256
+    few : start.j < most_covers
     few = omega (arith, slice_get_within new.covers start.j start.b start.new_at, also.few_covers)
 
     number_is : pair start.i start.j ≡ number

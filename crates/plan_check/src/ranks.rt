@@ -6,12 +6,10 @@ ghost use Rattle.plan_check.specs.Ranking.{rank_in, class_cmp, IsRanks, IsFullFo
 
 use crate::ranks_fault::RanksFault;
 use plan_classes::Class;
+use plan_model::MOST_CLASSES;
 use std::alloc::Global;
 use std::collections::BTreeMap;
 use std::marker::Model;
-
-/// The most classes that a table may have.
-const LIMIT: usize = 262_144;
 
 /// Ranks of classes, which contracts see as the list of the classes in their order, each with its rank.
 #[derive(Drop)]
@@ -83,7 +81,7 @@ impl Ranks {
         ensures full { IsTrue result ↔ IsFullFor self.now class.now }
         ensures sound { IsRanks self.now }
     {
-        LIMIT <= self.len() && self.get(class).is_none()
+        MOST_CLASSES <= self.len() && self.get(class).is_none()
     }
 
     /// The classes in their order, with their ranks.

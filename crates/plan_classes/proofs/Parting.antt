@@ -8,9 +8,6 @@ use Rattle.std.proofs.lemmas.List.Elements.{All-cons, All-head, All-tail}
 use Rattle.std.proofs.lemmas.List.FromFn.{length-map-range_with_len, map-range_with_len_more, get_or-map-range_with_len}
 use Rattle.plan_classes.specs.Titles.{Titles, IsClass, IsMember, closed, extended, parts_of, IsPart, Splits}
 
-digits_of_all : (c : Titles) → List Titles
-digits_of_all c = map (extended c) (range_with_len 0 10)
-
 -- the digit after the known ones is a member's next one
 member_extended : (c : Titles) (d : ℕ) (digits : List ℕ) → d < 10 → 0 < c.most → IsMember (extended c d) digits → IsMember c digits
 member_extended c d digits lt more m =

@@ -1,6 +1,7 @@
 //! Classes: sets of titles at a relay, by their known digits and the number of their further ones.
 ghost use Rattle.std.specs.Prelude.{◌≡◌, ◌+◌, ◌<◌, ◌≤◌, ◌↔◌, length, IsTrue, SomeIff};
 
+use plan_model::Spot;
 use sccp_base::{Digits, Selector};
 use std::marker::Model;
 
@@ -31,7 +32,7 @@ impl Model for Class {
 }
 
 impl Class {
-    ghost use Rattle.plan_classes.specs.Titles.{titles, IsClass, IsMember, closed, extended};
+    ghost use Rattle.plan_classes.specs.Titles.{titles, IsClass, IsMember, spot_of, closed, extended};
 
     /// The class with these fields. It is `None` if `least` is above `most`, or if the number of known digits and `most` add up
     /// to more than 32.
@@ -115,6 +116,18 @@ impl Class {
         ensures class { IsClass self.now }
     {
         self.most
+    }
+
+    /// A title of the class as a spot, by its digits.
+    pub fn spot_of(&self, digits: &Digits) -> Spot
+        ensures { result ≡ spot_of self.now digits.now }
+    {
+        Spot {
+            node: self.node,
+            selector: self.selector,
+            ssn: self.ssn,
+            digits: *digits,
+        }
     }
 
     /// Whether these are the digits of one of its titles.

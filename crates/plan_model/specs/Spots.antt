@@ -5,7 +5,6 @@ use Rattle.sccp_base.specs.Selector.{IsSelector}
 use Rattle.sccp_base.specs.Marks.{IsMarking}
 use Rattle.sccp_base.specs.declared.mark.Mark.{Mark}
 use Rattle.plan_model.specs.declared.spot.Spot.{Spot}
-use Rattle.plan_model.specs.declared.hop.Hop.{Hop}
 use Rattle.plan_model.specs.Network.{Network}
 use Rattle.plan_model.specs.Routes.{route}
 

@@ -29,7 +29,7 @@ impl Model for Plan {
 }
 
 impl Plan {
-    ghost use Rattle.plan_model.specs.Network.{IsPlan, IsNode, network, has_name, has_point, node_of};
+    ghost use Rattle.plan_model.specs.Network.{IsPlan, IsNode, network, has_name, has_point, node_of, point_of};
     ghost use Rattle.plan_model.specs.Faults.{plan_fault, HasFewDigits};
 
     /// A plan of these nodes and covers, or the first test that they fail: `Limit`, `Repeated`, `UnknownNode`,
@@ -91,6 +91,16 @@ impl Plan {
         match self.node_at(pc) {
             Some(node) => node,
             None => unreachable!(),
+        }
+    }
+
+    /// The point code of the node at a place, or 0 if the plan has no node there.
+    pub fn point_of(&self, node: u8) -> PointCode
+        ensures { result ≡ point_of self.now node }
+    {
+        match self.nodes.as_slice().get(usize::from(node)) {
+            Some(node) => node.pc,
+            None => PointCode::new(0).unwrap(),
         }
     }
 

@@ -1,24 +1,23 @@
 -- the rank of a class by what its parts or its targets lead to
-use Rattle.std.specs.Prelude.{ℕ, ◌≡◌, ◌+◌, ◌-◌, ◌≤◌, ◌<◌, List, [], ◌∷◌, ◌++◌, length, take, Option, Some, None, IsSome, IsSomeAnd, slice_get, refl, max, get_or}
-use Rattle.std.specs.List.{All, Any, Contains}
+use Rattle.std.specs.Prelude.{ℕ, ◌≡◌, ◌+◌, ◌-◌, ◌≤◌, ◌<◌, List, [], length, take, Option, Some, None, IsSome, IsSomeAnd, slice_get, max, get_or}
+use Rattle.std.specs.List.{All, Any}
 use Rattle.std.proofs.Common.{sym, ◌∙◌, ap, subst, inl, inr, ⊎_elim, arith, take_all}
 use Rattle.std.proofs.lemmas.Bool.{cases_lt}
 use Rattle.std.proofs.lemmas.List.{get_or-take, length-take}
 use Rattle.std.proofs.lemmas.List.Elements.{All-weaker, All-more}
 use Rattle.plan_model.specs.Network.{Network}
-use Rattle.plan_model.specs.RowFor.{row_of}
 use Rattle.plan_classes.specs.declared.leads.Image.{Image}
 use Rattle.plan_classes.specs.declared.leads.Image.TheVariants.{Next, Ends, NotEquipped, TooLong}
-use Rattle.plan_classes.specs.Titles.{Titles, IsClass, IsMember, IsPart, Splits, spot_of, parts_of}
+use Rattle.plan_classes.specs.Titles.{Titles, IsClass, parts_of}
 use Rattle.plan_classes.specs.Classes.{Decided, Reachable, Reaches, HasImage, IsReached, class_row, class_targets}
 use Rattle.plan_classes.specs.Classes.Reachable.{Part, Onward}
 use Rattle.plan_classes.proofs.Openings.{reached_place}
 use Rattle.plan_classes.proofs.Taking.{one_image}
 use Rattle.plan_check.specs.Ranking.{rank_in}
-use Rattle.plan_check.specs.Ranked.{RanksUpTo, LeadsWell, IsRankedClass}
+use Rattle.plan_check.specs.Ranked.{RanksUpTo, LeadsWell}
 use Rattle.plan_check.proofs.Greatest.{wider}
 use Rattle.plan_check.proofs.Soundness.{some_of}
-use Rattle.plan_verify.specs.Attained.{RanksFrom, LeadsToClass, LeadsHigh, IsAttainedOpen, IsAttainedDecided}
+use Rattle.plan_verify.specs.Attained.{RanksFrom, LeadsHigh, IsAttainedOpen, IsAttainedDecided}
 use Rattle.plan_verify.specs.Searching.{Keeps, IsSound, IsBorneOut, IsLedTo}
 use Rattle.plan_verify.proofs.Keeping.{some_kept, leads_kept, high_kept}
 
@@ -67,11 +66,6 @@ pub part_reached : (plan : Network) (depth : ℕ) (c : Titles) (ps qs : List Tit
 part_reached plan depth c ps qs i p are same lt at reached apart =
     Part depth c p reached apart (i, omega (arith, ap length (same ∙ are)), sym (at ∙ ap (λ (xs : List Titles). get_or xs i p) (same ∙ are)))
 
--- a part that is among them
-pub part_among : (c p : Titles) (ps qs : List Titles) → Splits c ps → qs ≡ ps → Contains qs p → IsPart c p
-part_among c p ps qs splits same has =
-    subst (IsPart c) has.2 (subst (λ (xs : List Titles). IsPart c (get_or xs has.0 p)) (sym same) (splits.each has.0 p (omega (arith, ap length same, has.1))))
-
 leads_wider : (plan : Network) (ranks : List (Titles × ℕ)) (cover m n : ℕ) (i : Image) → m ≤ n → LeadsWell plan (rank_in ranks) cover m i → LeadsWell plan (rank_in ranks) cover n i
 leads_wider plan ranks cover m n (Next next) le h = below_wider (rank_in ranks next) m n le h
 leads_wider plan ranks cover m n (Ends pc ssn) le h = h
@@ -112,15 +106,6 @@ led_next_rank plan ranks c next place other has reached here =
       high = λ two. record { place = place; next = next; leads = (reached, has); high = subst (λ (o : Option ℕ). IsSomeAnd o (λ s. other + 1 - 1 ≤ s)) (sym here) (let le : other + 1 - 1 ≤ other = omega arith in le) };
     }
 
--- a target that ends at an allowed place
-pub led_end : (plan : Network) (ranks : List (Titles × ℕ)) (c : Titles) (place : ℕ) (image : Image) → HasImage plan c place image → LeadsWell plan (rank_in ranks) c.cover 1 image → IsLedTo plan (rank_in ranks) c place 1
-led_end plan ranks c place image has well =
-    record {
-      well = λ other r h. subst (LeadsWell plan (rank_in ranks) c.cover 1) (one_image plan c place image other has h) well;
-      low = omega arith;
-      high = λ two. absurd (omega (arith, two));
-    }
-
 -- a target that is never the first open one
 pub led_never : (plan : Network) (ranks : List (Titles × ℕ)) (c : Titles) (place : ℕ) → (Reaches plan c place → ⊥) → IsLedTo plan (rank_in ranks) c place 1
 led_never plan ranks c place none =
@@ -140,10 +125,6 @@ decided_borne plan ranks c rank n is node cover decided some all low high leads 
       ranked = record { low = low; high = high; class = is; node = node; cover = cover; follows = inr (record { decided = decided; row = some; leads = λ place image reached has. leads place image (omega (arith, reaches_inside plan c place reached)) reached has }) };
       attained = λ two. inr (record { decided = decided; next = attained two });
     }
-
--- a class of at least some rank is one of the plan's
-pub high_class : (plan : Network) (ranks : List (Titles × ℕ)) (c : Titles) (least : ℕ) → IsSound plan ranks → RanksFrom (rank_in ranks) least c → (r : ℕ) × IsRankedClass plan (rank_in ranks) c r
-high_class plan ranks c least sound high = let s = some_of (rank_in ranks c) (λ r. least ≤ r) high in (s.0, sound.ranked c s.0 s.1)
 
 -- an undecided class of at least some rank has a part of at least that rank
 pub high_part : (plan : Network) (ranks : List (Titles × ℕ)) (c : Titles) (least : ℕ) (ps : List Titles) → IsSound plan ranks → RanksFrom (rank_in ranks) least c → 2 ≤ least → (Decided plan c → ⊥) → ps ≡ parts_of c → Any (RanksFrom (rank_in ranks) least) ps
@@ -171,17 +152,3 @@ pub none_high : (ranks : List (Titles × ℕ)) (least n : ℕ) (ps : List Titles
 none_high ranks least n ps all none some =
     let whole : All (λ p. RanksFrom (rank_in ranks) least p → ⊥) ps = subst (All (λ p. RanksFrom (rank_in ranks) least p → ⊥)) (take_all n ps all) none in
     whole some.0 some.1 some.2 (subst (RanksFrom (rank_in ranks) least) (sym some.3) some.4)
-
-pub none_leads : (plan : Network) (ranks : List (Titles × ℕ)) (c : Titles) (least n : ℕ) → length (class_targets plan c) ≤ n → ((place : ℕ) (next : Titles) → place < n → LeadsToClass plan c place next → RanksFrom (rank_in ranks) least next → ⊥) → LeadsHigh plan (rank_in ranks) c least → ⊥
-none_leads plan ranks c least n all none some = none some.place some.next (omega (arith, reaches_inside plan c some.place some.leads.0)) some.leads some.high
-
--- the one title of a class without open digits
-pub closed_decided : (plan : Network) (c : Titles) → c.most ≡ 0 → Decided plan c
-closed_decided plan c none = λ d e m n. ap (λ (digits : List ℕ). row_of plan (spot_of c digits)) (one d m ∙ sym (one e n))
-  where
-    one : (digits : List ℕ) → IsMember c digits → digits ≡ c.known ++ []
-    one digits m = m.whole ∙ ap (λ (rest : List ℕ). c.known ++ rest) (nothing m.rest (omega (arith, m.most, none)))
-      where
-        nothing : (xs : List ℕ) → length xs ≤ 0 → xs ≡ []
-        nothing [] h = refl
-        nothing (x ∷ xs) h = absurd (omega arith)

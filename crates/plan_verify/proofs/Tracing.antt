@@ -1,5 +1,5 @@
 -- titles with bad or long routes, and how they are carried back
-use Rattle.std.specs.Prelude.{ℕ, ◌≡◌, ◌+◌, ◌≤◌, ◌<◌, ◌⊎◌, List, [], ◌∷◌, length, Option, Some, None, Result, Ok, Err, IfOk, IsSomeAnd, slice_get, refl, if◌then◌else◌}
+use Rattle.std.specs.Prelude.{ℕ, ◌≡◌, ◌+◌, ◌<◌, ◌⊎◌, List, [], ◌∷◌, length, Option, Some, None, Result, Ok, Err, IfOk, IsSomeAnd, slice_get, refl, if◌then◌else◌}
 use Rattle.std.specs.List.{list_any}
 use Rattle.std.specs.Option.{option_and_then}
 use Rattle.std.proofs.Common.{sym, ◌∙◌, ap, subst, inl, inr, ⊎_elim, arith}
@@ -115,15 +115,6 @@ trace_before plan c next place depth behind t has cover trace before =
     follows : (hop : Hop) × (route plan (spot_of c t.digits) t.markings ≡ hop ∷ route plan (spot_of next behind.digits) behind.markings)
     follows = before.follows next has
 
-pub way_before : (plan : Network) (c next : Titles) (place hops more : ℕ) (behind t : Trace) → more ≡ hops + 1 → HasImage plan c place (Next next) → IsWay plan next hops behind → GoesBefore plan c place behind t → IsWay plan c more t
-way_before plan c next place hops more behind t one has way before =
-    let follows = before.follows next has in
-    record {
-      member = before.member;
-      count = omega (arith, before.more, way.count);
-      each = omega (arith, ap length follows.1, way.each);
-    }
-
 -- a part's titles are the class's
 pub trace_of_part : (plan : Network) (c part : Titles) (depth : ℕ) (t : Trace) → IsPart c part → IsTrace plan part depth t → IsTrace plan c depth t
 trace_of_part plan c part depth t is trace =
@@ -136,22 +127,6 @@ trace_of_part plan c part depth t is trace =
   where
     part_spot : (c part : Titles) (digits : List ℕ) → IsPart c part → spot_of part digits ≡ spot_of c digits
     part_spot c part digits is = λ i. record { node = is.node i; selector = is.selector i; ssn = is.ssn i; digits = digits }
-
-pub way_of_part : (plan : Network) (c part : Titles) (hops : ℕ) (t : Trace) → IsPart c part → IsWay plan part hops t → IsWay plan c hops t
-way_of_part plan c part hops t is way =
-    record {
-      member = is.inside t.digits way.member;
-      count = way.count;
-      each = subst (λ (s : Spot). length (route plan s t.markings) ≡ hops) (λ i. record { node = is.node i; selector = is.selector i; ssn = is.ssn i; digits = t.digits }) way.each;
-    }
-
--- a way that has the fifteenth hop is bad
-pub way_bad : (plan : Network) (c : Titles) (depth hops : ℕ) (t : Trace) → depth + hops ≡ 15 → 1 ≤ hops → IsWay plan c hops t → IsTrace plan c depth t
-way_bad plan c depth hops t fifteen some way =
-    record {
-      member = way.member;
-      bad = record { each = way.each ∙ sym way.count; some = omega (arith, way.count); few = omega (arith, way.count); ends = inr (omega (arith, way.count)) };
-    }
 
 -- a spot of a cover's start is one that the cover has
 pub start_has : (plan : Network) (number : ℕ) (cover : Cover) (digits : List ℕ) → IsPlan plan → slice_get plan.covers number ≡ Some cover → IsMember (start_of number cover) digits → HasSpot plan number (spot_of (start_of number cover) digits)

@@ -4,7 +4,6 @@ use Rattle.std.specs.Cmp.Lexicographic.{pointwise}
 use Rattle.std.proofs.Common.{sym, ◌∙◌, ap, subst}
 use Rattle.std.proofs.lemmas.Bool.{and_parts, false≢true}
 use Rattle.std.proofs.lemmas.Cmp.{lists_equiv}
-use Rattle.std.proofs.lemmas.Grind.{flat_map-append}
 use Rattle.std.proofs.lemmas.List.{take_more}
 use Rattle.std.proofs.lemmas.List.Folds.{list_any-append}
 use Rattle.sccp_base.specs.declared.mark.Mark.{Mark}
@@ -13,7 +12,6 @@ use Rattle.sccp_base.specs.MarkOrder.{same_mark_equiv}
 use Rattle.sccp_base.proofs.MarkPlaces.{same_mark_is}
 use Rattle.plan_model.specs.declared.hop.Step.{Step}
 use Rattle.plan_model.specs.declared.hop.Step.TheVariants.{Blocked}
-use Rattle.plan_model.specs.Verdicts.{union}
 
 or_turn : (a b c : Bool) → (a || (b || c)) ≡ (b || (c || (a || false)))
 or_turn true true c = refl
@@ -39,13 +37,6 @@ held_more marks i x m old lt at =
     or_turn (same_mark x m) old (holds (take i marks) m)
     ∙ ap (λ (b : Bool). old || b) (sym (list_any-append (λ held. same_mark held m) (take i marks) (x ∷ [])))
     ∙ ap (λ (xs : List Mark). old || holds xs m) (sym (front_more marks i x lt at))
-
--- the marks of one more marking
-pub union_more : (ms : List (List Mark)) (i : ℕ) (x : List Mark) (m : Mark) → i < length ms → x ≡ get_or ms i x → (holds (union (take i ms)) m || holds x m) ≡ holds (union (take (i + 1) ms)) m
-union_more ms i x m lt at =
-    ap (λ (b : Bool). holds (union (take i ms)) m || b) (sym (list_any-append (λ held. same_mark held m) x [] ∙ or_none (holds x m)))
-    ∙ sym (list_any-append (λ held. same_mark held m) (union (take i ms)) (x ++ []))
-    ∙ ap (λ (xs : List Mark). holds xs m) (sym (flat_map-append (λ (marking : List Mark). marking) (take i ms) (x ∷ [])) ∙ ap union (sym (front_more ms i x lt at)))
 
 -- lists of marks that compare as equal are the same list
 pub same_marks : (xs ys : List Mark) → pointwise same_mark xs ys ≡ true → xs ≡ ys

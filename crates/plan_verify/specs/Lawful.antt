@@ -1,5 +1,6 @@
 -- What a verdict says of a plan.
 use Rattle.std.specs.Prelude.{ℕ, ◌≤◌}
+use Rattle.plan_model.specs.Limits.{most_classes}
 use Rattle.plan_model.specs.Network.{Network}
 use Rattle.plan_model.specs.Verdicts.{Safe, Tight}
 use Rattle.plan_model.specs.Spots.{IsInRange}
@@ -26,7 +27,7 @@ abbrev pub IsLawful : Network → Verdict → Type 0
 IsLawful plan (Accepted accepted) =
     IsSafeFor plan accepted.bound × Tight plan accepted.bound accepted.longest.spot accepted.longest.markings × IsInRange plan accepted.longest.spot accepted.longest.markings
 IsLawful plan (Refused same witness) = IsWitness plan witness
-IsLawful plan (TooWide same) = ReachesAtLeast plan 262144
+IsLawful plan (TooWide same) = ReachesAtLeast plan most_classes
 
 abbrev pub IsAccepted : Verdict → Type 0
 IsAccepted (Accepted accepted) = Unit {0}

@@ -13,7 +13,7 @@ ghost use Rattle.plan_verify.specs.Witnesses.{IsWitness};
 use crate::descending::descend;
 use crate::outcome::{Greatest, Outcome};
 use crate::starts::explore_starts;
-use crate::trace::{Trace, spot_of};
+use crate::trace::Trace;
 use crate::verdict::Verdict;
 use crate::witness::Witness;
 use plan_check::{CheckFault, Longest, Ranks, check};
@@ -80,7 +80,7 @@ fn refute(alloc: Global, plan: &Plan, number: u16, trace: Trace) -> Result<Witne
     ensures { IfOk result (IsWitness plan.now) }
 {
     let Trace { digits, markings } = trace;
-    let spot = spot_of(&start(plan, number), &digits);
+    let spot = start(plan, number).spot_of(&digits);
     Witness::of_route(alloc, plan, number, &spot, markings)
 }
 
@@ -150,7 +150,7 @@ fn longest(
     let class = start(plan, greatest.cover);
     let Trace { digits, markings } = descend(alloc, plan, ranks, &class, greatest.rank)?;
     Ok(Longest {
-        spot: spot_of(&class, &digits),
+        spot: class.spot_of(&digits),
         markings,
     })
 }

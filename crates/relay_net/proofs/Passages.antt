@@ -3,7 +3,6 @@ use Rattle.std.specs.Prelude.{◌≡◌, ℕ, ◌-◌, ◌<◌, List, [], ◌∷
 use Rattle.std.proofs.Common.{zero, suc, sym, ◌∙◌, ap, subst, append_assoc}
 use Rattle.sccp_base.specs.declared.mark.Mark.{Mark}
 use Rattle.sccp_message.specs.declared.message.Message.{Message}
-use Rattle.sccp_message.specs.declared.fault.DecodeFault.{DecodeFault}
 use Rattle.sccp_message.specs.Reading.{reading}
 use Rattle.sccp_message.specs.Written.{message_octets}
 use Rattle.sccp_message.specs.Unitdata.{called_of}
@@ -18,7 +17,7 @@ use Rattle.sccp_scrc.proofs.Meaning.{Means, means}
 use Rattle.sccp_scrc.proofs.Onward.{sent_reads}
 use Rattle.relay_net.specs.declared.riding.Rest.{Rest}
 use Rattle.relay_net.specs.Relays.{RelaysWithin}
-use Rattle.relay_net.specs.Journeys.{Trip, trip, after, held_at, onward, travel, most_arrivals, trip_of}
+use Rattle.relay_net.specs.Journeys.{Trip, after, held_at, onward, travel, most_arrivals, trip_of}
 use Rattle.relay_net.specs.Riding.{GoesOn}
 use Rattle.relay_net.proofs.Turns.{relayed_turn}
 
@@ -116,6 +115,3 @@ pub read_trip : (plan : Network) (states : List (List Mark)) (left entry origin 
 read_trip plan states left entry origin b m again reads count =
     same_trip plan states left entry origin (message_octets m) b (reads_again m again.message again.sound ∙ sym reads)
     ∙ ap (λ n. travel plan states n entry origin b) (count ∙ ap most_arrivals (sym reads))
-
-pub unread_trip : (plan : Network) (states : List (List Mark)) (entry origin : ℕ) (b : List ℕ) (f : DecodeFault) → reading b ≡ Err f → travel plan states 14 entry origin b ≡ trip_of plan states entry origin b
-unread_trip plan states entry origin b f reads = ap (λ n. travel plan states n entry origin b) (ap most_arrivals (sym reads))

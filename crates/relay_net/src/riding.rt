@@ -10,7 +10,7 @@ ghost use Rattle.relay_net.specs.Relays.{RelaysWithin};
 ghost use Rattle.relay_net.specs.Riding.{GoesOn};
 
 use crate::holds_marking::HoldsMarking;
-use crate::travelling::{point_of, travel};
+use crate::travelling::travel;
 use plan_model::Plan;
 use sccp_base::{List, Marking, OutOfMemory, PointCode};
 use sccp_message::Message;
@@ -82,7 +82,7 @@ fn ride<S: HoldsMarking>(
         Some(pc) => {
             path.push(node)?;
             let next = plan.relay_at(pc);
-            let from = point_of(plan, node);
+            let from = plan.point_of(node);
             ride(alloc, plan, states, left - 1, next, from, message, path)
         }
         None => Ok(Rest { left, node, origin }),
@@ -134,7 +134,7 @@ fn end_ride<S: HoldsMarking>(
         Ok(()) => match stop_message(alloc, plan, states, node, origin, message)? {
             Arrival::Relayed { pc, octets } => {
                 let next = plan.relay_at(pc);
-                let from = point_of(plan, node);
+                let from = plan.point_of(node);
                 travel(
                     alloc,
                     plan,

@@ -3,13 +3,14 @@ ghost use Rattle.std.specs.Prelude.{◌≡◌, ◌<◌, ◌++◌, length, map, S
 ghost use Rattle.plan_model.specs.declared.spot.Spot.{Spot};
 ghost use Rattle.plan_model.specs.Network.{node_of};
 ghost use Rattle.sccp_message.specs.declared.message.Message.{Message};
-ghost use Rattle.sccp_scrc.specs.Arriving.{arrival, point_of};
+ghost use Rattle.sccp_scrc.specs.Arriving.{arrival};
 ghost use Rattle.relay_net.specs.Journeys.{held_at, travel, most_arrivals, trip_of, end_at, end_of, service_in, last_node, back_by, back_of, journey};
 ghost use Rattle.relay_net.specs.Headline.{IsCoveredMessage, GoesWell, IsCutOff};
 ghost use Rattle.relay_net.specs.Relays.{RelaysWithin};
 
 use crate::back::Back;
 use crate::end::End;
+use crate::ends::last_node;
 use crate::holds_marking::HoldsMarking;
 use crate::riding::travel_unwritten;
 use crate::travelled::Journey;
@@ -44,14 +45,6 @@ fn stop<S: HoldsMarking>(
     )
 }
 
-/// The point code of the node at this place of the plan.
-pub(crate) fn point_of(plan: &Plan, node: u8) -> PointCode
-    requires { node < length plan.now.nodes }
-    ensures { result ≡ point_of plan.now node }
-{
-    plan.nodes().as_slice()[usize::from(node)].pc
-}
-
 /// The last arrival of octets, none if they are cut off; `left` arrivals at most. Their nodes are appended to the path.
 pub(crate) fn travel<S: HoldsMarking>(
     alloc: Global,
@@ -75,7 +68,7 @@ pub(crate) fn travel<S: HoldsMarking>(
     match stop(alloc, plan, states, node, origin, octets)? {
         Arrival::Relayed { pc, octets } => {
             let next = plan.relay_at(pc);
-            let from = point_of(plan, node);
+            let from = plan.point_of(node);
             travel(
                 alloc,
                 plan,
@@ -225,7 +218,7 @@ fn back_by<S: HoldsMarking>(
             plan,
             states,
             node,
-            point_of(plan, node),
+            plan.point_of(node),
             octets.as_slice(),
         )?;
         let (end, _) = ended(alloc, last)?;
@@ -265,17 +258,6 @@ fn back<S: HoldsMarking>(
     }
 }
 
-/// The last of some nodes.
-fn last_node(path: &[u8]) -> u8
-    ensures { result ≡ last_node 0 path.now }
-{
-    let mut last = 0;
-    for node in path {
-        last = *node;
-    }
-    last
-}
-
 /// The whole journey.
 fn whole<S: HoldsMarking>(
     alloc: Global,
@@ -290,7 +272,7 @@ fn whole<S: HoldsMarking>(
     ensures { IfOk result (λ j. j ≡ journey plan.now (map S.held states.now) entry origin octets.now) }
 {
     let (path, last) = trip(alloc, plan, states, entry, origin, octets)?;
-    let node = last_node(path.as_slice());
+    let node = last_node(0, path.as_slice());
     let (end, service) = ended(alloc, last)?;
     let back = back(alloc, plan, states, node, service)?;
     Ok(Journey { path, end, back })

@@ -35,14 +35,6 @@ pub enum Way {
     },
 }
 
-/// The point code of a node.
-fn point_of(plan: &Plan, node: u8) -> PointCode
-    requires { node < length plan.now.nodes }
-    ensures { result ≡ point_of plan.now node }
-{
-    plan.nodes().as_slice()[usize::from(node)].pc
-}
-
 /// The node at a place of the plan.
 fn node_of(plan: &Plan, node: u8) -> &Node
     requires { node < length plan.now.nodes }
@@ -64,7 +56,7 @@ fn is_out_of_service(plan: &Plan, node: u8, marking: &Marking, ssn: u8) -> bool
     requires { node < length plan.now.nodes }
     ensures { result ≡ holds marking.now (Subsystem (point_of plan.now node) ssn) }
 {
-    marking.holds(Mark::Subsystem(point_of(plan, node), ssn))
+    marking.holds(Mark::Subsystem(plan.point_of(node), ssn))
 }
 
 /// The refusal cause of a request that is routed on a subsystem number (Q.713 section 3.15).
@@ -159,11 +151,11 @@ fn after_step(
         Step::Sent { next, .. } => {
             // The proof learns only from this call that there are at most 32 digits.
             let _count = next.digits.len();
-            let to = point_of(plan, next.node);
+            let to = plan.point_of(next.node);
             onward(alloc, to, onward_address(called, spot, step), params)
         }
         Step::Ended { pc, .. } => {
-            if *pc == point_of(plan, node) {
+            if *pc == plan.point_of(node) {
                 return Ok(Way::Refused(6));
             }
             let _count = spot.digits.len();

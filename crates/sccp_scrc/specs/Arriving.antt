@@ -14,16 +14,13 @@ use Rattle.plan_model.specs.declared.spot.Spot.{Spot}
 use Rattle.plan_model.specs.declared.hop.Step.{Step}
 use Rattle.plan_model.specs.declared.hop.Step.TheVariants as steps
 use Rattle.plan_model.specs.Network.{Network}
+pub use Rattle.plan_model.specs.Network.{point_of}
 use Rattle.plan_model.specs.Steps.{step}
 use Rattle.sccp_scrc.specs.declared.arrival.Arrival.{Arrival}
 use Rattle.sccp_scrc.specs.declared.arrival.Arrival.TheVariants.{Relayed, Ended, Local, Connection, Management, Undecodable}
 use Rattle.sccp_scrc.specs.Unitdata.{octets_of}
 use Rattle.sccp_scrc.specs.Rewriting.{rewritten, spot_of}
 use Rattle.sccp_scrc.specs.Returning.{returned}
-
--- the point code of a node, 0 for none
-abbrev pub point_of : Network → ℕ → ℕ
-point_of plan node = option_map_or (λ n. n.pc) (slice_get plan.nodes node) 0
 
 -- the subsystems of a node
 abbrev pub subsystems_of : Network → ℕ → List ℕ

@@ -8,7 +8,7 @@ ghost use Rattle.sccp_message.specs.Unitdata.{called_of};
 ghost use Rattle.plan_model.specs.Routes.{StaysIn};
 ghost use Rattle.sccp_scrc.specs.declared.service.Service.{Service};
 ghost use Rattle.sccp_scrc.specs.Next.{onward_address, next_place};
-ghost use Rattle.sccp_scrc.specs.Arriving.{by_called, point_of, subsystems_of, at_subsystem, after_step, at_title, is_last_hop, arrival};
+ghost use Rattle.sccp_scrc.specs.Arriving.{by_called, subsystems_of, at_subsystem, after_step, at_title, is_last_hop, arrival};
 ghost use Rattle.sccp_scrc.specs.Outcomes.{IsRelayed, IsEnded, IsLocal, IsReturned};
 
 use crate::arrival::Arrival;
@@ -20,14 +20,6 @@ use sccp_address::Address;
 use sccp_base::{List, Mark, Marking, OutOfMemory, PointCode};
 use sccp_message::{DecodeFault, Message, decode};
 use std::alloc::Global;
-
-/// The point code of the node at this place of the plan.
-pub(crate) fn own_point(plan: &Plan, node: u8) -> PointCode
-    requires { node < length plan.now.nodes }
-    ensures { result ≡ point_of plan.now node }
-{
-    plan.nodes().as_slice()[usize::from(node)].pc
-}
 
 /// Whether a subsystem is one of the node's.
 fn is_own(plan: &Plan, node: u8, ssn: u8) -> bool
@@ -67,7 +59,7 @@ fn at_subsystem(
     if !is_own(plan, node, ssn) {
         return returned(alloc, marking, origin, message, 4, List::new(alloc));
     }
-    let own = own_point(plan, node);
+    let own = plan.point_of(node);
     if marking.holds(Mark::Subsystem(own, ssn)) {
         return match one_mark(alloc, Mark::Subsystem(own, ssn)) {
             Ok(marks) => returned(alloc, marking, origin, message, 3, marks),
@@ -101,7 +93,7 @@ fn after(
         Step::Sent { next, .. } => match to {
             Some(to) => relay(
                 alloc,
-                own_point(plan, next.node),
+                plan.point_of(next.node),
                 marking,
                 origin,
                 message,
@@ -112,7 +104,7 @@ fn after(
         Step::Ended { pc, ssn, .. } => match to {
             Some(to) => place(
                 alloc,
-                own_point(plan, node),
+                plan.point_of(node),
                 pc,
                 ssn,
                 marking,

@@ -10,7 +10,7 @@ ghost use Rattle.sccp_scrc.specs.Rewriting.{one_less};
 ghost use Rattle.sccp_scrc.specs.Arriving.{by_called, after_step, at_title};
 ghost use Rattle.sccp_scrc.specs.Passing.{sent_by, sent_from, sent_on, IsPassed};
 
-use crate::arriving::{is_last_hop, own_point};
+use crate::arriving::is_last_hop;
 use crate::leaving::octets_of;
 use crate::lengths::fits;
 use crate::rewriting::{relay_address, restore_in_place, rewrite_in_place, spot_in};
@@ -75,7 +75,7 @@ fn pass_by_step(
 {
     match step {
         Step::Sent { next, .. } => {
-            let pc = own_point(plan, next.node);
+            let pc = plan.point_of(next.node);
             match relay_address(message, *next) {
                 Some(to) => {
                     if pass_to(alloc, message, to)? {
