@@ -35,7 +35,11 @@ fn main(rt: HostRuntime) -> io::Result<()> {
         }
         if let Some(words) = words::after(alloc, '?', line)? {
             let refused = shapeless::call(&rt, alloc, &words);
-            let text = if refused.writes_usage { "usage" } else { "other" };
+            let text = if refused.writes_usage {
+                "usage"
+            } else {
+                "other"
+            };
             println!(rt; "{text}")?;
             println!(rt; "= {}", refused.status.number())?;
         }
