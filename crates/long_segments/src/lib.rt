@@ -5,7 +5,6 @@
 //! can't; and the segments together have the data of the long message, so a pool that takes them answers that data.
 #![tactic(auto)]
 
-mod copies;
 mod laws;
 mod long_fault;
 mod sending;

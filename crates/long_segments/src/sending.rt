@@ -8,13 +8,12 @@ ghost use Rattle.sccp_message.specs.Fields.{param as param_of, reads_if};
 ghost use Rattle.sccp_segment.specs.Segments.{segmentation_octets};
 ghost use Rattle.long_segments.specs.Sending.{FirstTells, Gives, class_for, is_one_segment, params_for, reference_of, segment_message, sending, sending_message, written_all};
 
-use crate::copies::copied_param;
 use crate::long_fault::LongFault;
 use sccp_address::Address;
 use sccp_base::{List, Octets, OutOfMemory, Reference};
 use sccp_layout::Param;
 use sccp_message::{DecodeFault, EncodeFault, Message, decode, encode, param};
-use sccp_segment::{Segment, SplitDataFault, copied_address, split_data};
+use sccp_segment::{Segment, SplitDataFault, split_data};
 use std::alloc::Global;
 
 // The name of the segmentation parameter (Q.713 section 3.17).
@@ -61,7 +60,7 @@ fn params_for(
     list.push(segmentation(alloc, segment)?)?;
     for param in params.as_slice() {
         if param.name() != SEGMENTATION {
-            list.push(copied_param(alloc, param)?)?;
+            list.push(param.try_clone(alloc)?)?;
         }
     }
     Ok(list)
@@ -83,8 +82,8 @@ fn message(alloc: Global, frame: &Frame, segment: &Segment) -> Result<Message, O
     requires { segment.now.remaining < 16 }
     ensures { IfOk result (λ m. m ≡ segment_message frame.now.class frame.now.hops frame.now.called frame.now.calling frame.now.params segment.now) }
 {
-    let called = copied_address(alloc, &frame.called)?;
-    let calling = copied_address(alloc, &frame.calling)?;
+    let called = frame.called.try_clone(alloc)?;
+    let calling = frame.calling.try_clone(alloc)?;
     let payload = segment.payload.try_clone(alloc)?;
     let params = params_for(alloc, &frame.params, segment)?;
     Ok(Message::Xudt {

@@ -3,7 +3,6 @@ ghost use Rattle.sccp_layout.specs.Table.{segmentation};
 ghost use Rattle.sccp_message.specs.Fields.{param, reads_if};
 ghost use Rattle.sccp_segment.specs.Segments.{arrival_by};
 
-use crate::copies::copied_address;
 use crate::key::Key;
 use crate::segment::Segment;
 use sccp_address::Address;
@@ -113,7 +112,7 @@ fn copied_by(
     if param(params, SEGMENTATION).is_none() {
         return Ok(None);
     }
-    let calling = copied_address(alloc, calling)?;
+    let calling = calling.try_clone(alloc)?;
     let payload = payload.try_clone(alloc)?;
     Ok(by(calling, payload, params))
 }

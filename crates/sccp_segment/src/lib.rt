@@ -7,7 +7,6 @@
 #![tactic(auto)]
 
 mod arrival;
-mod copies;
 mod cutting;
 mod key;
 mod laws;
@@ -20,7 +19,6 @@ mod taken;
 mod taking;
 
 pub use arrival::Arrival;
-pub use copies::copied_address;
 pub use cutting::split_data;
 pub use key::Key;
 pub use laws::{keys_are_values, pieces_are_whole, pieces_come_whole, whole_messages};
