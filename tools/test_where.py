@@ -20,7 +20,7 @@ import where
 
 HERE = os.path.dirname(os.path.abspath(__file__))
 CASES = os.path.join(os.path.dirname(HERE), "crates", "worked_cases")
-PLANS = 15
+PLANS = 10
 
 # The lines of each fault plan, in the order in which they are printed; - is no line.
 LINES = """
@@ -341,7 +341,7 @@ class Drawn:
         if self.drawn.random() < 0.5:
             keys.append(lambda: self.put_array(words, way, "subsystems", ["6", "7"]))
         if self.drawn.random() < 0.5:
-            keys.append(lambda: self.put_array(words, way, "concerned", ['"1-0-3"', '"a#]"']))
+            keys.append(lambda: self.put_array(words, way, "concerned", ['"1-0-3"', '"a#]"', "'[{#\"'"]))
         for key in self.drawn.sample(keys, len(keys)):
             key()
         for row in range(self.drawn.randint(0, 3)):
@@ -586,6 +586,20 @@ class Plans(Case):
         self.assertEqual(65, status)
         self.assertIn(f"{path}: bad plan wrong shape node\n        = no line is known, since Python's tomllib does not read this text: ", out)
 
+    def test_few_beginnings_are_read(self):
+        rows = "".join(f'[[node.row]]\nselector = "1:4"\nprefix = "{i}"\ntargets = [\n{{ final = "2" }},\n]\n' for i in range(210))
+        path = self.file("version = 2\n" + "".join(f'[[node]]\nname = "{name}"\npoint = "1"\n{rows}' for name in "ab"))
+        before, counts = where.read, []
+        self.addCleanup(setattr, where, "read", before)
+        where.read = lambda text: counts.append(len(text)) or before(text)
+        self.assertEqual(["2489-2491"], lines_of(path, "bad plan bad value node 1 row 203 targets"))
+        self.assertLess(len(counts), 8)
+        where.headers, guess = lambda pieces: {("node", 1, "row", 203): (7, 9)}, where.headers
+        self.addCleanup(setattr, where, "headers", guess)
+        counts.clear()
+        self.assertEqual(["2489-2491"], lines_of(path, "bad plan bad value node 1 row 203 targets"))
+        self.assertLess(len(counts), 20)
+
     def test_no_lines(self):
         path = self.file(PLAN)
         for line in ("bad plan no cover", "bad plan limit nodes", "bad plan limit rows", "bad plan limit covers"):
@@ -619,6 +633,7 @@ class NotToml(Case):
         self.assertEqual(["10"], self.found(PLAN.replace('"49"', '"""49')))
         self.assertEqual(["19-20"], self.found(PLAN + "subsystems = [\n6"))
         self.assertEqual(["19"], self.found(PLAN + "x = '''"))
+        self.assertEqual(["11-13"], self.found(PLAN.replace('"2-0-1" }', '"2-0-1"')))
 
     def test_after_what_toml_1_1_added(self):
         self.assertEqual(["15"], self.found(NEWER + "c 1\n"))

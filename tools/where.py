@@ -261,7 +261,7 @@ def spelled(value):
 # ---- what a fault leads to
 
 class Finding:
-    """Where a part of a fault is: the lines of a place, or known lines, or none; and a note."""
+    """A part of a fault: its place or its lines, or neither; and a note."""
 
     def __init__(self, place=None, note="", lines=None):
         self.place, self.note, self.lines = place, note, lines
@@ -286,9 +286,7 @@ def findings_of(fault, document):
 def table_of(fault, document):
     """The table of a fault, without the tables in it that the program looks at by themselves, and the keys that it may have."""
     if fault["row"]:
-        version = document.get("version")
-        keys = ROW_KEYS[2 if type(version) is int and version == 2 else 1]
-        return Place("node", int(fault["node"]), "row", int(fault["row"])), keys
+        return Place("node", int(fault["node"]), "row", int(fault["row"])), ROW_KEYS[2 if document.get("version") == 2 else 1]
     if fault["node"]:
         return Place("node", int(fault["node"]), without=("row",)), NODE_KEYS
     if fault["cover"]:
@@ -364,7 +362,7 @@ class Plan:
         return found
 
     def end_of_toml(self, asked):
-        """Where the text stops being TOML."""
+        """The lines after which the text is no TOML."""
         octets = self.octets.removeprefix(b"\xef\xbb\xbf")
         try:
             text = octets.decode("utf-8")
@@ -424,7 +422,7 @@ def end_by(pieces, is_none, note):
 
 
 def one_line(text):
-    """A text on one line of at most so many characters."""
+    """A text on one line, cut if it has more than WIDEST characters."""
     text = "".join(c if c.isprintable() else " " for c in text.rstrip("\r"))
     return text if len(text) <= WIDEST else text[:WIDEST - 2] + ".."
 
