@@ -93,8 +93,13 @@ refused, change_accepted, change_refused, plan_refused); hops without one, as of
 The lines of a message of `show` and `show-hex` become the list "lines" of its record. The records `sends` go into the list "sends"
 of the record of the same line, if it stands before them.
 """
+import contextlib
 import json
+import os
 import re
+import signal
+import subprocess
+import sys
 
 # ---- The texts of causes (Q.713 sections 3.12, 3.14 and 3.15)
 
@@ -243,6 +248,7 @@ def causes(words, table, other):
 
 EVERY = "show-hex show cuts route verify change replay load send-on connect import"
 FILES = "show route verify change replay send-on connect import"
+COMMANDS = frozenset(EVERY.split())
 PLANS = "route verify change replay send-on connect import"
 SHOWN = "show-hex show"
 
@@ -478,3 +484,134 @@ def read_lines(lines, command=None):
 def write_line(record):
     """The line of a record, without a line feed."""
     return record["text"] if record["form"] == "text" else FORMS[record["form"]].write(record)
+
+
+# ---- Lines that belong together
+
+HAVE_HOPS = ("accepted", "refused", "change_accepted", "change_refused", "plan_refused", "route")
+
+
+def read_groups(lines, command=None):
+    """The record of each line, but one that belongs to the record before it is put into a list there."""
+    last = None
+    for record in read_lines(lines, command):
+        name = record["form"]
+        if name == "hop" and (last is None or last["form"] not in HAVE_HOPS):
+            if last is not None:
+                yield last
+            last = {"form": "route"}
+        if last is not None:
+            into = list_in(last, record)
+            if into:
+                last.setdefault(into, []).append(record)
+                continue
+            yield last
+        last = record
+    if last is not None:
+        yield last
+
+
+def list_in(last, record):
+    """The list of the last record that this one belongs to, or None."""
+    name = record["form"]
+    if name == "hop":
+        return "hops"
+    if name == "sends" and last.get("line") == record["line"]:
+        return "sends"
+    if last["form"] == "message" and name in OF_MESSAGES and (not last.get("lines") or last["lines"][-1]["form"] != "canonical"):
+        return "lines"
+    return None
+
+
+OF_MESSAGES = [name for name, *patterns in TABLE if name != "message" and patterns[0][0] == SHOWN]
+
+# ---- The program's lines as JSON
+
+NO_PROGRAM, WRITE_FAULT = 70, 75
+SIGNALS = (signal.SIGINT, signal.SIGTERM, signal.SIGHUP, signal.SIGQUIT)
+
+
+def say(text):
+    with contextlib.suppress(OSError, AttributeError):
+        sys.stderr.write(f"sccp: {text}\n")
+        sys.stderr.flush()
+
+
+class Objects:
+    """The JSON objects of the lines of one call, and how many lines had no form."""
+
+    def __init__(self, command):
+        self.command, self.lines, self.unread = command, 0, 0
+
+    def of(self, line):
+        """The object of a line. One without a line feed was cut off, so it has no form."""
+        text = line.decode("utf-8", "backslashreplace")
+        record = read_line(text, self.command) if text.endswith("\n") else {"form": "text", "text": text}
+        self.lines += 1
+        if record["form"] == "text":
+            self.unread += 1
+            if self.unread == 1:
+                say(f"--json: line {self.lines} has no form that is known: {record['text'][:200]}")
+        return json.dumps(record) + "\n"
+
+    def end(self):
+        if self.unread > 1:
+            say(f"--json: {self.unread} lines have no form that is known")
+
+
+def write_all(octets):
+    while octets:
+        octets = octets[os.write(1, octets):]
+
+
+def pass_on(source, objects):
+    """Writes the object of each line as the line comes, and gives whether standard output has taken all of them."""
+    rest = b""
+    try:
+        while piece := os.read(source, 1 << 16):
+            *lines, rest = (rest + piece).split(b"\n")
+            write_all("".join(objects.of(line + b"\n") for line in lines).encode())
+        if rest:
+            write_all(objects.of(rest).encode())
+    except OSError:
+        return False
+    return True
+
+
+def run(program, words):
+    """Runs the program, and ends as it does. Signals go to the program, whose end ends this."""
+    started, early = [], []
+
+    def hand_on(number, _):
+        for it in started:
+            it.send_signal(number)
+        early.append(number)
+
+    # One that whoever called has ignored stays so, as under nohup.
+    for number in SIGNALS:
+        if signal.getsignal(number) is not signal.SIG_IGN:
+            signal.signal(number, hand_on)
+    try:
+        started.append(subprocess.Popen([program, *words], stdout=subprocess.PIPE))
+    except OSError as error:
+        say(f"{program}: {error.strerror}")
+        return NO_PROGRAM
+    if early:
+        started[0].send_signal(early[0])
+    objects = Objects(words[0] if words and words[0] in COMMANDS else None)
+    is_written = pass_on(started[0].stdout.fileno(), objects)
+    # If the output takes no more, neither does the pipe of the program.
+    started[0].stdout.close()
+    status = started[0].wait()
+    objects.end()
+    if status < 0:
+        signal.signal(-status, signal.SIG_DFL)
+        os.kill(os.getpid(), -status)
+    return status if is_written else WRITE_FAULT
+
+
+if __name__ == "__main__":
+    if len(sys.argv) < 2:
+        say("usage: lines.py PROGRAM WORD..")
+        sys.exit(64)
+    sys.exit(run(sys.argv[1], sys.argv[2:]))
