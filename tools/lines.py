@@ -63,7 +63,7 @@ Fields in [] are only there if the line has them. `A.B` is the key B of the dict
   trace_message      node origin octets                           import
   skipped            why [number]                                 import
   cut                count ok [WHY]                               cuts: ok is a bool
-  message            type                                         show-hex, show, as all that follow
+  message            type                                         show-hex, show, as all that follow but empty
   class              class options
   source, destination, send, receive, credit, hop_counter         each with one field, number
   more, canonical    yes
@@ -72,7 +72,7 @@ Fields in [] are only there if the line has them. `A.B` is the key B of the dict
   called, calling    route point ssn title national               route is "ssn" or "title"; point, ssn and title may be None
   data               octets
   parameter          name octets
-  empty                                                           show: the line after each message
+  empty                                                           show: the line after each message; import: an empty line
 
 KIND is kind, and for "loop" hop, for "forbidden" point and ssn, for "no row" cause; "long" and "overgrown" have no more.
 FAULT is fault with place.node, place.row, place.cover and place.key as far as the fault has them. "rule" has also rule ("twice" with
@@ -84,13 +84,13 @@ target, "blocked" or "no row" with cause, or "overgrown". title of an address is
 title.raw (its kind) and title.octets.
 
 end of a journey is "ended" with point, ssn and octets; "local" with ssn, data and [segment] ("more", "full", "whole" with whole, or
-"dropped" with why); "returned" with cause, marks and service; or "cut". service is None, or service.octets with service.way: "sent"
+"dropped" with reason); "returned" with cause, marks and service; or "cut". service is None, or service.octets with service.way: "sent"
 with service.to, "closed" with service.mark, "via" with service.via and service.end ("ended" with service.point, service.ssn and
 service.arrived; "local" with service.ssn; "lost" with service.cause; "management"; "cut"; or None).
 
 read_groups puts hops into the list "hops" of the record before them that is a verdict or an answer on a changeover (accepted,
 refused, change_accepted, change_refused, plan_refused); hops without one, as of `route`, become {"form": "route", "hops": [..]}.
-The lines of a message of `show` and `show-hex` become the list "lines" of its record. The records `sends` go into the list "sends"
+The lines of a message of `show` and `show-hex` become the list "parts" of its record. The records `sends` go into the list "sends"
 of the record of the same line, if it stands before them.
 """
 import contextlib
@@ -207,7 +207,7 @@ TYPES = {
 # {A.B:=VALUE:WORDS} one that has the value for which these words are printed. (P|Q) is P or Q, and <NAME> what NAME is below.
 
 PARTS = {
-    "WHICH": "({which=old} |{which=new} |)",
+    "WHICH": "({which=old} |{which=new} )",
     "KIND": "({kind=loop} {hop}|{kind=long}|{kind=overgrown}|{kind=forbidden} {point}/{ssn}|{kind=no row} {cause})",
     "STEADY": "steady ({steady:=true:yes}|{steady:=false:no})",
     "PLACE": "(|node {place.node} (|row {place.row} )|cover {place.cover} ){place.key:key_word}",
@@ -219,6 +219,7 @@ PARTS = {
     "SENT": "{step=sent} {next} target {target}|{step=ended} {point}/{ssn} target {target}",
     "STEP": "(<SENT>|{step=blocked} {cause}|{step=no row} {cause}|{step=overgrown})",
     "TITLE": "{title.selector} {title.ssn} {title.digits}",
+    "HOP": "at {node} <TITLE> held {held} <STEP>",
     "SEGMENT": "(| segment ({segment=more}|{segment=full}|{segment=whole} {whole}|{segment=dropped} {reason}))",
     "LOST": "{service.end=lost} {service.cause}|{service.end=management}|{service.end=cut}",
     "CAME": "{service.end=ended} {service.point}/{service.ssn} {service.arrived}|{service.end=local} {service.ssn}",
@@ -249,7 +250,7 @@ def causes(words, table, other):
 EVERY = "show-hex show cuts route verify change replay load send-on connect import"
 FILES = "show route verify change replay send-on connect import"
 COMMANDS = frozenset(EVERY.split())
-PLANS = "route verify change replay send-on connect import"
+JUDGED = "verify replay load connect"
 SHOWN = "show-hex show"
 
 # Each form: its name, and the commands of each of its patterns.
@@ -257,18 +258,18 @@ TABLE = [
     ("usage", (EVERY, "usage: {shapes}")),
     ("too_long", (FILES, "too long")),
     ("read_fault", (FILES, "read fault")),
-    ("bad_plan", (PLANS, "<WHICH><BAD_PLAN>")),
+    ("bad_plan", ("route verify replay send-on connect import", "<BAD_PLAN>"), ("change", "<WHICH><BAD_PLAN>")),
     ("bad_trace_line", ("show import replay", "bad trace line {line} {fault:line_fault}")),
     ("unknown_node", ("route connect send-on", "unknown node"), ("replay", "{line} unknown node")),
-    ("accepted", ("verify change", "<WHICH>accepted bound {bound}")),
-    ("refused", ("verify replay load connect change", "<WHICH>refused <KIND> cover {cover} <STEADY>")),
-    ("too_wide", ("verify replay load connect change", "<WHICH>too wide")),
-    ("hop", ("verify route replay load connect change", "<WHICH>at {node} <TITLE> held {held} <STEP>")),
+    ("accepted", ("verify", "accepted bound {bound}"), ("change", "<WHICH>accepted bound {bound}")),
+    ("refused", (JUDGED, "refused <KIND> cover {cover} <STEADY>"), ("change", "<WHICH>refused <KIND> cover {cover} <STEADY>")),
+    ("too_wide", (JUDGED, "too wide"), ("change", "<WHICH>too wide")),
+    ("hop", (f"{JUDGED} route change", "<HOP>"), ("change", "<WHICH><HOP>")),
     ("change_accepted", ("change", "change accepted bound {bound}")),
     ("change_refused", ("change", "change refused <KIND> covers {old_cover} {new_cover}")),
     ("change_too_wide", ("change", "change too wide")),
     ("other_nodes", ("change", "other nodes")),
-    ("plan_accepted", ("replay", "({line} |)plan {plan} {file} accepted bound {bound}")),
+    ("plan_accepted", ("replay", "({line} plan {plan}|plan {plan:=1:1}) {file} accepted bound {bound}")),
     ("plan_refused", ("replay", "{line} plan {file} refused <KIND> cover {cover} <STEADY>")),
     ("plan_too_wide", ("replay", "{line} plan {file} too wide")),
     ("plan_bad", ("replay", "{line} plan {file} <BAD_PLAN>")),
@@ -518,8 +519,8 @@ def list_in(last, record):
         return "hops"
     if name == "sends" and last.get("line") == record["line"]:
         return "sends"
-    if last["form"] == "message" and name in OF_MESSAGES and (not last.get("lines") or last["lines"][-1]["form"] != "canonical"):
-        return "lines"
+    if last["form"] == "message" and name in OF_MESSAGES and (not last.get("parts") or last["parts"][-1]["form"] != "canonical"):
+        return "parts"
     return None
 
 
