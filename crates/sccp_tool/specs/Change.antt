@@ -2,6 +2,7 @@
 use Rattle.std.specs.Prelude.{◌≡◌, ◌⊎◌, ℕ, List, [], ◌∷◌, ◌++◌, Option, None, Result, Ok, Err, if◌then◌else◌, codes, option_and_then, option_map}
 use Rattle.std.specs.Io.KnownBytes.{append_known}
 use Rattle.plan_check.specs.Verified.{Verified}
+use Rattle.plan_model.specs.Limits.{most_classes}
 use Rattle.plan_model.specs.declared.kind.Kind.{Kind}
 use Rattle.plan_model.specs.declared.plan_fault.PlanFault.{PlanFault}
 use Rattle.plan_model.specs.declared.spot.Spot.{Spot}
@@ -141,7 +142,7 @@ IsUnmixable old new =
     (old_cover : ℕ) × (new_cover : ℕ) × (spot : Spot) × (turns : List Turn) × (hops : List MixedHop) × (kind : Kind) × BothBad old new old_cover new_cover spot turns hops kind
 
 abbrev pub IsWideMixture : Network → Network → Type 0
-IsWideMixture old new = MixedReachAtLeast old new 262144
+IsWideMixture old new = MixedReachAtLeast old new most_classes
 
 -- both files have plans that are safe in this sense, and this holds of the two
 abbrev pub HavePlans : Option Contents → List ℕ → List ℕ → (Network → Type 0) → (Network → Network → Type 0) → Type 0
