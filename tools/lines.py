@@ -592,6 +592,8 @@ def run(program, words):
     for number in SIGNALS:
         if signal.getsignal(number) is not signal.SIG_IGN:
             signal.signal(number, hand_on)
+    # The launcher has them wait until now.
+    signal.pthread_sigmask(signal.SIG_UNBLOCK, SIGNALS)
     try:
         started.append(subprocess.Popen([program, *words], stdout=subprocess.PIPE))
     except OSError as error:

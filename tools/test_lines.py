@@ -8,7 +8,9 @@ import itertools
 import json
 import os
 import re
+import subprocess
 import sys
+import tempfile
 import unittest
 
 HERE = os.path.dirname(os.path.abspath(__file__))
@@ -17,6 +19,7 @@ sys.path.insert(0, HERE)
 import lines
 
 STORED = os.path.join(TOP, "crates", "worked_cases", "stdout")
+PIPELINE = os.path.join(TOP, "examples", "pipeline", "verify_plans.py")
 SPECS = os.path.join(TOP, "crates")
 
 
@@ -185,6 +188,16 @@ FAULTY = [
     (None, "usage:"), (None, "usage"), (None, "accepted bound " + "9" * 5000), (None, "\x00"),
 ]
 
+REPORT = """<testsuite name="plans" tests="5" failures="4">
+<testcase name="good"/>
+<testcase name='a&lt;&amp;".toml'><failure message="status 1 refused loop">a 49A: sent b
+a 49A: overgrown</failure></testcase>
+<testcase name="faulty"><failure message="status 65 bad_plan rule"></failure></testcase>
+<testcase name="wide"><failure message="status 67 too_wide"></failure></testcase>
+<testcase name="nothing"><failure message="status 70"></failure></testcase>
+</testsuite>
+"""
+
 
 def paths(value, before=""):
     """The places in a record, with the types of what is there."""
@@ -341,6 +354,33 @@ class Streams(unittest.TestCase):
             command = words[0] if words[0] in lines.COMMANDS else None
             whole = [part for group in lines.read_groups(printed, command) for part in spread(group)]
             self.assertEqual(list(lines.read_lines(printed, command)), whole, words)
+
+
+class Pipeline(unittest.TestCase):
+    def test_the_report_on_plans(self):
+        """The script of examples/pipeline with a launcher that prints the lines of stored cases as JSON."""
+        with tempfile.TemporaryDirectory() as folder:
+            answers = {"good": (0, ["accepted bound 2"] + [hop_of_a("sent b target 0")]),
+                       'a<&".toml': (1, ["refused loop 0 cover 0 steady yes", hop_of_a("sent b target 0"), hop_of_a("overgrown")]),
+                       "faulty": (65, ["bad plan rule node 0 twice 1 2"]), "wide": (67, ["too wide"]), "nothing": (70, [])}
+            for name, (status, printed) in answers.items():
+                objects = [json.dumps(lines.read_line(line, "verify")) for line in printed]
+                with open(os.path.join(folder, name), "w", encoding="utf-8") as file:
+                    file.write("".join(one + "\n" for one in [str(status), *objects]))
+            launcher = os.path.join(folder, "launcher")
+            with open(launcher, "w", encoding="utf-8") as file:
+                file.write('#!/bin/sh\n[ "$1 $2" = "--json verify" ] || exit 99\ntail -n +2 "$3"\nexit "$(head -n 1 "$3")"\n')
+            os.chmod(launcher, 0o755)
+
+            def report(*names):
+                done = subprocess.run([sys.executable, PIPELINE, *names], cwd=folder, env={**os.environ, "SCCP": launcher}, capture_output=True, check=False)
+                return done.returncode, done.stdout.decode(), done.stderr.decode()
+            self.assertEqual((0, '<testsuite name="plans" tests="1" failures="0">\n<testcase name="good"/>\n</testsuite>\n', ""), report("good"))
+            self.assertEqual((1, REPORT, ""), report(*answers))
+
+
+def hop_of_a(words):
+    return f"at a 4:0:1:4 6 49A held point:2-0-1 {words}"
 
 
 if __name__ == "__main__":
