@@ -639,12 +639,23 @@ class NotToml(Case):
         self.assertEqual(["15"], self.found(NEWER + "c 1\n"))
         self.assertEqual(["12-14"], self.found(NEWER.replace("], }", "], } x")))
 
+    def test_line_ends_that_toml_1_1_does_not_allow(self):
+        self.assertEqual(["12"], self.found(PLAN.replace('relay = "b"', 'relay\n= "b"')))
+        self.assertEqual(["12"], self.found(PLAN.replace('relay = "b"', 'relay = # no\n"b"')))
+        self.assertEqual(["12"], self.found(PLAN.replace('relay = "b"', 'relay = "\nb"')))
+        self.assertEqual(["12"], self.found(PLAN.replace("strip = 16", "strip = 1\n6")))
+        self.assertEqual(["12"], self.found(PLAN.replace("strip = 16", "strip = 16,,")))
+        self.assertEqual(["13"], self.found(PLAN.replace('{ final = "2-0-1" }', "{ , }")))
+        allowed = PLAN.replace('relay = "b"', '\n# }\nrelay = "b" # "\n').replace("16 }", "16\n# ]\n, }")
+        self.assertEqual(["11-19"], lines_of(self.file(allowed), "bad plan bad value node 0 row 0 targets"))
+        self.assertEqual(["24"], self.found(allowed + "x\n"))
+
     def test_octets_that_are_not_utf_8(self):
         self.assertEqual(["10"], self.found(PLAN.encode().replace(b"49", b"\xc3\x28")))
 
     def test_a_text_that_tomllib_reads(self):
         status, out, _ = answer(self.file(PLAN), "--line", "bad plan not toml")
-        self.assertEqual((65, "        = no line is known, since Python's tomllib reads it"), (status, out.split("\n")[1]))
+        self.assertEqual((65, "        = Python's tomllib reads this, but the program does not"), (status, out.split("\n")[1]))
 
 
 class Calls(Case):
@@ -686,6 +697,11 @@ class Calls(Case):
         self.assertEqual((65, ""), (status, told))
         self.assertEqual(f"{path}:11-14: bad plan not toml", out.split("\n", maxsplit=1)[0])
         self.assertEqual("        = Python's tomllib reads this, but the program does not", out.split("\n")[-2])
+        self.stub("grep -q '[[][[][[]' plan.toml || exit 0\necho bad plan not toml\nexit 65\n")
+        path = self.file("version = 2\nother = " + "[" * 3000 + "]" * 3000 + "\nnode = []\n")
+        status, out, told = answer(path)
+        self.assertEqual((65, "", f"{path}:2: bad plan not toml"), (status, told, out.split("\n", maxsplit=1)[0]))
+        self.assertIn("\n        = Python's tomllib gives no line: ", out)
 
     def test_words_and_files(self):
         path = self.file(PLAN)

@@ -13,7 +13,7 @@ of whatever command. PLAN has to be the file that the command read.
   wrong shape               also the lines of each unknown key of that table, up to twenty
   a repeated name or point  the lines of the later node's key, and of the earlier one's
   rules of rows             the lines of the row, or of both rows
-  not toml                  the line at which Python's reader stops; if it reads the text, the lines after which the program stops
+  not toml                  the line at which Python's reader stops; if it gives none, the lines with which the program stops
 
 A limit, a plan without a cover and a key that is missing at the top have no line: PLAN: and the program's line is printed.
 
@@ -55,7 +55,7 @@ FAULT = re.compile(
     rf"|rule node (?P<of>\d+) (?:twice (?P<one>\d+) (?P<two>\d+)|(?:strip too long|kind two) (?P<only>\d+))"
     rf"|(?P<toml>not toml)|no cover|limit (?:nodes|rows|covers))")
 
-# What decides of line ends whether a value goes on. Texts of several lines are before those of one.
+# What decides whether a value goes on after a line end. Texts of several lines are tried before those of one.
 TOKEN = re.compile(r'"""(?:\\.|[^\\])*?"""(?!")|' r"'''.*?'''(?!')|" r'"(?:\\.|[^"\\\n])*"|' r"'[^'\n]*'|#[^\n]*|\r?\n|[][{},]", re.S)
 SHORT_TIME = re.compile(r"(?<![\d:+-])(\d\d:\d\d)(?![\d:])")
 HEADER = re.compile(r"\s*\[\[\s*(node|cover)\s*(\.\s*row\s*)?\]\]")
@@ -87,7 +87,6 @@ class Cutter:
 
     def __init__(self, text):
         self.source, self.pieces = text, []
-        self.open, self.comma, self.dropped = [], None, 0
         self.begin(0, 1)
         place = 0
         for token in TOKEN.finditer(text):
@@ -100,40 +99,54 @@ class Cutter:
 
     def begin(self, place, line):
         self.start, self.line, self.parts = place, line, []
+        self.open, self.dropped, self.ends = [], 0, []
+        self.last = ""  # what is before, without blanks, line ends and comments: a bracket, a comma, or "value" for all others
+        self.comma = None  # the part that has the comma after which there was nothing yet
 
     def take_between(self, text):
         if text.strip():
-            self.comma = None
+            self.take_value()
         self.parts.append(SHORT_TIME.sub(r"\1:00", text))
+
+    def take_value(self):
+        """A key, a part of a value, or what opens one. A line end before it counts, unless a comma or { is before that."""
+        for part, token in self.ends:
+            self.parts[part] = token
+            self.dropped -= token.count("\n")
+        self.last, self.comma, self.ends = "value", None, []
 
     def take(self, token, place):
         """One bracket, comma, text, comment or line end; `place` is after it."""
         inside = bool(self.open) and self.open[-1] == "{"
         if token in "[{":
+            self.take_value()
             self.open.append(token)
-            self.comma = None
-        elif token in "]}":
-            if token == "}" and self.comma is not None:
-                self.parts[self.comma] = " "
-            self.open[-1:] = []
-            self.comma = None
-        elif token == ",":
-            self.comma = len(self.parts) if inside else None
-        elif token.endswith("\n"):
-            token = self.line_end(token, inside)
-        elif token[0] == "#":
-            token = "" if inside else token
+            self.last = token
+        elif token in "]},":
+            self.take_end(token, inside)
+        elif token[0] == "#" or token.endswith("\n"):
+            token = self.take_line_end(token) if inside else token
         else:
-            self.comma = None
+            self.take_value()
             token = old_escapes(token) if token[0] == '"' else token
         self.parts.append(token)
         if not self.open and token.endswith("\n"):
             self.end(place)
 
-    def line_end(self, token, inside):
-        if not inside:
-            return token
-        self.dropped += 1
+    def take_end(self, token, inside):
+        """A comma or a closing bracket: before it line ends are as blanks, and before a closing brace a comma."""
+        if token == "}" and self.comma is not None:
+            self.parts[self.comma] = " "
+        self.comma = len(self.parts) if token == "," and inside and self.last == "value" else None
+        self.last, self.ends = token if token == "," else "value", []
+        if token != ",":
+            self.open[-1:] = []
+
+    def take_line_end(self, token):
+        """A comment or a line end inside of braces."""
+        if self.last == "value":
+            self.ends.append((len(self.parts), token))
+        self.dropped += token.count("\n")
         return " "
 
     def end(self, place):
@@ -142,7 +155,6 @@ class Cutter:
         text = raw if self.open else "".join(self.parts) + "\n" * self.dropped
         lines = raw.count("\n") + (not raw.endswith("\n"))
         self.pieces.append(Piece(self.line, self.line + lines - 1, text, text != raw, bool(self.open)))
-        self.open, self.comma, self.dropped = [], None, 0
         self.begin(place, self.line + lines)
 
 
@@ -155,7 +167,7 @@ def read(text):
     """The document of a text, or what tomllib says against it."""
     try:
         return tomllib.loads(text), None
-    except (tomllib.TOMLDecodeError, RecursionError, ValueError) as fault:
+    except (ValueError, RecursionError) as fault:
         return None, str(fault)
 
 
@@ -376,15 +388,16 @@ class Plan:
             return end_by(pieces, lambda count: read("".join(piece.text for piece in pieces[:count]))[0] is None, place[1])
         if place:
             return at_line(pieces, int(place[2]), int(place[3]), place[1])
+        note = f"Python's tomllib gives no line: {against}" if against else "Python's tomllib reads this, but the program does not"
         if asked is None or not pieces:
-            return Finding(note="no line is known, since Python's tomllib " + ("does not end on this text" if against else "reads it"))
+            return Finding(note=note)
         lines = octets.split(b"\n")
 
         def is_none(count):
             return asked(b"\n".join(lines[:pieces[count - 1].last]) + b"\n") == "bad plan not toml"
-        return end_by(pieces, is_none, "Python's tomllib reads this, but the program does not")
+        return end_by(pieces, is_none, note)
 
-    def print(self, line, found):
+    def show(self, line, found):
         """The findings, each with the first lines of it."""
         lines = self.octets.decode("utf-8", "replace").removeprefix("\ufeff").split("\n")
         for finding in found:
@@ -463,7 +476,7 @@ def answer(path, line):
     fault = FAULT.fullmatch(line[max(line.find("bad plan "), 0):].rstrip())
     if not fault:
         raise Stop(WRONG_WORDS, f"expected a line with the fault of a plan, found {one_line(line)}")
-    plan.print(fault[0], plan.findings(fault, asked))
+    plan.show(fault[0], plan.findings(fault, asked))
     return BAD_PLAN
 
 
