@@ -14,6 +14,7 @@ load NUMBER SIZE WORKERS
 send-on PLAN NODE ORIGIN SIZE HEX
 connect PLAN NODE FROM SELECTOR SSN DIGITS HEX
 import PLAN FILE
+--json COMMAND WORD..
 --help COMMAND
 --version
 --prove
@@ -24,6 +25,8 @@ import PLAN FILE
 _sccp_look() {
   local line use place
   kind=COMMAND plan=''
+  # After --json all words are as without it.
+  [ $# -gt 1 ] && [ "$1" = --json ] && shift
   [ $# -gt 1 ] || return
   while read -r line; do
     read -ra use <<<"$line"

@@ -1,5 +1,5 @@
-//! Tests of `run` that no command over real files shows: calls over files and sinks in memory, failing ones among them, and
-//! several workers beside the publisher.
+//! Tests of `run` that no command over real files shows. They are calls over files and sinks in memory, failing ones among
+//! them, and several workers beside the publisher.
 //!
 //! What a command shows is a case of the program `worked_cases`.
 #![tactic(auto)]

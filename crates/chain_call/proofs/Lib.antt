@@ -1,3 +1,4 @@
+-- The lemmas of this crate, by subject.
 pub mod NextLink
 pub mod Offered
 pub mod Turns

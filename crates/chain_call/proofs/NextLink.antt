@@ -29,7 +29,7 @@ both_ways p q (inr h) (inr k) =
     let second : p.1 ≡ q.1 = let a = h.1 in let b = k.1 in omega (arith, a, b) in
     ap (λ (n : ℕ). (n, p.1)) h.0 ∙ ap (λ (n : ℕ). (q.0, n)) second
 
--- the lesser of two is the one that comes before both
+-- the lesser of two is the one that precedes both
 lesser_is : (p l : ℕ × ℕ) (o : Option (ℕ × ℕ)) → ((q : ℕ × ℕ) → o ≡ Some q → Precedes p q.0 q.1) → Precedes p l.0 l.1 → (l ≡ p) ⊎ (o ≡ Some p) → lesser o l.0 l.1 ≡ p
 lesser_is p l None all first (inl same) = same
 lesser_is p l None all first (inr e) = absurd (let z : None ≡ Some p = e in cc)
@@ -158,7 +158,7 @@ among network history p held =
     absurd (false_not_true (sym (ap is_some_message (run_empty network start p.0 p.1 history not_there refl)) ∙ held)))
     (cases_Bool (list_any (is_pair p.0 p.1) (links_from network start history)))
 
--- ---- the two words for it
+-- ---- the two definitions of it
 
 some_held : (ms : List Message) → (ms ≡ [] → ⊥) → is_some_message ms ≡ true
 some_held [] h = absurd (h refl)
@@ -174,7 +174,7 @@ next_is network history p next =
     let held : holds w p ≡ true = some_held (w.waiting p.0 p.1) next.holds in
     least_there w p held (λ q h. next.least q.0 q.1 (held_some (w.waiting q.0 q.1) h)) (links_from network start history) (among network history p held)
 
--- where no link holds a message, the definition names none
+-- if no link holds a message, the definition names none
 pub next_none : (network : Network) (history : List Happening) → IsSettled (after network history) → next_link network (after network history) history ≡ None
 next_none network history settled = none_holds (after network history) (links_from network start history) (λ l. ap is_some_message (settled l.0 l.1))
 

@@ -4,7 +4,7 @@ use Rattle.std.specs.Prelude.{Bool, true, false, cond}
 use Rattle.chain_call.specs.Course.{Course}
 use Rattle.chain_call.specs.Steps.{delivered, is_spent, next_of, turn, settled_in}
 
--- no turn is left: nothing comes out
+-- no turn is left: there is no result
 pub is_over : (n : ℕ) (c : Course) → n ≡ 0 → settled_in n c ≡ None
 is_over zero c e = refl
 is_over (suc n) c e = absurd (omega (arith, e))
@@ -14,7 +14,7 @@ pub is_done : (n : ℕ) (c : Course) → 1 ≤ n → next_of c ≡ None → sett
 is_done zero c some e = absurd (omega (arith, some))
 is_done (suc n) c some e = ap (λ (o : Option (ℕ × ℕ)). turn (λ after. settled_in n after) o c) e
 
--- a link is to deliver and no delivery is left: nothing comes out
+-- a link is to deliver and no delivery is left: there is no result
 pub gives_up : (n : ℕ) (c : Course) (l : ℕ × ℕ) → 1 ≤ n → next_of c ≡ Some l → is_spent c ≡ true → settled_in n c ≡ None
 gives_up zero c l some e spent = absurd (omega (arith, some))
 gives_up (suc n) c l some e spent =

@@ -1,3 +1,4 @@
+-- The definitions of a connection: what ends keep, its course, the next link, and its steps.
 pub mod Notes
 pub mod Course
 pub mod Links

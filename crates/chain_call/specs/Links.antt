@@ -1,4 +1,4 @@
--- The links that a message was put on so far, and the one of them that is to deliver next.
+-- The links that messages were put on so far, and the one of them that is to deliver next.
 use Rattle.std.specs.Prelude.{ℕ, Bool, true, false, if◌then◌else◌, List, [], ◌∷◌, ◌++◌, map, Option, Some, None}
 use Rattle.sccp_message.specs.declared.message.Message.{Message}
 use Rattle.sccp_couple.specs.Events.{Answer}
@@ -12,7 +12,8 @@ use Rattle.chain_world.specs.Running.{lesser}
 abbrev pub sent_links : ℕ → List Answer → List (ℕ × ℕ)
 sent_links node sent = map (λ (s : Answer). (node, s.to)) sent
 
--- the links on which a delivery puts messages, where these messages stand on the link that delivers: those of the relay that takes the first of them
+-- the links on which a delivery puts messages, if the link that delivers holds these: those of the relay that takes the first
+-- of them
 abbrev pub links_of : Network → World → ℕ → ℕ → List Message → List (ℕ × ℕ)
 links_of network w from to [] = []
 links_of network w from to (message ∷ rest) =
@@ -23,7 +24,7 @@ abbrev pub links_by : Network → World → Happening → List (ℕ × ℕ)
 links_by network w (Offers from to message) = (from, to) ∷ []
 links_by network w (Delivers from to) = links_of network w from to (w.waiting from to)
 
--- all links on which a history puts messages, from a world on
+-- all links on which a history puts messages, beginning with a world
 abbrev pub links_from : Network → World → List Happening → List (ℕ × ℕ)
 links_from network w [] = []
 links_from network w (h ∷ history) = links_by network w h ++ links_from network (happens network w h) history
@@ -37,11 +38,11 @@ is_some_message (message ∷ rest) = true
 abbrev pub holds : World → ℕ × ℕ → Bool
 holds w l = is_some_message (w.waiting l.0 l.1)
 
--- of these links that hold a message the least, by its first point and then its second
+-- of these links that hold a message, the least by its first point and then its second
 abbrev pub least_in : World → List (ℕ × ℕ) → Option (ℕ × ℕ)
 least_in w [] = None
 least_in w (l ∷ links) = if holds w l then Some (lesser (least_in w links) l.0 l.1) else least_in w links
 
--- the link that is to deliver next: the least that holds a message
+-- the link that is to deliver next: the least one that holds a message
 abbrev pub next_link : Network → World → List Happening → Option (ℕ × ℕ)
 next_link network w history = least_in w (links_from network start history)

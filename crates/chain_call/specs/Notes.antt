@@ -8,7 +8,7 @@ use Rattle.chain_call.specs.declared.note.Note.TheVariants.{Request, Confirm, Re
 use Rattle.chain_call.specs.declared.handed.Handed.{Handed}
 use Rattle.chain_call.specs.declared.finding.Requested.{Requested}
 
--- of each type of message what the steps of a connection ask for, and of any other type nothing
+-- what the steps of a connection need of each type of message; nothing of any other type
 abbrev pub note_of : Message → Note
 note_of (messages.Cr slr class called params) = Request slr
 note_of (messages.Cc dlr slr class params) = Confirm slr
@@ -22,7 +22,7 @@ abbrev pub release_of : Note → Option (ℕ × ℕ)
 release_of (Release dlr slr) = Some (dlr, slr)
 release_of note = None
 
--- the first of two values where it is there, and else the later one
+-- the first of two values if it is there, otherwise the later one
 abbrev pub or_later : {A : Type 0} → Option A → Option A → Option A
 or_later (Some x) later = Some x
 or_later None later = later
@@ -37,7 +37,7 @@ abbrev pub request_of : ℕ → ℕ → Note → Option Requested
 request_of from to (Request slr) = Some (record { from = from; to = to; slr = slr })
 request_of from to note = None
 
--- the same, where an end was handed it
+-- the request that an end was handed, if this is one
 abbrev pub request_in : Handed → Option Requested
 request_in h = request_of h.from h.to h.note
 
@@ -50,7 +50,7 @@ abbrev pub confirm_of : Note → Option ℕ
 confirm_of (Confirm slr) = Some slr
 confirm_of note = None
 
--- the same, where the end at this point was handed it
+-- the source reference of a confirmation, if the end at this point was handed it
 abbrev pub confirm_at : ℕ → Handed → Option ℕ
 confirm_at point h = if h.to == point then confirm_of h.note else None
 
@@ -63,7 +63,7 @@ abbrev pub refusal_of : Note → Option ℕ
 refusal_of (Refusal cause) = Some cause
 refusal_of note = None
 
--- the same, where the end at this point was handed it
+-- the cause of a refusal, if the end at this point was handed it
 abbrev pub refusal_at : ℕ → Handed → Option ℕ
 refusal_at point h = if h.to == point then refusal_of h.note else None
 
@@ -76,7 +76,7 @@ abbrev pub data_of : ℕ → Note → List ℕ
 data_of reference (Data dlr payload) = if dlr == reference then payload else []
 data_of reference note = []
 
--- the same, where the end at this point was handed it
+-- the data of such a message, if the end at this point was handed it
 abbrev pub data_in : ℕ → ℕ → Handed → List ℕ
 data_in point reference h = if h.to == point then data_of reference h.note else []
 

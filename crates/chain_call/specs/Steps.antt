@@ -33,7 +33,7 @@ use Rattle.chain_call.specs.Notes.{note_of, release_of, first_request, first_con
 
 -- ---- offers and deliveries
 
--- what an offer adds to the history, by the test that it fails: a refused one nothing
+-- what an offer adds to the history, by the test that it fails; a refused offer adds nothing
 abbrev pub offer_by : Option OfferFault → ℕ → ℕ → Message → List Happening
 offer_by (Some fault) from to message = []
 offer_by None from to message = Offers from to (as_read message) ∷ []
@@ -43,16 +43,16 @@ unfoldable pub offered : ℕ → ℕ → Message → Course → Course
 offered from to message c =
     record c { history = c.history ++ offer_by (fault_of (network_of c.plan) (world_at c) from to message) from to message; offers = c.offers + 1 }
 
--- an end that is handed an RLSD answers it by an RLC, back over the link that it came from, and answers nothing else
+-- an end that is handed an RLSD answers it with an RLC, back to the relay that handed it; it answers nothing otherwise
 abbrev pub answered : ℕ → ℕ → Option (ℕ × ℕ) → Course → Course
 answered from to None c = c
 answered from to (Some pair) c = offered to from (messages.Rlc pair.1 pair.0) c
 
--- an end is handed a message, keeps a note of it, and answers it where it is a release
+-- an end is handed a message, keeps a note of it, and answers it if it is a release
 unfoldable pub handed_out : ℕ → ℕ → Note → Course → Course
 handed_out from to note c = answered from to (release_of note) (record c { handed = c.handed ++ record { from = from; to = to; note = note } ∷ [] })
 
--- where a message comes out, the end that the link leads to is handed it
+-- if a delivery leads to an end, this end is handed the message
 abbrev pub come_out : ℕ → ℕ → Delivered → Course → Course
 come_out from to Nothing c = c
 come_out from to Handled c = c
@@ -69,28 +69,28 @@ delivered from to c =
 abbrev pub is_spent : Course → Bool
 is_spent c = nat_le (64 * c.offers) c.deliveries
 
--- the link that is to deliver next, where one holds a message
+-- the link that is to deliver next, if one holds a message
 unfoldable pub next_of : Course → Option (ℕ × ℕ)
 next_of c = next_link (network_of c.plan) (world_at c) c.history
 
--- It is settled where no link is to deliver. Else that link delivers and later turns follow, unless no delivery is left.
+-- It is settled if no link is to deliver. Otherwise that link delivers and later turns follow, unless no delivery is left.
 abbrev pub turn : (Course → Option Course) → Option (ℕ × ℕ) → Course → Option Course
 turn later None c = Some c
 turn later (Some l) c = if is_spent c then None else later (delivered l.0 l.1 c)
 
--- at most so many turns; no course comes out where they aren't enough
+-- at most this number of turns; there is no result if they are not enough
 abbrev pub settled_in : ℕ → Course → Option Course
 settled_in zero c = None
 settled_in (suc turns) c = turn (λ after. settled_in turns after) (next_of c) c
 
--- Deliveries until no link holds a message, unless a link still holds one when 64 were made for each message that was offered. The turns are more than a run can
--- make.
+-- Deliveries until no link holds a message. There is no result if a link still holds one after 64 deliveries for each message
+-- that was offered. The turns are more than a run can make.
 unfoldable pub settled : Course → Option Course
 settled c = settled_in 18446744073709551615 c
 
 -- ---- the steps
 
--- the subsystem number of the called address, which has none for 0
+-- the called address, which routes on the title and has no point code
 abbrev pub called_of : Call → Address
 called_of call = record { national = false; by_ssn = false; pc = None; ssn = call.ssn; title = Global call.selector call.digits }
 
@@ -107,12 +107,13 @@ unfoldable pub confirmed : Option Requested → Course → Course
 confirmed None c = c
 confirmed (Some request) c = offered request.to request.from (messages.Cc request.slr 2 2 []) c
 
--- more octets come behind, so M is set
+-- more octets follow, so M is set
 abbrev pub has_more : List ℕ → Bool
 has_more [] = false
 has_more (octet ∷ rest) = true
 
--- one DT1 for each octet, with M on all but the last, all of them offered on the link from one point to another with this destination reference
+-- One DT1 for each octet, with M on all but the last. All are offered on the link from one point to another, with this
+-- destination reference.
 abbrev pub sent_by : ℕ → ℕ → ℕ → List ℕ → Course → Course
 sent_by from to reference [] c = c
 sent_by from to reference (octet ∷ rest) c = sent_by from to reference rest (offered from to (messages.Dt1 reference (has_more rest) (octet ∷ [])) c)
@@ -121,7 +122,7 @@ sent_by from to reference (octet ∷ rest) c = sent_by from to reference rest (o
 unfoldable pub sent_forth : Call → ℕ → Course → Course
 sent_forth call own c = sent_by call.from call.entry own call.octets c
 
--- the far end sends back what it was handed, to the relay that the request came from and under the reference that it had
+-- the far end sends back what it was handed, to the relay of the request and under the reference that the request had
 unfoldable pub sent_back : Requested → ℕ → Course → Course
 sent_back request far c = sent_by request.to request.from request.slr (data_at far 2 c.handed) c
 
@@ -129,19 +130,22 @@ sent_back request far c = sent_by request.to request.from request.slr (data_at f
 unfoldable pub released : Call → ℕ → Course → Course
 released call own c = offered call.from call.entry (messages.Rlsd own 1 0 []) c
 
--- ---- what comes of it
+-- ---- the outcome
 
--- what went over the connection: the data that the far end was handed with its reference 2, those that the end that requested it was handed with its reference 1, and the sections that are left
+-- What went over the connection: the data that the far end was handed with its reference 2, and those that the other end was
+-- handed with its reference 1. Last, the sections that are left.
 unfoldable pub through : Call → ℕ → Course → Through
 through call far c = record { forth = data_at far 2 c.handed; back = data_at call.from 1 c.handed; sections = sections_of (network_of c.plan) (world_at c) }
 
--- Octets go forth and back and the connection is released, and behind each of these three steps the links deliver until they are empty. There is nothing to tell where a link still holds a message and no delivery is left.
+-- Octets go forth and back and the connection is released. After each of these three steps the links deliver until they are
+-- empty. There is no result if a link still holds a message and no delivery is left.
 unfoldable pub carried : Call → ℕ → ℕ → Requested → Course → Option Through
 carried call far own request c =
     option_and_then (λ forth. option_and_then (λ back. option_map (through call far) (settled (released call own back))) (settled (sent_back request far forth)))
     (settled (sent_forth call own c))
 
--- the end that requested the connection knows its relay's reference by the confirmation that it was handed, and the far end by the request; where one has none, nothing is sent
+-- The end that requested the connection knows its relay's reference by the confirmation that it was handed. The far end knows
+-- it by the request. If one has none, nothing is sent.
 abbrev pub carried_if : Call → ℕ → Option ℕ → Option Requested → Course → Option Through
 carried_if call far None request c = Some (through call far c)
 carried_if call far (Some own) None c = Some (through call far c)
@@ -159,29 +163,30 @@ name_of plan place = option_map (λ (node : Node). node.name) (slice_get plan.no
 unfoldable pub name_at : plans.Network → ℕ → Option (List ℕ)
 name_at plan point = option_and_then (name_of plan) (position (has_point point) plan.nodes)
 
--- a connection that isn't open was refused, with the cause that came, or was left unanswered
+-- a connection that is not open was refused, with the cause that the end was handed, or was left unanswered
 abbrev pub refused_or : Option ℕ → Outcome
 refused_or (Some cause) = Refused cause
 refused_or None = Unanswered
 
--- it is open exactly where its line stands, and only then octets are sent over it
+-- it is open exactly if it has a line, and only then octets are sent over it
 abbrev pub on_line : Call → Course → Option lines.Line → Outcome
 on_line call c None = refused_or (first_refusal call.from c.handed)
 on_line call c (Some l) = Opened (filter_map (name_at c.plan) l.path) l.end_point (carried_on call l.end_point c)
 
--- what comes next, unless a link still holds a message and no delivery is left
+-- the next step, unless a link still holds a message and no delivery is left
 abbrev pub if_settled : (Course → Outcome) → Option Course → Outcome
 if_settled next None = Unsettled
 if_settled next (Some c) = next c
 
--- what comes of a connection once the links are empty behind its confirmation; its line begins at the end that requested it, which gave the reference 1
+-- The outcome of a connection once the links are empty after its confirmation. Its line begins at the end that requested it,
+-- which gave the reference 1.
 unfoldable pub with_line : Call → Course → Outcome
 with_line call c = on_line call c (line (network_of c.plan) (world_at c) call.from 1)
 
--- what comes of a connection once the links are empty behind its request
+-- the outcome of a connection once the links are empty after its request
 unfoldable pub answer_to : Call → Course → Outcome
 answer_to call c = if_settled (with_line call) (settled (confirmed (first_request c.handed) c))
 
--- what comes of a connection, from its request on
+-- the outcome of a connection, from its request on
 unfoldable pub outcome : Call → Course → Outcome
 outcome call c = if_settled (answer_to call) (settled (requested call c))

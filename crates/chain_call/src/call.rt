@@ -1,3 +1,4 @@
+//! What is asked for: one connection.
 use sccp_base::{Digits, Octets, PointCode, Selector};
 
 /// A connection that an end asks for, and what it is to carry.
@@ -7,11 +8,11 @@ pub struct Call {
     pub from: PointCode,
     /// The point of the relay that it sends the request to.
     pub entry: PointCode,
-    /// The title that is called: its selector, and its digits. One of kind 2 has an even number of them.
+    /// The called title: its selector, and its digits. A title of kind 2 has an even number of digits.
     pub selector: Selector,
     pub digits: Digits,
-    /// The subsystem number that is called, where there is one.
+    /// The called subsystem number, if there is one.
     pub ssn: Option<u8>,
-    /// What is sent over the connection, one octet in each data message.
+    /// What is sent over the connection, one octet in each data message (DT1).
     pub octets: Octets,
 }

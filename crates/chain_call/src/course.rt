@@ -1,3 +1,4 @@
+//! The state of a connection while it is made, used and released, and the deliveries between its steps.
 ghost use Rattle.std.specs.Prelude.{◌≡◌, ◌+◌, ◌++◌, IfOk, OnOk, Some, None, if◌then◌else◌, option_map};
 ghost use Rattle.chain_world.specs.Kept.{kept, network_of, world_of};
 ghost use Rattle.chain_world.specs.Offering.{fault_of, is_memory};
@@ -18,10 +19,10 @@ use sccp_message::Message;
 use std::alloc::Global;
 use std::marker::Model;
 
-/// How many deliveries may be made for each message that is offered.
+/// The number of deliveries that may be made for each message that is offered.
 const DELIVERIES_EACH: u64 = 64;
 
-/// The course of a connection: its world, what ends were handed, and how many messages were offered and delivered.
+/// The course of a connection: its world, what ends were handed, and the numbers of messages offered and delivered.
 #[derive(Drop)]
 pub(crate) struct Course {
     alloc: Global,
@@ -40,7 +41,7 @@ impl Model for Course {
 }
 
 impl Course {
-    /// A connection that is about to begin.
+    /// A connection that is about to begin in this world.
     pub(crate) fn new(alloc: Global, world: World) -> Course
         ensures { result ≡ beginning world }
     {
@@ -60,21 +61,21 @@ impl Course {
         self.world.plan()
     }
 
-    /// What ends were handed so far.
+    /// What ends were handed so far, in order.
     pub(crate) fn handed(&self) -> &[Handed]
         ensures { result.now ≡ self.now.handed }
     {
         self.handed.as_slice()
     }
 
-    /// How many connection sections all relays have together.
+    /// The number of connection sections of all relays together.
     pub(crate) fn sections(&self) -> u32
         ensures { result ≡ sections_of (network_of self.now.plan) (world_at self.now) }
     {
         self.world.sections()
     }
 
-    /// The line of a connection.
+    /// The line from an end's point and the reference that it gave.
     pub(crate) fn line(
         &self,
         point: PointCode,
@@ -85,7 +86,7 @@ impl Course {
         self.world.line(point, reference)
     }
 
-    /// An end offers a message to a relay. An offer that is refused changes nothing.
+    /// An end offers a message, which stays the caller's, to a relay. An offer that is refused changes nothing.
     #[tactic(auto, unfolding(crate::specs::Steps::offered))]
     fn offer_lent(
         &mut self,
@@ -115,7 +116,7 @@ impl Course {
         offered
     }
 
-    /// An end answers a release.
+    /// An end answers a release, if it was handed one.
     fn answer(
         &mut self,
         from: PointCode,
@@ -130,7 +131,7 @@ impl Course {
         }
     }
 
-    /// An end is handed a message by a relay, and answers a release.
+    /// An end is handed a message by a relay, and answers it if it is a release.
     #[tactic(auto, unfolding(crate::specs::Steps::handed_out))]
     fn hand_out(&mut self, from: PointCode, to: PointCode, note: Note) -> Result<(), OutOfMemory>
         ensures { OnOk result (self.new ≡ handed_out from to note self.old) }
@@ -140,7 +141,7 @@ impl Course {
         self.answer(from, to, release)
     }
 
-    /// What a delivery comes to.
+    /// Hands a delivered message to its end, if the delivery leads to one.
     fn come_out(
         &mut self,
         from: PointCode,
@@ -159,7 +160,7 @@ impl Course {
         }
     }
 
-    /// A link delivers its oldest message.
+    /// Has a link deliver its oldest message.
     #[tactic(auto, unfolding(crate::specs::Steps::delivered))]
     fn deliver(&mut self, from: PointCode, to: PointCode) -> Result<(), OutOfMemory>
         ensures { OnOk result (self.new ≡ delivered from to self.old) }
@@ -179,14 +180,15 @@ impl Course {
         self.world.next()
     }
 
-    /// Whether so many deliveries were made as are allowed for the messages that were offered.
+    /// Whether all deliveries were made that are allowed for the messages offered.
     fn is_spent(&self) -> bool
         ensures { result ≡ is_spent self.now }
     {
         self.offers <= self.deliveries / DELIVERIES_EACH
     }
 
-    /// Deliveries until no link holds a message; false where a link still holds one when all that are allowed were made.
+    /// Has links deliver until none holds a message. The result is false if all deliveries that are allowed were made, and a
+    /// link still holds a message.
     pub(crate) fn settle(&mut self) -> Result<bool, OutOfMemory>
         ensures { IfOk result (λ done. settled self.old ≡ if done then Some self.new else None) }
     {
@@ -203,7 +205,8 @@ impl Course {
     }
 }
 
-/// One more. No count comes to its type's end, since what is counted is kept.
+/// One more. A count past its type's end is answered as want of memory, but no run is long enough for that many offers or
+/// deliveries.
 fn one_more(count: u64) -> Result<u64, OutOfMemory>
     ensures { IfOk result (λ more. more ≡ count + 1) }
 {
@@ -213,13 +216,14 @@ fn one_more(count: u64) -> Result<u64, OutOfMemory>
     }
 }
 
+/// Whether a fault is lack of memory.
 fn is_memory(fault: OfferFault) -> bool
     ensures { result ≡ is_memory fault }
 {
     matches!(fault, OfferFault::OutOfMemory)
 }
 
-/// The references of a release.
+/// The destination and source reference of a release.
 fn release_of(note: &Note) -> Option<(Reference, Reference)>
     ensures { result ≡ release_of note.now }
 {
@@ -229,7 +233,7 @@ fn release_of(note: &Note) -> Option<(Reference, Reference)>
     }
 }
 
-/// An end offers a message to a relay. An offer that is refused changes nothing.
+/// An end offers a message to a relay of a world. An offer that is refused changes nothing.
 fn put(
     world: &mut World,
     from: PointCode,

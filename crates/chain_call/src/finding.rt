@@ -1,4 +1,4 @@
-//! What is found among what ends were handed.
+//! What is looked up among the messages that ends were handed.
 ghost use Rattle.std.specs.Prelude.{◌≡◌, ◌++◌, IfOk, OnOk};
 ghost use Rattle.chain_call.specs.Notes.{request_in, first_request, confirm_of, confirm_at, first_confirm, refusal_of, refusal_at, first_refusal, data_of, data_in, data_at};
 
@@ -10,14 +10,15 @@ use std::alloc::Global;
 /// A request that an end was handed.
 #[derive(Clone, Copy)]
 pub struct Requested {
-    /// The point of the relay that it came from.
+    /// The point of the relay from which the end was handed it.
     pub from: PointCode,
     /// The end's point.
     pub to: PointCode,
-    /// Its source local reference.
+    /// The source local reference of the request.
     pub slr: Reference,
 }
 
+/// The request that an end was handed, if this is one.
 fn request_in(h: &Handed) -> Option<Requested>
     ensures { result ≡ request_in h.now }
 {
@@ -43,6 +44,7 @@ pub(crate) fn first_request(handed: &[Handed]) -> Option<Requested>
     None
 }
 
+/// The source reference of a confirmation.
 fn confirm_of(note: &Note) -> Option<Reference>
     ensures { result ≡ confirm_of note.now }
 {
@@ -52,6 +54,7 @@ fn confirm_of(note: &Note) -> Option<Reference>
     }
 }
 
+/// The source reference of a confirmation, if the end at this point was handed it.
 fn confirm_at(point: PointCode, h: &Handed) -> Option<Reference>
     ensures { result ≡ confirm_at point h.now }
 {
@@ -74,6 +77,7 @@ pub(crate) fn first_confirm(point: PointCode, handed: &[Handed]) -> Option<Refer
     None
 }
 
+/// The cause of a refusal.
 fn refusal_of(note: &Note) -> Option<u8>
     ensures { result ≡ refusal_of note.now }
 {
@@ -83,6 +87,7 @@ fn refusal_of(note: &Note) -> Option<u8>
     }
 }
 
+/// The cause of a refusal, if the end at this point was handed it.
 fn refusal_at(point: PointCode, h: &Handed) -> Option<u8>
     ensures { result ≡ refusal_at point h.now }
 {
@@ -105,6 +110,7 @@ pub(crate) fn first_refusal(point: PointCode, handed: &[Handed]) -> Option<u8>
     None
 }
 
+/// The data of a message with this destination reference; otherwise none.
 fn data_of(reference: Reference, note: &Note) -> &[u8]
     ensures { result.now ≡ data_of reference note.now }
 {
@@ -120,6 +126,7 @@ fn data_of(reference: Reference, note: &Note) -> &[u8]
     }
 }
 
+/// The data of a message with this destination reference, if the end at this point was handed it.
 fn data_in(point: PointCode, reference: Reference, h: &Handed) -> &[u8]
     ensures { result.now ≡ data_in point reference h.now }
 {

@@ -1,3 +1,4 @@
+//! One record of a message that an end was handed.
 use crate::note::Note;
 use sccp_base::PointCode;
 
@@ -8,5 +9,6 @@ pub struct Handed {
     pub from: PointCode,
     /// The end's point.
     pub to: PointCode,
+    /// What the end keeps of the message.
     pub note: Note,
 }

@@ -1,8 +1,10 @@
 //! One connection over a chain of coupled relays, from its request to its release (Q.714 section 3).
 //!
-//! An end requests a connection, the end that is handed the request confirms it, octets go forth and back, and the connection
-//! is released; between these steps the links deliver until none holds a message. The layer above may rely on this: what
-//! comes of it is the definition's word (`specs/Steps`), a function of the plan and of what was asked for.
+//! An end requests a connection, and the end that is handed the request confirms it. Octets go forth and back, and the
+//! connection is released. Between these steps the links deliver until none holds a message.
+//!
+//! The layer above may rely on this: the outcome is what the definition gives (`specs/Steps`). It depends only on the plan
+//! and on what was asked for.
 #![tactic(auto)]
 
 mod call;

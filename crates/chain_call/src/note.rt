@@ -1,3 +1,4 @@
+//! What ends keep of the messages that they are handed.
 ghost use Rattle.std.specs.Prelude.{◌≡◌, IfOk};
 ghost use Rattle.chain_call.specs.Notes.{note_of};
 
@@ -14,16 +15,16 @@ pub enum Note {
     Confirm(Reference),
     /// A refused connection, with the refusal cause.
     Refusal(u8),
-    /// Data form 1.
+    /// Data form 1 (DT1), with its destination reference and its data.
     Data { dlr: Reference, payload: Octets },
-    /// A release.
+    /// A release (RLSD), with its destination and source references.
     Release { dlr: Reference, slr: Reference },
     /// Another message.
     Other,
 }
 
 impl Note {
-    /// What is kept of a message.
+    /// What an end keeps of a message. The only error is lack of memory.
     pub fn of(alloc: Global, message: &Message) -> Result<Note, OutOfMemory>
         ensures { IfOk result (λ note. note ≡ note_of message.now) }
     {

@@ -1,4 +1,4 @@
-//! The steps of a connection.
+//! The steps of a connection, from its request to its release.
 ghost use Rattle.std.specs.Prelude.{◌≡◌, [], ◌∷◌, IfOk, OnOk, Some, map, filter_map};
 ghost use Rattle.sccp_scrc.specs.Arriving.{point_of};
 ghost use Rattle.chain_world.specs.Kept.{kept};
@@ -20,21 +20,24 @@ use std::alloc::Global;
 
 /// The source local reference of the end that requests the connection.
 const NEAR_REFERENCE: u32 = 1;
-/// That of the end that is handed the request.
+/// The source local reference of the end that is handed the request.
 const FAR_REFERENCE: u32 = 2;
 /// The protocol class of a connection without flow control (Q.713 section 3.6).
 const CLASS: u8 = 2;
-/// The name of the hop counter among the optional parameters (Q.713 section 3.18), and its greatest value.
+/// The name code of the hop counter among the optional parameters (Q.713 section 3.18).
 const HOP_COUNTER: u8 = 0x11;
 
+/// The greatest value of a hop counter.
 const MOST_HOPS: u8 = 15;
 
+/// The reference of the end that requests the connection.
 fn near_reference() -> Reference
     ensures { result ≡ 1 }
 {
     Reference::new(NEAR_REFERENCE).unwrap()
 }
 
+/// The reference of the end that is handed the request.
 fn far_reference() -> Reference
     ensures { result ≡ 2 }
 {
@@ -56,7 +59,7 @@ fn called_of(call: &Call) -> Address
     }
 }
 
-/// One octet.
+/// One octet as a list.
 fn one_octet(alloc: Global, octet: u8) -> Result<Octets, OutOfMemory>
     ensures { IfOk result (λ octets. octets ≡ octet ∷ []) }
 {
@@ -65,7 +68,7 @@ fn one_octet(alloc: Global, octet: u8) -> Result<Octets, OutOfMemory>
     Ok(octets)
 }
 
-/// A hop counter with its greatest value.
+/// The optional parameters of the request: a hop counter with its greatest value.
 fn counter(alloc: Global) -> Result<List<Param>, OutOfMemory>
     ensures { IfOk result (λ params. params ≡ counter) }
 {
@@ -75,7 +78,7 @@ fn counter(alloc: Global) -> Result<List<Param>, OutOfMemory>
     Ok(params)
 }
 
-/// An end requests the connection.
+/// An end requests the connection (CR).
 #[tactic(auto, unfolding(crate::specs::Steps::requested))]
 fn request(alloc: Global, course: &mut Course, call: &Call) -> Result<(), OutOfMemory>
     ensures { OnOk result (course.new ≡ requested call.now course.old) }
@@ -90,7 +93,7 @@ fn request(alloc: Global, course: &mut Course, call: &Call) -> Result<(), OutOfM
     course.offer(call.from, call.entry, message)
 }
 
-/// The end that was handed the request confirms it.
+/// The end that was handed the request confirms it (CC). Nothing is done if no end was.
 #[tactic(auto, unfolding(crate::specs::Steps::confirmed))]
 fn confirm(
     alloc: Global,
@@ -113,7 +116,7 @@ fn confirm(
     }
 }
 
-/// One DT1 for each octet, with M on all but the last.
+/// An end sends one DT1 for each octet, with M on all but the last.
 fn send(
     alloc: Global,
     course: &mut Course,
@@ -135,7 +138,7 @@ fn send(
     Ok(())
 }
 
-/// The octets go to the far end.
+/// Sends the octets to the far end.
 #[tactic(auto, unfolding(crate::specs::Steps::sent_forth))]
 fn send_forth(
     alloc: Global,
@@ -176,7 +179,7 @@ fn send_back(
     )
 }
 
-/// The end that requested the connection releases it.
+/// The end that requested the connection releases it (RLSD).
 #[tactic(auto, unfolding(crate::specs::Steps::released))]
 fn release(
     alloc: Global,
@@ -195,7 +198,7 @@ fn release(
     course.offer(call.from, call.entry, message)
 }
 
-/// What went over the connection.
+/// What went over the connection, from the records of what ends were handed.
 #[tactic(auto, unfolding(crate::specs::Steps::through))]
 fn through(
     alloc: Global,
@@ -215,8 +218,8 @@ fn through(
     })
 }
 
-/// Octets go forth and back, and the connection is released; none where a link still holds a message when all deliveries that
-/// are allowed were made.
+/// Octets go forth and back, and the connection is released. The result is `None` if a link still holds a message after all
+/// deliveries that are allowed.
 #[tactic(auto, unfolding(crate::specs::Steps::carried))]
 fn carry(
     alloc: Global,
@@ -243,7 +246,7 @@ fn carry(
     Ok(Some(through(alloc, course, call, far)?))
 }
 
-/// The same, where both ends know the reference that their relay gave.
+/// Carries octets over the connection, if both ends know the reference that their relay gave. Otherwise nothing is sent.
 #[tactic(auto, unfolding(crate::specs::Steps::carried_on))]
 fn carry_on(
     alloc: Global,
@@ -262,16 +265,6 @@ fn carry_on(
     carry(alloc, course, call, far, own, request)
 }
 
-/// The point of the node at a place.
-fn point_of(plan: &Plan, place: u8) -> PointCode
-    ensures { result ≡ point_of plan.now place }
-{
-    match plan.nodes().as_slice().get(usize::from(place)) {
-        Some(node) => node.pc,
-        None => PointCode::new(0).unwrap(),
-    }
-}
-
 /// The name of the node at a point.
 #[tactic(auto, unfolding(crate::specs::Steps::name_at))]
 fn name_at(plan: &Plan, point: PointCode) -> Option<Name>
@@ -288,14 +281,14 @@ fn names_of(alloc: Global, plan: &Plan, places: &[u8]) -> Result<List<Name>, Out
 {
     let mut names = List::new(alloc);
     for place in places {
-        if let Some(name) = name_at(plan, point_of(plan, *place)) {
+        if let Some(name) = name_at(plan, plan.point_of(*place)) {
             names.push(name)?;
         }
     }
     Ok(names)
 }
 
-/// A connection that isn't open.
+/// The outcome of a connection that is not open.
 fn refused_or(refusal: Option<u8>) -> Outcome
     ensures { result ≡ refused_or refusal }
 {
@@ -305,7 +298,7 @@ fn refused_or(refusal: Option<u8>) -> Outcome
     }
 }
 
-/// A connection whose line stands.
+/// The outcome of a connection that has a line.
 fn opened(
     alloc: Global,
     course: &mut Course,
@@ -320,7 +313,7 @@ fn opened(
     Ok(Outcome::Opened(path, far, through))
 }
 
-/// A connection is open exactly where its line stands.
+/// The outcome of a connection: it is open exactly if it has a line.
 #[tactic(auto, unfolding(crate::specs::Steps::with_line))]
 fn with_line(alloc: Global, course: &mut Course, call: &Call) -> Result<Outcome, OutOfMemory>
     ensures { IfOk result (λ o. o ≡ with_line call.now course.old) }
@@ -335,7 +328,7 @@ fn with_line(alloc: Global, course: &mut Course, call: &Call) -> Result<Outcome,
     }
 }
 
-/// What comes of the request, once no link holds a message.
+/// Confirms the request, and gives the outcome. No link holds a message at the start.
 #[tactic(auto, unfolding(crate::specs::Steps::answer_to))]
 fn answer_to(alloc: Global, course: &mut Course, call: &Call) -> Result<Outcome, OutOfMemory>
     ensures { IfOk result (λ o. o ≡ answer_to call.now course.old) }
@@ -348,6 +341,7 @@ fn answer_to(alloc: Global, course: &mut Course, call: &Call) -> Result<Outcome,
     with_line(alloc, course, call)
 }
 
+/// Makes the connection from its request on.
 #[tactic(auto, unfolding(crate::specs::Steps::outcome))]
 fn run(alloc: Global, course: &mut Course, call: &Call) -> Result<Outcome, OutOfMemory>
     ensures { IfOk result (λ o. o ≡ outcome call.now course.old) }
@@ -359,11 +353,11 @@ fn run(alloc: Global, course: &mut Course, call: &Call) -> Result<Outcome, OutOf
     answer_to(alloc, course, call)
 }
 
-/// Makes a connection in a world in which something may have happened already. Messages are offered and deliveries counted
+/// Makes a connection in a world in which something may have happened already. Messages offered and deliveries are counted
 /// from now on.
 ///
-/// An end requests it (CR), the end that is handed the request confirms it (CC), one octet after the other goes forth and then
-/// back (DT1), and it is released (RLSD). An error is want of memory.
+/// An end requests the connection (CR), and the end that is handed the request confirms it (CC). Octets go forth and then
+/// back, one in each DT1, and the connection is released (RLSD). The only error is lack of memory.
 pub fn connect_in(alloc: Global, world: World, call: &Call) -> Result<Outcome, OutOfMemory>
     ensures { IfOk result (λ o. o ≡ outcome call.now (beginning world)) }
 {
@@ -371,7 +365,7 @@ pub fn connect_in(alloc: Global, world: World, call: &Call) -> Result<Outcome, O
     run(alloc, &mut course, call)
 }
 
-/// Makes a connection over the relays of a plan, where nothing has happened yet and nothing is prohibited.
+/// Makes a connection over the relays of a plan, in a new world without prohibited marks. The only error is lack of memory.
 pub fn connect(alloc: Global, plan: Plan, call: &Call) -> Result<Outcome, OutOfMemory>
     ensures { IfOk result (λ o. o ≡ outcome call.now (beginning (kept plan []))) }
 {

@@ -1,4 +1,4 @@
--- Messages that are sent, on links, and taken back.
+-- Messages that are put on links, and taken back.
 use Rattle.std.specs.Prelude.{ℕ, ◌≡◌, ◌==◌, Bool, true, false, cond, ◌&&◌, List, [], ◌∷◌, ◌++◌, map, Some, None, refl}
 use Rattle.std.specs.List.{cons_option}
 use Rattle.std.proofs.Common.{sym, ◌∙◌, ap, subst, append_assoc}
@@ -9,11 +9,11 @@ use Rattle.chain_world.specs.Links.{with_at}
 use Rattle.chain_world.specs.Answering.{with_octets, octets_to}
 use Rattle.chain_world.proofs.Stored.{same_way, put_back}
 
--- where nothing is sent, the links stay as they were
+-- if nothing is sent, the links stay as they were
 pub sent_none : (from : ℕ) (l : ℕ → ℕ → List (List ℕ)) (a b : ℕ) → with_octets from [] l a b ≡ l a b
 sent_none from l a b = elim (a == from) as (λ c. cond c (l a b ++ []) (l a b) ≡ l a b) [ true ↦ append-nil (l a b) | false ↦ refl ]
 
--- where one message is sent, one link has it behind what it had, and the others stay
+-- if one message is sent, one link has it after what it had, and the others stay
 pub sent_one : (from : ℕ) (x : Sent) (l : ℕ → ℕ → List (List ℕ)) (a b : ℕ) → with_octets from (x ∷ []) l a b ≡ with_at from x.to (l from x.to ++ x.octets ∷ []) l a b
 sent_one from x l a b =
     elim (a == from) as (λ c. (a == from) ≡ c → cond c (l a b ++ octets_to b (x ∷ [])) (l a b) ≡ cond (c && (b == x.to)) (l from x.to ++ x.octets ∷ []) (l a b)) [
@@ -38,7 +38,7 @@ sent_two from x y l a b =
       | false ↦ refl
     ]
 
--- what one link got, where links are the same
+-- what one link got, for links that are the same
 one_put : (from to : ℕ) (os : List ℕ) (old mid new : ℕ → ℕ → List (List ℕ)) → ((a b : ℕ) → mid a b ≡ old a b) → ((a b : ℕ) → new a b ≡ with_at from to (mid from to ++ os ∷ []) mid a b) → (a b : ℕ) → new a b ≡ with_at from to (old from to ++ os ∷ []) old a b
 one_put from to os old mid new same put a b =
     put a b

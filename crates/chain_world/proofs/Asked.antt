@@ -1,4 +1,4 @@
--- What is asked of a running world, by its fields.
+-- The questions about a running world, answered from its fields.
 use Rattle.std.specs.Prelude.{ℕ, ◌≡◌, ◌↔◌, ◌+◌, ◌<◌, ◌≤◌, ◌==◌, ◌⊎◌, Bool, true, false, not, cond, ◌&&◌, ◌||◌, List, [], ◌∷◌, drop, length, map, sum, slice_get, All, Option, Some, None, is_some, refl}
 use Rattle.std.specs.List.{list_any, list_all}
 use Rattle.std.proofs.Common.{zero, suc, sym, ◌∙◌, ap, subst, ⊎_elim, inl, inr, arith, get_or}
@@ -25,7 +25,7 @@ use Rattle.chain_world.proofs.Nodes.{point_by}
 
 -- ---- references that are given once
 
--- references are given once each from a place on where the one at this place isn't given again and those behind it are given once each
+-- references from a place on are given once each, if the first is not given again and those after it are given once each
 pub given_once : (ns : List ℕ) (i : ℕ) (b : Bool) → i < length ns → ((own : ℕ) → slice_get ns i ≡ Some own → b ≡ list_any (λ m. m == own) (drop (i + 1) ns)) → no_repeat (drop i ns) ≡ (not b && no_repeat (drop (i + 1) ns))
 given_once ns i b lt h =
     let own : ℕ = get_or ns i 0 in
@@ -35,7 +35,7 @@ given_once ns i b lt h =
     one_more : (n : ℕ) → suc n ≡ n + 1
     one_more n = omega arith
 
--- no reference stands at or behind a place that is no place of the list
+-- no reference is at or after a place that is no place of the list
 pub nothing_left : (ns : List ℕ) (i : ℕ) → length ns ≤ i → drop i ns ≡ []
 nothing_left [] zero h = refl
 nothing_left [] (suc i) h = refl
@@ -44,7 +44,8 @@ nothing_left (n ∷ ns) (suc i) h = nothing_left ns i (omega arith)
 
 -- ---- over the relays, in the order of the nodes
 
--- a test that each relay passes exactly where its point passes another one: all relays pass the one where all points pass the other
+-- Let each relay pass a test exactly if its point passes another one. Then all relays pass the one exactly if all points pass
+-- the other.
 pub all_by_node : (f : Relaying → Bool) (g : ℕ → Bool) (rs : List Relaying) (nodes : List Node) → length rs ≡ length nodes → ((i : ℕ) (d : Relaying) (e : Node) → i < length rs → f (get_or rs i d) ≡ g (get_or nodes i e).pc) →
     list_all f rs ≡ list_all g (map (λ (node : Node). node.pc) nodes)
 all_by_node f g [] [] same h = refl
@@ -68,7 +69,7 @@ relay_by : (plan : plans.Network) (relays : List Relaying) (links : List Link) (
 relay_by plan relays links history is i d e lt =
     subst (λ (n : ℕ). IsRelay i ((after (network_of plan) history).moments n) (get_or relays i d)) (point_by plan i e (omega (arith, is.count, lt))) (is.each i d lt)
 
--- what relays note of the references that they gave tells whether the world is fresh
+-- what relays note of the references that they gave shows whether the world is fresh
 pub fresh_by : (plan : plans.Network) (relays : List Relaying) (links : List Link) (history : List Happening) → IsWorld plan relays links history → list_all (λ (r : Relaying). no_repeat r.given) relays ≡ is_fresh (network_of plan) (after (network_of plan) history)
 fresh_by plan relays links history is =
     all_by_node (λ (r : Relaying). no_repeat r.given) (λ n. no_repeat (given ((after (network_of plan) history).moments n))) relays plan.nodes is.count
@@ -133,7 +134,7 @@ all_always : (f : Link → Bool) (ls : List Link) → ((l : Link) → f l ≡ tr
 all_always f [] h = refl
 all_always f (l ∷ ls) h = and_from (f l) (list_all f ls) (h l) (all_always f ls h)
 
--- no record of a link is one of a link that holds a message, exactly where no link of the world holds one
+-- no record is one of a link that holds a message, exactly if no link of the world holds one
 pub settled_by : (plan : plans.Network) (relays : List Relaying) (links : List Link) (history : List Happening) → IsWorld plan relays links history → (list_all (λ l. not (holds_on links l)) links ≡ true) ↔ IsSettled (after (network_of plan) history)
 settled_by plan relays links history is = (
   λ h a b. oldest_not plan relays links history a b is (nothing_held links a b h),
@@ -142,7 +143,7 @@ settled_by plan relays links history is = (
 
 -- ---- the least link that holds a message
 
--- what was found is a link that holds a message, and comes before what was best and before each one in the list
+-- what was found is a link that holds a message, and precedes what was best and each one in the list
 record IsBest (links : List Link) (best : Option (ℕ × ℕ)) (ls : List Link) (found : Option (ℕ × ℕ)) : Type 0 where
   holding : (p : ℕ × ℕ) → found ≡ Some p → is_some (slice_get (octets_on links p.0 p.1) (gone_from links p.0 p.1)) ≡ true
   before_best : (q : ℕ × ℕ) → best ≡ Some q → (p : ℕ × ℕ) × (found ≡ Some p) × Precedes p q.0 q.1
@@ -235,7 +236,7 @@ best_cases : (o : Option (ℕ × ℕ)) → (o ≡ None) ⊎ ((p : ℕ × ℕ) ×
 best_cases None = inl refl
 best_cases (Some p) = inr (p, refl)
 
--- the link that comes first among the records is the one that is to deliver next
+-- the first link among the records, in order, is the one that is to deliver next
 pub next_by : (plan : plans.Network) (relays : List Relaying) (links : List Link) (history : List Happening) → IsWorld plan relays links history → (p : ℕ × ℕ) → best_of links None links ≡ Some p → IsNextLink (after (network_of plan) history) p.0 p.1
 next_by plan relays links history is p e =
     let r = best_is links None links (λ q f. absurd (let z : None ≡ Some q = f in cc)) in
@@ -249,7 +250,7 @@ next_by plan relays links history is p e =
           subst (λ (q : ℕ × ℕ). Precedes q a b) same t.2;
     }
 
--- where no record is one of a link that holds a message, no link of the world holds one
+-- if no record is one of a link that holds a message, no link of the world holds one
 pub none_next : (plan : plans.Network) (relays : List Relaying) (links : List Link) (history : List Happening) → IsWorld plan relays links history → best_of links None links ≡ None → IsSettled (after (network_of plan) history)
 none_next plan relays links history is e a b =
     let r = best_is links None links (λ q f. absurd (let z : None ≡ Some q = f in cc)) in
@@ -258,7 +259,7 @@ none_next plan relays links history is e a b =
     (λ (none : is_some (slice_get (octets_on links a b) (gone_from links a b)) ≡ false). oldest_not plan relays links history a b is (is_none_of (slice_get (octets_on links a b) (gone_from links a b)) (ap not none)))
     (cases_Bool (is_some (slice_get (octets_on links a b) (gone_from links a b))))
 
--- where no link of the world holds a message, no record is one of a link that does
+-- if no link of the world holds a message, no record is one of a link that does
 pub settled_none : (plan : plans.Network) (relays : List Relaying) (links : List Link) (history : List Happening) → IsWorld plan relays links history → IsSettled (after (network_of plan) history) → best_of links None links ≡ None
 settled_none plan relays links history is settled =
     ⊎_elim

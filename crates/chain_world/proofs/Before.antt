@@ -1,14 +1,14 @@
--- One link before another, by its first point and then its second.
+-- The order of links, by the first point and then the second.
 use Rattle.std.specs.Prelude.{ℕ, ◌≡◌, ◌<◌, ◌≤◌, ◌==◌, ◌⊎◌, nat_lt, nat_le, Bool, true, false, ◌&&◌, ◌||◌, refl}
 use Rattle.std.proofs.Common.{sym, ◌∙◌, ap, ⊎_elim, inl, inr, arith}
 use Rattle.std.proofs.lemmas.Bool.{and_parts, cases_Bool, cases_eq, eqb-true, eq-eqb, ltb-true, ltb-false, leb-true, leb-false}
 use Rattle.chain_world.specs.Running.{is_before}
 
--- the link `p` comes before the link from `a` to `b`, or is the same
+-- the link `p` precedes the link from `a` to `b`, or is the same
 abbrev pub Precedes : ℕ × ℕ → ℕ → ℕ → Type 0
 Precedes p a b = (p.0 < a) ⊎ ((p.0 ≡ a) × (p.1 ≤ b))
 
--- where the test says so, the one precedes the other
+-- if the test says so, the one precedes the other
 pub precedes_by : (p : ℕ × ℕ) (a b : ℕ) → is_before p.0 p.1 a b ≡ true → Precedes p a b
 precedes_by p a b h =
     elim (nat_lt p.0 a) as (λ c. nat_lt p.0 a ≡ c → (c || ((p.0 == a) && nat_le p.1 b)) ≡ true → Precedes p a b) [
@@ -16,7 +16,7 @@ precedes_by p a b h =
       | false ↦ λ e k. let parts = and_parts (p.0 == a) (nat_le p.1 b) k in inr (eqb-true p.0 a parts.0, leb-true p.1 b parts.1)
     ] refl h
 
--- where the test denies it, the other precedes the one
+-- if the test denies it, the other precedes the one
 pub precedes_not : (p : ℕ × ℕ) (a b : ℕ) → is_before p.0 p.1 a b ≡ false → Precedes (a, b) p.0 p.1
 precedes_not p a b h =
     ⊎_elim
@@ -35,7 +35,7 @@ precedes_not p a b h =
     second : p.0 ≡ a → nat_le p.1 b ≡ false → b ≤ p.1
     second e k = let lt = leb-false p.1 b k in omega (arith, lt)
 
--- a link that precedes a second, which precedes a third, precedes the third
+-- the order is transitive
 pub precedes_then : (p q : ℕ × ℕ) (a b : ℕ) → Precedes p q.0 q.1 → Precedes q a b → Precedes p a b
 precedes_then p q a b (inl h) (inl k) = inl (omega (arith, h, k))
 precedes_then p q a b (inl h) (inr k) = inl (let e = k.0 in omega (arith, h, e))

@@ -77,6 +77,6 @@ few_by l origin way (messages.Rlc dlr slr) = complete_few l slr (known l origin 
 few_by l origin way (messages.Dt1 dlr more payload) = data_few l more payload (known l origin dlr)
 few_by l origin way _ = omega arith
 
--- what a relay sends for one message is two messages at most
+-- what a relay sends for one message is at most two messages
 pub few_sent : (l : List Section) (event : Event) → length (coupled l event).sent ≤ 2
 few_sent l event = few_by l event.origin event.way event.message

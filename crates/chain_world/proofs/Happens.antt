@@ -12,8 +12,9 @@ use Rattle.sccp_layout.specs.declared.parts.JoinFault.{JoinFault}
 use Rattle.sccp_message.specs.declared.message.Message.{Message}
 use Rattle.sccp_message.specs.Reading.{reading}
 use Rattle.sccp_message.specs.Written.{message_octets, Sound}
+use Rattle.sccp_message.specs.Unitdata.{called_of}
 use Rattle.sccp_scrc.specs.Arriving.{point_of}
-use Rattle.sccp_scrc.specs.Unitdata.{called_of, octets_of, write_fault}
+use Rattle.sccp_scrc.specs.Unitdata.{octets_of, write_fault}
 use Rattle.plan_model.specs.Network as plans
 use Rattle.plan_model.specs.Network.{IsPlan, node_of}
 use Rattle.sccp_scrc.proofs.Redirected.{reads_again}
@@ -49,13 +50,13 @@ run_more : (network : Network) (w : World) (history : List Happening) (h : Happe
 run_more network w [] h = refl
 run_more network w (x ∷ history) h = run_more network (happens network w x) history h
 
--- the world that a longer history leaves is what its last happening makes of the world before
+-- the world after a longer history is what its last happening makes of the world before
 pub after_more : (network : Network) (history : List Happening) (h : Happening) → after network (history ++ h ∷ []) ≡ happens network (after network history) h
 after_more network history h = run_more network start history h
 
 -- ---- what every coupling of a world keeps
 
--- what holds of each ledger that a run of a coupling leaves
+-- what holds of each ledger after a run of a coupling
 pub record IsRegular (m : Moment) : Type 0 where
   pub kept : IsKept m
   pub fair : All (IsFair m.sections) m.pairs
@@ -107,7 +108,7 @@ delivers_none plan relays links history from to is none =
 
 -- ---- fields that are the same, point by point
 
--- records of links that tell the same, point by point, fit the same world
+-- records of links that are the same, point by point, fit the same world
 pub same_links : (plan : plans.Network) (relays : List Relaying) (links more : List Link) (history : List Happening) → IsWorld plan relays links history → ((a b : ℕ) → octets_on more a b ≡ octets_on links a b) → ((a b : ℕ) → gone_from more a b ≡ gone_from links a b) →
     IsWorld plan relays more history
 same_links plan relays links more history is octets gone =
@@ -127,7 +128,7 @@ all_append : {A : Type 0} (P : A → Type 0) (xs ys : List A) → AllByRecursion
 all_append P [] ys h k = k
 all_append P (x ∷ xs) ys h k = (h.0, all_append P xs ys h.1 k)
 
--- a fact on what stands on each link, where a message is put on one
+-- a fact on what each link holds, after a message is put on one
 put_cases : (P : List Message → Type 0) (w : World) (from to : ℕ) (message : Message) (a b : ℕ) → P (put_on w a b) → P (put_on w from to ++ message ∷ []) → P (put_on (put w from to message) a b)
 put_cases P w from to message a b same more =
     elim ((a == from) && (b == to)) as (λ c. ((a == from) && (b == to)) ≡ c → P (put_on (put w from to message) a b)) [
@@ -155,7 +156,7 @@ or_swap false true false = refl
 or_swap false false true = refl
 or_swap false false false = refl
 
--- what stands on some of the links of a point, where one of them gets a message more
+-- what some links of a point hold, after one of them gets a message more
 any_else : (f g : ℕ → Bool) (nodes : List ℕ) → ((n : ℕ) → g n ≡ f n) → list_any g nodes ≡ list_any f nodes
 any_else f g [] h = refl
 any_else f g (n ∷ nodes) h = ap (λ (b : Bool). b || list_any g nodes) (h n) ∙ ap (λ (b : Bool). f n || b) (any_else f g nodes h)
@@ -217,7 +218,7 @@ used_put network w from to message f own there =
     and_true true = refl
     and_true false = refl
 
--- an accepted offer that went on its link leaves what the longer history says
+-- after an accepted offer was put on its link, all is as the longer history says
 pub accepted : (plan : plans.Network) (relays : List Relaying) (links more : List Link) (history : List Happening) (from to : ℕ) (message : Message) → IsWorld plan relays links history →
     offer_fault (network_of plan) (after (network_of plan) history) from to message ≡ None → IsFit message →
     ((a b : ℕ) → octets_on more a b ≡ with_at from to (octets_on links from to ++ message_octets message ∷ []) (octets_on links) a b) → ((a b : ℕ) → gone_from more a b ≡ gone_from links a b) →
@@ -268,7 +269,7 @@ one_gone links more w from to message rest is gone a b =
 no_offer : (f own from to : ℕ) (history : List Happening) → list_any (offers_of f own) history ≡ list_any (offers_of f own) (history ++ Delivers from to ∷ [])
 no_offer f own from to history = sym (list_any-append (offers_of f own) history (Delivers from to ∷ []) ∙ or_false (list_any (offers_of f own) history))
 
--- a message that comes out at an end leaves what the longer history says
+-- after a message was handed to an end, all is as the longer history says
 pub comes_out : (plan : plans.Network) (relays : List Relaying) (links more : List Link) (history : List Happening) (from to : ℕ) (message : Message) (rest : List Message) → IsWorld plan relays links history →
     (after (network_of plan) history).waiting from to ≡ message ∷ rest → is_node (network_of plan) to ≡ false → ((a b : ℕ) → octets_on more a b ≡ octets_on links a b) →
     ((a b : ℕ) → gone_from more a b ≡ with_at from to (gone_from links from to + 1) (gone_from links) a b) → IsWorld plan relays more (history ++ Delivers from to ∷ [])
@@ -322,7 +323,7 @@ is_relay_then node m r event fair is =
     let n = noted_happens m r event fair (record { sections = is.sections_are; passed = is.passed_is; given_is = is.given_are }) in
     record { node_is = is.node_is; sections_are = n.sections; passed_is = n.passed; given_are = n.given_is }
 
--- a relay that took the message, whose answers went on their links, leaves what the longer history says
+-- after a relay took the message, and its answers were put on their links, all is as the longer history says
 pub handles : (plan : plans.Network) (relays : List Relaying) (links more : List Link) (history : List Happening) (from to place : ℕ) (message : Message) (rest : List Message) (r after_r : Relaying) → IsWorld plan relays links history →
     (after (network_of plan) history).waiting from to ≡ message ∷ rest → is_node (network_of plan) to ≡ true → At plan to place → r ≡ get_or relays place r → after_r ≡ relay_after r (event_of plan r.node [] from message) →
     ((a b : ℕ) → octets_on more a b ≡ with_octets to (map written_sent (coupled r.sections (event_of plan r.node [] from message)).sent) (octets_on links) a b) →
@@ -404,7 +405,7 @@ at_front (x ∷ arrived) waiting = slice_get_next (message_octets x) (map messag
     slice_get_next : (x : List ℕ) (xs : List (List ℕ)) (i : ℕ) → slice_get (x ∷ xs) (suc i) ≡ slice_get xs i
     slice_get_next x xs i = refl
 
--- a message stands on a link, and these are its octets
+-- a link holds a message, and these are its octets
 pub record IsOldest (waiting : List Message) (octets : List ℕ) : Type 0 where
   pub message : Message
   pub rest : List Message
@@ -426,7 +427,7 @@ behind : {A : Type 0} (P : A → Type 0) (xs ys : List A) → AllByRecursion P (
 behind P [] ys h = h
 behind P (x ∷ xs) ys h = behind P xs ys h.1
 
--- the octets behind those that a link has delivered are those of the first message that waits on it
+-- the octets after those that a link has delivered are those of the first message that waits on it
 pub front_is : (plan : plans.Network) (relays : List Relaying) (links : List Link) (history : List Happening) (from to : ℕ) → IsWorld plan relays links history →
     slice_get (octets_on links from to) (gone_from links from to) ≡ slice_get (map message_octets ((after (network_of plan) history).waiting from to)) 0
 front_is plan relays links history from to is =
@@ -435,14 +436,14 @@ front_is plan relays links history from to is =
     ∙ ap (λ (n : ℕ). slice_get (map message_octets (put_on w from to)) n) (is.gone from to)
     ∙ at_front (w.arrived from to) (w.waiting from to)
 
--- where a link has such octets, they read as the message that it delivers next, which can be handled
+-- if a link has such octets, they read as the message that it delivers next, which can be handled
 pub oldest_there : (plan : plans.Network) (relays : List Relaying) (links : List Link) (history : List Happening) (from to : ℕ) (octets : List ℕ) → IsWorld plan relays links history →
     slice_get (octets_on links from to) (gone_from links from to) ≡ Some octets → IsOldest ((after (network_of plan) history).waiting from to) octets
 oldest_there plan relays links history from to octets is h =
     let w : World = after (network_of plan) history in
     oldest_by (w.waiting from to) octets (behind IsFit (w.arrived from to) (w.waiting from to) (is.fit from to)) (sym (front_is plan relays links history from to is) ∙ h)
 
--- where it has none, no message waits on it
+-- if it has none, no message waits on it
 pub oldest_not : (plan : plans.Network) (relays : List Relaying) (links : List Link) (history : List Happening) (from to : ℕ) → IsWorld plan relays links history →
     slice_get (octets_on links from to) (gone_from links from to) ≡ None → (after (network_of plan) history).waiting from to ≡ []
 oldest_not plan relays links history from to is h = nothing_by ((after (network_of plan) history).waiting from to) (sym (front_is plan relays links history from to is) ∙ h)
@@ -462,7 +463,7 @@ more_there plan relays links history from to message rest is h =
     longer [] m rest = omega arith
     longer (x ∷ ms) m rest = let e = longer ms m rest in omega (arith, e)
 
--- where there is an oldest message, the list begins with it
+-- if there is an oldest message, the list begins with it
 pub holds_message : (ms : List Message) (m : Message) → oldest_of ms ≡ Some m → (rest : List Message) × (ms ≡ m ∷ rest)
 holds_message [] m h = absurd (let z : None ≡ Some m = h in cc)
 holds_message (x ∷ rest) m h = let e : x ≡ m = cc in (rest, ap (λ (y : Message). y ∷ rest) e)
@@ -491,9 +492,9 @@ begins plan relays links history is relays_are links_are history_is =
     none_used [] = refl
     none_used (n ∷ nodes) = none_used nodes
 
--- ---- a link that has delivered one message more than before the relay sent its own
+-- ---- a link that has delivered one more message than before the relay sent its own
 
--- where only the last of two steps has a link deliver, both together do
+-- if only the last of two steps has a link deliver, both together do
 pub gone_over : (from to : ℕ) (old mid new : ℕ → ℕ → ℕ) → ((a b : ℕ) → mid a b ≡ old a b) → ((a b : ℕ) → new a b ≡ with_at from to (mid from to + 1) mid a b) → (a b : ℕ) → new a b ≡ with_at from to (old from to + 1) old a b
 gone_over from to old mid new same more a b =
     more a b
@@ -518,7 +519,7 @@ early_stays network w from to message f last = go (is_node network from) (not (i
     go false false false true e h = h
     go false false false false e h = absurd (let z : None ≡ Some f = h in cc)
 
--- an offer that passes all tests before the last one fails exactly where it fails that one
+-- an offer that passes all tests before the last one fails exactly if it fails that one
 pub then_last : (network : Network) (w : World) (from to : ℕ) (message : Message) (last : Bool) → early_fault network w from to message ≡ None →
     fault_by (is_node network from) (not (is_node network to)) (is_some (called_of message)) (uses_again network w from (name_of message)) last ≡ cond last (Some NotWritable) None
 then_last network w from to message last = go (is_node network from) (not (is_node network to)) (is_some (called_of message)) (uses_again network w from (name_of message)) last
@@ -548,7 +549,7 @@ none_left network w from to message octets early sound written =
     (λ (not_it : (is_none (write_fault message) ≡ false) × (octets_of message ≡ None)). absurd (let e : None ≡ Some octets = sym not_it.1 ∙ written in cc))
     (octets_cases (write_fault message) (message_octets message))
 
--- one that passes all tests before the last one, and can't be written, fails the last one
+-- one that passes all tests before the last one, and cannot be written, fails the last one
 pub not_written : (network : Network) (w : World) (from to : ℕ) (message : Message) → early_fault network w from to message ≡ None → octets_of message ≡ None → offer_fault network w from to message ≡ Some NotWritable
 not_written network w from to message early none =
     ⊎_elim

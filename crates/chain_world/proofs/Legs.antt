@@ -1,4 +1,4 @@
--- A leg as a running relay finds it: by its sections alone.
+-- A leg as a running relay finds it: only by its sections.
 use Rattle.std.specs.Prelude.{ℕ, ◌≡◌, ◌==◌, Bool, true, false, cond, ◌&&◌, ◌||◌, List, [], ◌∷◌, filter, find, Option, Some, None, All, refl}
 use Rattle.std.proofs.Common.{sym, ◌∙◌, ap, subst, ⊎_elim}
 use Rattle.std.proofs.lemmas.Bool.{eq-eqb, eqb-true, and_parts, and_from}
@@ -13,7 +13,7 @@ use Rattle.sccp_couple.proofs.Ledger.{IsKept, has}
 use Rattle.couple_chain.specs.Line.{is_from, starts_at}
 use Rattle.couple_chain.proofs.Counts.{Each-All, Each-find}
 
--- a section that is found stands under its own reference
+-- a section that is found is the one under its own reference
 pub own_found : (p : Section → Bool) (l : List Section) → OwnDiffer l → (s : Section) → find p l ≡ Some s → (section_at l s.own ≡ Some s) × (p s ≡ true)
 own_found p [] d s h = absurd (cc)
 own_found p (x ∷ xs) d s h =
@@ -63,7 +63,7 @@ from_section : (o : Option Section) (l : List Section) (point remote : ℕ) → 
 from_section None l point remote h = absurd (cc)
 from_section (Some s) l point remote h = (s, refl, h)
 
--- a near section with an other is the near one of the standing pair that is looked for
+-- a near section with an other is the near one of the pair that is looked up
 pub leg_is : (m : Moment) → IsKept m → (point remote o : ℕ) (s : Section) → find (is_near_of point remote) m.sections ≡ Some s → s.other ≡ Some o →
     (p : Pair) × (find (starts_at m point remote) m.pairs ≡ Some p) × (p.stands ≡ true) × (p.near ≡ s.own) × (p.far ≡ o)
 leg_is m kept point remote o s found joined =
@@ -84,7 +84,7 @@ leg_is m kept point remote o s found joined =
         let same : s.own ≡ p.near = kept.coupling.near_differ s.own p.near s t.0 at t.1 parts.0 it.0 (parts.1 ∙ sym it.1) (parts.2 ∙ sym it.2) in
         and_from p.stands ((s.own == p.near) || (s.own == p.far)) both.0 (ap (λ (b : Bool). b || (s.own == p.far)) (eq-eqb s.own p.near same))
 
--- where there is none, or it is being released, there is no leg
+-- if there is none, or it is being released, there is no leg
 pub no_leg : (m : Moment) → IsKept m → All (IsFair m.sections) m.pairs → (point remote : ℕ) → ((s : Section) (o : ℕ) → find (is_near_of point remote) m.sections ≡ Some s → s.other ≡ Some o → ⊥) → find (starts_at m point remote) m.pairs ≡ None
 no_leg m kept fair point remote none =
     ⊎_elim

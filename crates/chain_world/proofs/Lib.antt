@@ -1,3 +1,4 @@
+-- The lemmas of this crate, by subject.
 pub mod Values
 pub mod Stored
 pub mod Few

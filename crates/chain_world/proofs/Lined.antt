@@ -185,7 +185,7 @@ line_is plan relays links history is point reference =
 
 -- ---- by what was found on the way
 
--- from a relay's point no line begins
+-- no line begins at a relay's point
 pub at_node : (plan : plans.Network) (relays : List Relaying) (links : List Link) (history : List Happening) → IsWorld plan relays links history → (point reference : ℕ) → is_node (network_of plan) point ≡ true →
     None ≡ line (network_of plan) (after (network_of plan) history) point reference
 at_node plan relays links history is point reference e =

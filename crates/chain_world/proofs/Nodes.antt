@@ -12,7 +12,7 @@ use Rattle.sccp_scrc.specs.Arriving.{point_of}
 use Rattle.couple_chain.specs.World.{is_node}
 use Rattle.chain_world.specs.Kept.{network_of}
 
--- some element passes where there is a first one
+-- some element passes exactly if there is a first one that does
 any_first : {A : Type 0} (p : A → Bool) (xs : List A) → list_any p xs ≡ nat_lt (position_or_len p xs) (length xs)
 any_first p [] = refl
 any_first {A} p (x ∷ xs) =
@@ -64,7 +64,7 @@ within_by : (nodes : List Node) (pc i : ℕ) → position (has_point pc) nodes �
 within_by [] pc i h = absurd (cc)
 within_by (n ∷ nodes) pc i h = (position-Some (has_point pc) (n ∷ nodes) i n h).0
 
--- a relay that is found under a point stands at a place of the plan, and has that point
+-- a relay that is found under a point is at a place of the plan, and has that point
 pub at_place : (plan : Network) (pc place : ℕ) → position (has_point pc) plan.nodes ≡ Some place → At plan pc place
 at_place plan pc place h =
     let lt = within_by plan.nodes pc place h in
@@ -82,7 +82,7 @@ node_there plan pc place h = sym (node_by_place plan pc) ∙ ap is_some h
 pub node_not_there : (plan : Network) (pc : ℕ) → position (has_point pc) plan.nodes ≡ None → is_node (network_of plan) pc ≡ false
 node_not_there plan pc h = sym (node_by_place plan pc) ∙ ap is_some h
 
--- no two nodes have one point
+-- no two nodes have the same point
 pub points_differ : (plan : Network) → IsPlan plan → (i j : ℕ) → i < length plan.nodes → j < length plan.nodes → (i ≡ j → ⊥) → point_of plan i ≡ point_of plan j → ⊥
 points_differ plan is i j li lj differ same =
     with_node plan.nodes i li ⊥

@@ -1,4 +1,4 @@
--- An offered message is the one that its octets say.
+-- An offered message is the one that its octets read as.
 use Rattle.std.specs.Prelude.{ℕ, ◌≡◌, ◌⊎◌, Bool, false, not, ◌&&◌, if◌then◌else◌, List, [], Option, Some, None, is_some, is_none, unwrap_or, option_and_then, Result, Ok, Err, refl}
 use Rattle.std.specs.List.{range_with_len}
 use Rattle.std.specs.Option.{option_map_or, ok_or}
@@ -20,9 +20,10 @@ use Rattle.sccp_message.specs.Fields.{first_unread}
 use Rattle.sccp_message.specs.Messages.{message_of}
 use Rattle.sccp_message.specs.Reading.{as_split, part_of, address_in, unread, fields_in, message_if, message_in, reading}
 use Rattle.sccp_message.specs.Written.{content, message_octets, parts_from, Sound, IsMessage}
+use Rattle.sccp_message.specs.Unitdata.{called_of}
 use Rattle.sccp_message.proofs.Octets.{octets_at}
 use Rattle.sccp_message.proofs.Writing.{typed, fits_of}
-use Rattle.sccp_scrc.specs.Unitdata.{called_of, write_fault}
+use Rattle.sccp_scrc.specs.Unitdata.{write_fault}
 use Rattle.sccp_scrc.proofs.Redirected.{reads_again, octets_written}
 use Rattle.couple_chain.specs.World as chains
 use Rattle.couple_chain.specs.World.{Network, World, is_node, name_of, uses_again, fault_by, is_writable, offer_fault}
@@ -32,7 +33,7 @@ none_unread : (o : Option ℕ) (params ps : List Parameter) → unread o params 
 none_unread None params ps e = refl
 none_unread (Some name) params ps e = absurd cc
 
--- what is read of the octets of a message says that its known parameters read
+-- if the octets of a message read, its known parameters read
 sound_by : (m n : Message) → IsMessage m → reading (message_octets m) ≡ Ok n → Sound m
 unfolding message_in
 sound_by m n h e =
@@ -61,7 +62,7 @@ result_is : (r : Result Message DecodeFault) (n : Message) → if_read r ≡ Som
 result_is (Ok m) n e = let f : m ≡ n = cc in ap (λ (x : Message). Ok x) f
 result_is (Err f) n e = absurd (let z : None ≡ Some n = e in cc)
 
--- of one that can be written, what is read of its octets
+-- a message that can be written reads again as its octets do
 read_written : (m : Message) → write_fault m ≡ None → read_again m ≡ if_read (reading (message_octets m))
 read_written m none = ap (option_and_then (λ octets. if_read (reading octets))) (octets_written m none)
 
@@ -90,7 +91,7 @@ not_writable m h e =
     (λ (some : (f : JoinFault) × (write_fault m ≡ Some f)). ap (λ (o : Option JoinFault). is_none o && is_none (chains.unread m)) some.1)
     (fault_cases (write_fault m))
 
--- a message whose fields are such as reading gives them is read again as itself
+-- a message whose fields have values that reading can give reads again as itself
 pub same_message : (m : Message) → IsMessage m → as_read m ≡ m
 same_message m h =
     ⊎_elim

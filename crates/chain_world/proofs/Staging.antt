@@ -33,7 +33,7 @@ pub record IsStage (plan : plans.Network) (w : World) (l : Leg) (s : Stage) : Ty
   pub pair_far : l.pair.far ≡ l.far.own
   pub found : (q : Pair → Bool) × (find q (w.moments l.node).pairs ≡ Some l.pair)
 
--- a pair is found exactly where the definition has a leg, and it is that leg's
+-- a pair is found exactly if the definition has a leg, and it is that leg's
 abbrev pub Same : plans.Network → World → Option Leg → Option Stage → Type 0
 Same plan w None None = Unit {0}
 Same plan w (Some l) (Some s) = IsStage plan w l s
@@ -74,7 +74,7 @@ found_both plan w place within regular point remote o s t found other at =
       found = (starts_at m point remote, p.1);
     })
 
--- at each relay a pair is found exactly where the definition has one, and it is that one
+-- at each relay a pair is found exactly if the definition has one, and it is that one
 pub stage_is_leg : (plan : plans.Network) (w : World) (place : ℕ) → place < length plan.nodes → IsRegular (w.moments (point_of plan place)) → (point remote : ℕ) →
     Same plan w (leg_from w point remote (point_of plan place)) (stage_of (w.moments (point_of plan place)).sections place point remote)
 stage_is_leg plan w place within regular point remote =
@@ -112,7 +112,7 @@ or_same plan w (Some l) p (Some s) y h k = h
 or_same plan w None p (Some s) y h k = absurd h
 or_same plan w (Some l) p None y h k = absurd h
 
--- over all relays a first pair is found exactly where the definition has one, and it is that one
+-- over all relays a first pair is found exactly if the definition has one, and it is that one
 pub first_same : (plan : plans.Network) (w : World) → ((n : ℕ) → IsRegular (w.moments n)) → (rs : List Relaying) (nodes : List Node) (k : ℕ) → length rs ≡ length nodes → k + length rs ≡ length plan.nodes →
     ((i : ℕ) (e : Node) → i < length nodes → point_of plan (k + i) ≡ (get_or nodes i e).pc) → ((i : ℕ) (d : Relaying) → i < length rs → (get_or rs i d).sections ≡ (w.moments (point_of plan (k + i))).sections) → (point remote : ℕ) →
     Same plan w (first_leg w point remote (map (λ (node : Node). node.pc) nodes)) (first_in k rs point remote)
@@ -135,7 +135,7 @@ first_same plan w regular (r ∷ rs) (n ∷ nodes) k same whole points sections 
     further : (k i : ℕ) → (k + 1) + i ≡ k + suc i
     further k i = omega arith
 
--- ---- those behind it
+-- ---- those after it
 
 -- the pairs that were found are those of the legs, one by one
 abbrev pub AllSame : plans.Network → World → List Leg → List Stage → Type 0
@@ -144,7 +144,7 @@ AllSame plan w (l ∷ ls) (s ∷ ss) = IsStage plan w l s × AllSame plan w ls s
 AllSame plan w [] (s ∷ ss) = ⊥
 AllSame plan w (l ∷ ls) [] = ⊥
 
--- pairs were found exactly where the definition has legs, and they are those
+-- pairs were found exactly if the definition has legs, and they are those
 abbrev pub SameLists : plans.Network → World → Option (List Leg) → Option (List Stage) → Type 0
 SameLists plan w None None = Unit {0}
 SameLists plan w (Some ls) (Some ss) = AllSame plan w ls ss

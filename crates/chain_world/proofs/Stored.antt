@@ -11,7 +11,7 @@ use Rattle.chain_world.specs.Links.{is_link, of_link, with_at, octets_on, gone_f
 pub same_way : (m n : ℕ) → (m == n) ≡ (n == m)
 same_way m n = grind arith
 
--- the link is that of two points where these are its points
+-- the link is that of two points if these are its points
 is_it : (from to : ℕ) (l : Link) → is_link from to l ≡ true → (a b : ℕ) → is_link a b l ≡ ((a == from) && (b == to))
 is_it from to l h a b =
     let parts = and_parts (l.from == from) (l.to == to) h in
@@ -25,7 +25,7 @@ there from to a b l h =
     let parts = and_parts (a == from) (b == to) h in
     ap (λ (n : ℕ). is_link n b l) (eqb-true a from parts.0) ∙ ap (λ (n : ℕ). is_link from n l) (eqb-true b to parts.1)
 
--- what stands at two points, where these are others
+-- the value at two points, if these are the same as two others
 pub at_points : {A : Type 0} (g : ℕ → ℕ → A) (from to a b : ℕ) → ((a == from) && (b == to)) ≡ true → g from to ≡ g a b
 at_points g from to a b e =
     let parts = and_parts (a == from) (b == to) e in
@@ -58,7 +58,7 @@ set_at f none (y ∷ ys) (suc i) d l from to x lt here before it is a b =
       | false ↦ λ e. refl
     ] refl
 
--- a record in the place of the one between two points gives this link its own value, and leaves the others theirs
+-- if a record replaces that of a link, this link has its own value, and the others keep theirs
 pub set_link : {A : Type 0} (f : Link → A) (none : A) (links : List Link) (i : ℕ) (l : Link) (from to : ℕ) (x : A) → position (is_link from to) links ≡ Some i → is_link from to l ≡ true → f l ≡ x →
     (a b : ℕ) → of_link f none (set links i l) a b ≡ with_at from to x (of_link f none links) a b
 set_link f none links i l from to x at it is a b =
@@ -72,13 +72,13 @@ found_at f none (y ∷ ys) zero d from to lt here before = ap (λ (c : Bool). co
 found_at f none (y ∷ ys) (suc i) d from to lt here before =
     ap (λ (c : Bool). cond c (f y) (of_link f none ys from to)) (before 0 (omega arith)) ∙ found_at f none ys i d from to (omega arith) here (λ k j. before (suc k) (omega arith))
 
--- what the link has that was found
+-- the value of the link that was found
 pub found_link : {A : Type 0} (f : Link → A) (none : A) (links : List Link) (i : ℕ) (d : Link) (from to : ℕ) → position (is_link from to) links ≡ Some i → of_link f none links from to ≡ f (get_or links i d)
 found_link f none links i d from to at =
     let p = position-Some (is_link from to) links i d at in
     found_at f none links i d from to p.0 p.1 p.2
 
--- it is the one between these points, and so is one with the same points in its place
+-- the record is that of these points, and so is one with the same points in its place
 pub is_found : (links : List Link) (i : ℕ) (d l : Link) (from to : ℕ) → position (is_link from to) links ≡ Some i → l.from ≡ (get_or links i d).from → l.to ≡ (get_or links i d).to → is_link from to l ≡ true
 is_found links i d l from to at e f =
     ap (λ (n : ℕ). (n == from) && (l.to == to)) e ∙ ap (λ (n : ℕ). ((get_or links i d).from == from) && (n == to)) f ∙ (position-Some (is_link from to) links i d at).1
@@ -112,11 +112,11 @@ none_found : {A : Type 0} (f : Link → A) (none : A) (links : List Link) (from 
 none_found f none [] from to h = refl
 none_found f none (x ∷ xs) from to h = ap (λ (c : Bool). cond c (f x) (of_link f none xs from to)) (h 0 x (omega arith)) ∙ none_found f none xs from to (λ k d j. h (suc k) d (omega arith))
 
--- where there is no record of a link, the link has what one has that never held a message
+-- without a record, a link has the value of one that never held a message
 pub nothing_found : {A : Type 0} (f : Link → A) (none : A) (links : List Link) (from to : ℕ) → position (is_link from to) links ≡ None → of_link f none links from to ≡ none
 nothing_found f none links from to h = none_found f none links from to (none_is links from to h)
 
--- where no link is that of these points, one is put behind
+-- if no link is that of these points, a record is added at the end
 behind : {A : Type 0} (f : Link → A) (none : A) (links : List Link) (l : Link) (from to : ℕ) (x : A) → ((k : ℕ) (d : Link) → k < length links → is_link from to (get_or links k d) ≡ false) → is_link from to l ≡ true → f l ≡ x →
     (a b : ℕ) → of_link f none (links ++ l ∷ []) a b ≡ with_at from to x (of_link f none links) a b
 behind f none [] l from to x before it is a b = ap (λ (c : Bool). cond c (f l) none) (is_it from to l it a b) ∙ ap (λ m. cond ((a == from) && (b == to)) m none) is
@@ -130,7 +130,7 @@ behind f none (y ∷ ys) l from to x before it is a b =
 its_points : (from to : ℕ) (l : Link) → l.from ≡ from → l.to ≡ to → is_link from to l ≡ true
 its_points from to l e f = and_from (l.from == from) (l.to == to) (eq-eqb l.from from e) (eq-eqb l.to to f)
 
--- a record that is put behind the others, of a link that had none, has one message on it
+-- a record that is added at the end, for a link that had none, has one message on it
 pub begun_octets : (links : List Link) (l : Link) (from to : ℕ) (message : List ℕ) → position (is_link from to) links ≡ None → l.from ≡ from → l.to ≡ to → l.octets.items ≡ message ∷ [] →
     (a b : ℕ) → octets_on (links ++ l ∷ []) a b ≡ with_at from to (octets_on links from to ++ message ∷ []) (octets_on links) a b
 begun_octets links l from to message none e f is =
@@ -149,7 +149,7 @@ pub unset : {A : Type 0} (f : Link → A) (none : A) (links : List Link) (i : �
 unset f none links i l from to at it is a b =
     set_link f none links i l from to (of_link f none links from to) at it is a b ∙ with_same (of_link f none links) from to (of_link f none links from to) refl a b
 
--- a list with a last message isn't empty
+-- a list with a last message is not empty
 pub no_message : {A : Type 0} (ms : List A) (m : A) → [] ≡ ms ++ m ∷ [] → ⊥
 no_message [] m h = cc
 no_message (x ∷ xs) m h = cc

@@ -6,7 +6,7 @@ use Rattle.chain_world.specs.declared.answering.Answers.TheVariants as answers
 use Rattle.chain_world.specs.declared.answering.Placed.{Placed}
 use Rattle.chain_world.specs.declared.answering.Placed.TheVariants as placed
 
--- the octets of one message, where it goes to this point
+-- the octets of one message, if it goes to this point
 abbrev pub octets_if : ℕ → Sent → Option (List ℕ)
 octets_if point sent = if sent.to == point then Some sent.octets else None
 
@@ -14,11 +14,11 @@ octets_if point sent = if sent.to == point then Some sent.octets else None
 abbrev pub octets_to : ℕ → List Sent → List (List ℕ)
 octets_to point sent = filter_map (octets_if point) sent
 
--- what was put on each link so far, and behind it, on the links of the sender, what it sends there
+-- what was put on each link so far, followed on the links of the sender by what it sends there
 abbrev pub with_octets : ℕ → List Sent → (ℕ → ℕ → List (List ℕ)) → ℕ → ℕ → List (List ℕ)
 with_octets from sent links = λ a b. if a == from then links a b ++ octets_to b sent else links a b
 
--- what a relay sends as a list, the first one first
+-- what a relay sends as a list, in the order of sending
 abbrev pub in_order : Answers → List Sent
 in_order answers.Nothing = []
 in_order (answers.One only) = only ∷ []

@@ -11,17 +11,17 @@ pub record Kept : Type 0 where
   pub plan : plans.Network
   pub history : List Happening
 
--- the same, made of the two
+-- a running world, made of these two
 abbrev pub kept : plans.Network → List Happening → Kept
 kept plan history = record { plan = plan; history = history }
 
--- the points of the plan's nodes, and what the plan says of a connection request at one of them where nothing is prohibited
+-- the points of the plan's nodes, and what the plan says of a connection request at one of them while nothing is prohibited
 abbrev pub network_of : plans.Network → Network
 network_of plan = record {
   nodes = map (λ node. node.pc) plan.nodes;
   way = λ point origin message. way_of plan (node_of plan.nodes point) [] message;
 }
 
--- the world that the history leaves
+-- the world after the history
 abbrev pub world_of : Kept → World
 world_of k = after (network_of k.plan) k.history

@@ -1,3 +1,4 @@
+-- The definitions of a running world: what it keeps, and what its calls answer.
 pub mod Kept
 pub mod Links
 pub mod Answering

@@ -6,7 +6,7 @@ use Rattle.chain_world.specs.declared.link.Link.{Link}
 abbrev pub is_link : ℕ → ℕ → Link → Bool
 is_link from to l = (l.from == from) && (l.to == to)
 
--- a value of the record of the link between two points, or another one where there is no record, since the link never held a message
+-- a value of the record of the link between two points; without a record, since the link never held a message, another value
 abbrev pub of_link : {A : Type 0} → (Link → A) → A → List Link → ℕ → ℕ → A
 of_link f none [] from to = none
 of_link f none (l ∷ links) from to = if is_link from to l then f l else of_link f none links from to

@@ -1,4 +1,4 @@
--- What the fields of a running world keep: they are those of the world that its history leaves.
+-- What the fields of a running world keep: they are those of the world after its history.
 use Rattle.std.specs.Prelude.{◌≡◌, ℕ, ◌<◌, nat_lt, nat_le, ◌==◌, ◌&&◌, ◌||◌, if◌then◌else◌, Bool, false, List, [], ◌∷◌, map, length, sum, get_or, slice_get, Option, Some, None, is_some}
 use Rattle.std.specs.List.{list_any, AllByRecursion}
 use Rattle.sccp_message.specs.declared.message.Message.{Message}
@@ -23,25 +23,25 @@ abbrev pub oldest_of : List Message → Option Message
 oldest_of [] = None
 oldest_of (message ∷ rest) = Some message
 
--- the link between the points of this record holds a message that it hasn't delivered
+-- the link between the points of this record holds a message that it has not delivered
 abbrev pub holds_on : List Link → Link → Bool
 holds_on links l = is_some (slice_get (octets_on links l.from l.to) (gone_from links l.from l.to))
 
--- the link `from` to `to` comes before the link `a` to `b`, by its first point and then its second, or is the same
+-- the link `from` to `to` precedes the link `a` to `b`, by its first point and then its second, or is the same
 abbrev pub is_before : ℕ → ℕ → ℕ → ℕ → Bool
 is_before from to a b = nat_lt from a || ((from == a) && nat_le to b)
 
--- the best link so far, where there is one and it comes before the link `a` to `b`, and else that link
+-- the best link so far, if there is one and it precedes the link `a` to `b`; otherwise that link
 abbrev pub lesser : Option (ℕ × ℕ) → ℕ → ℕ → ℕ × ℕ
 lesser None a b = (a, b)
 lesser (Some p) a b = if is_before p.0 p.1 a b then p else (a, b)
 
--- the link that comes first of the best one so far and of those in the list that hold a message
+-- the first in order of the best link so far and of those in the list that hold a message
 abbrev pub best_of : List Link → Option (ℕ × ℕ) → List Link → Option (ℕ × ℕ)
 best_of links best [] = best
 best_of links best (l ∷ rest) = best_of links (if holds_on links l then Some (lesser best l.from l.to) else best) rest
 
--- how many sections the relays have, all together
+-- the number of sections of all relays together
 abbrev pub sections_of : Network → World → ℕ
 sections_of network w = sum (map (λ node. length (w.moments node).sections) network.nodes)
 
@@ -65,6 +65,6 @@ pub record Keeps (plan : plans.Network) (relays : List Relaying) (links : List L
   -- the references that an end used are those of its offers
   pub used : (from own : ℕ) → is_node (network_of plan) from ≡ false → is_used (network_of plan) w from own ≡ list_any (offers_of from own) history
 
--- they keep what the history leaves
+-- they keep what the history leads to
 abbrev pub IsWorld : plans.Network → List Relaying → List Link → List Happening → Type 0
 IsWorld plan relays links history = Keeps plan relays links history (after (network_of plan) history)

@@ -1,4 +1,4 @@
--- A line as running relays find it: by their sections, their notes, and the octets on their links.
+-- A line as running relays find it: by their sections, their records of data, and the octets on their links.
 use Rattle.std.specs.Prelude.{ℕ, zero, suc, ◌+◌, Bool, ◌&&◌, if◌then◌else◌, List, [], ◌∷◌, find, filter_map, map, position, slice_get, take, Option, Some, None, is_some, option_map, option_and_then}
 use Rattle.std.specs.Option.{option_map_or}
 use Rattle.sccp_message.specs.Reading.{reading}
@@ -26,7 +26,7 @@ use Rattle.chain_world.specs.Offering.{if_read}
 abbrev pub told_piece : Piece → couplings.Piece
 told_piece p = record { more = p.more; payload = p.payload }
 
--- the pair that this near section is in, at a relay that is given by its place in the plan
+-- the pair of this near section, at a relay that is given by its place in the plan
 abbrev pub stage_with : List Section → ℕ → Section → Option Stage
 stage_with sections node near = option_map (λ far. record { node = node; near = near; far = far }) (other_of sections near)
 
@@ -34,12 +34,13 @@ stage_with sections node near = option_map (λ far. record { node = node; near =
 abbrev pub stage_of : List Section → ℕ → ℕ → ℕ → Option Stage
 stage_of sections node point remote = option_and_then (stage_with sections node) (find (is_near_of point remote) sections)
 
--- the first of two pairs where it is there, and else the second
+-- the first of two pairs if it is there, otherwise the second
 abbrev pub or_stage : Option Stage → Option Stage → Option Stage
 or_stage (Some stage) later = Some stage
 or_stage None later = later
 
--- the pair whose near section has this point and remote, at the first of the relays that has one; the first relay stands at the place `node`
+-- The pair whose near section has this point and remote, at the first relay that has one. The first relay of the list has the
+-- place `node`.
 abbrev pub first_in : ℕ → List Relaying → ℕ → ℕ → Option Stage
 first_in node [] point remote = None
 first_in node (r ∷ relays) point remote = or_stage (stage_of r.sections node point remote) (first_in (node + 1) relays point remote)
@@ -48,11 +49,12 @@ first_in node (r ∷ relays) point remote = or_stage (stage_of r.sections node p
 abbrev pub sections_at : List Relaying → ℕ → List Section
 sections_at relays node = option_map_or (λ r. r.sections) (slice_get relays node) []
 
--- the next pair, where its near section's own reference is the remote of the far section before it
+-- the next pair, if its near section's own reference is the remote of the far section before it
 abbrev pub joined_to : Stage → Stage → Option Stage
 joined_to stage next = if is_that stage.far.remote next.near.own then Some next else None
 
--- the pair behind one, at the relay at this place: its near section has the point of the relay before and the own reference of that relay's far section
+-- The pair after one, at the relay at this place. Its near section has the point of the relay before, and as its remote the
+-- own reference of that relay's far section.
 abbrev pub next_in : plans.Network → List Relaying → Stage → ℕ → Option Stage
 next_in plan relays stage node = option_and_then (joined_to stage) (stage_of (sections_at relays node) node (point_of plan stage.node) stage.far.own)
 
@@ -60,22 +62,24 @@ next_in plan relays stage node = option_and_then (joined_to stage) (stage_of (se
 abbrev pub is_open : Stage → Bool
 is_open stage = is_some stage.near.remote && is_some stage.far.remote
 
--- the pairs from an open one on: it alone where its far section has an end's point, and else those from the next pair on behind it
+-- The pairs that follow from an open one. If its far section has an end's point, that is only this pair. Otherwise those from
+-- the next pair follow.
 abbrev pub stages_onward : (Stage → Option (List Stage)) → plans.Network → List Relaying → Stage → Option ℕ → Option (List Stage)
 stages_onward rest plan relays stage None = Some (stage ∷ [])
 stages_onward rest plan relays stage (Some node) = option_map (λ stages. stage ∷ stages) (option_and_then rest (next_in plan relays stage node))
 
--- The pairs from one on, at most as many as the number. There are none where one of them isn't open, has no next pair, or comes behind so many.
+-- The pairs that follow from one, at most `most` of them. There are none if one of them is not open, if one has no next pair,
+-- or if there are more.
 abbrev pub stages_from : plans.Network → List Relaying → ℕ → Stage → Option (List Stage)
 stages_from plan relays zero stage = None
 stages_from plan relays (suc most) stage =
     if is_open stage then stages_onward (λ next. stages_from plan relays most next) plan relays stage (position (has_point stage.far.point) plan.nodes) else None
 
--- what these octets carry, where they are a DT1 with this destination reference
+-- what these octets carry, if they are a DT1 with this destination reference
 abbrev pub piece_in : Option ℕ → List ℕ → Option couplings.Piece
 piece_in remote octets = option_and_then (piece_for remote) (if_read (reading octets))
 
--- what the DT1 among them carry that have this destination reference, in order
+-- what those DT1 among them carry that have this destination reference, in order
 abbrev pub pieces_in : Option ℕ → List (List ℕ) → List couplings.Piece
 pieces_in remote octets = filter_map (piece_in remote) octets
 
@@ -98,7 +102,8 @@ passed_at relays node = option_map_or (λ r. r.passed) (slice_get relays node) [
 abbrev pub delivered_by : List Link → ℕ → ℕ → List (List ℕ)
 delivered_by links from to = take (gone_from links from to) (octets_on links from to)
 
--- the line over these pairs, of which the first and the last are named: what went in are the relays' notes, and what came out is read off the links
+-- The line over these pairs, of which the first and the last are given again. What went in is read from the relays' records,
+-- and what came out from the links.
 abbrev pub over : plans.Network → List Relaying → List Link → ℕ → List Stage → Stage → Stage → lines.Line
 over plan relays links point path first last = record {
   path = map (λ stage. point_of plan stage.node) path;
@@ -109,12 +114,12 @@ over plan relays links point path first last = record {
   back_out = pieces_in first.near.remote (delivered_by links (point_of plan first.node) point);
 }
 
--- the last of the pairs, of which the first is named
+-- the last of the pairs, of which the first is given apart
 abbrev pub last_stage : Stage → List Stage → Stage
 last_stage stage [] = stage
 last_stage stage (next ∷ rest) = last_stage next rest
 
--- the line over the pairs, where there are any
+-- the line over the pairs, if there are any
 abbrev pub line_by : plans.Network → List Relaying → List Link → ℕ → Option (List Stage) → Option lines.Line
 line_by plan relays links point None = None
 line_by plan relays links point (Some []) = None

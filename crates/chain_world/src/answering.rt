@@ -1,4 +1,4 @@
-//! What a relay sends goes on its links, all of it or nothing.
+//! Puts what a relay sends on its links: all of it or nothing.
 ghost use Rattle.std.specs.Prelude.{◌≡◌, ◌≤◌, ◌<◌, ℕ, List, [], ◌∷◌, ◌++◌, length, map, IfOk, OnOk, OnErr};
 ghost use Rattle.sccp_manage.specs.declared.sent.Sent.{Sent};
 ghost use Rattle.sccp_couple.specs.Coupling.{coupled};
@@ -32,7 +32,7 @@ pub(crate) enum Placed {
     Two(PointCode, PointCode),
 }
 
-/// The answers in order.
+/// The answers, in the order in which they are sent.
 fn answers_of(sent: Listed<Sending>) -> Answers
     requires { length sent ≤ 2 }
     ensures { sent ≡ in_order result }
@@ -47,7 +47,7 @@ fn answers_of(sent: Listed<Sending>) -> Answers
     }
 }
 
-/// Two messages go on the links of a point.
+/// Puts two messages on the links of a point, or none if memory is lacking.
 fn put_two(
     alloc: Global,
     links: &mut Vec<Link>,
@@ -70,7 +70,7 @@ fn put_two(
     }
 }
 
-/// One message goes on a link of a point.
+/// Puts one message on a link of a point.
 fn put_one(
     alloc: Global,
     links: &mut Vec<Link>,
@@ -84,7 +84,7 @@ fn put_one(
     put(alloc, links, from, only.to, only.octets)
 }
 
-/// What is sent goes on the links of a point.
+/// Puts what is sent on the links of a point.
 fn put_all(
     alloc: Global,
     links: &mut Vec<Link>,
@@ -113,7 +113,7 @@ fn put_all(
     }
 }
 
-/// What was put on the links of a point is taken back, the last one first.
+/// Takes back what was put on the links of a point, the last message first.
 fn take_all(links: &mut Vec<Link>, from: PointCode, placed: Placed)
     ensures octets { (sent : List Sent) (before : ℕ → ℕ → List (List ℕ)) → places placed ≡ map (λ (s : Sent). s.to) sent → ((a b : ℕ) → octets_on links.old.items a b ≡ with_octets from sent before a b) → (a b : ℕ) → octets_on links.new.items a b ≡ before a b }
     ensures gone { (a b : ℕ) → gone_from links.new.items a b ≡ gone_from links.old.items a b }
@@ -128,7 +128,8 @@ fn take_all(links: &mut Vec<Link>, from: PointCode, placed: Placed)
     }
 }
 
-/// The relay at a point takes a message, and what it sends goes on its links. An error is want of memory, and leaves all as it was.
+/// The relay at a point takes a message, and what it sends is put on its links. The only error is lack of memory; it leaves
+/// all as it was.
 pub(crate) fn take_in(
     alloc: Global,
     plan: &Plan,

@@ -1,6 +1,7 @@
-//! What is asked of a running world.
+//! Questions about a running world: freshness, idle links, the number of sections, the next link.
 ghost use Rattle.std.specs.Prelude.{◌≡◌, ◌<◌, ◌≤◌, ◌==◌, ◌+◌, ℕ, not, All, Some, None, drop, is_some, length, map, slice_get, sum};
 ghost use Rattle.std.specs.List.{list_any, list_all};
+ghost use Rattle.plan_model.specs.Limits.{most_nodes};
 ghost use Rattle.couple_chain.specs.Line.{no_repeat};
 ghost use Rattle.couple_chain.specs.Relays.{Relaying};
 ghost use Rattle.chain_world.specs.Links.{octets_on, gone_from};
@@ -58,7 +59,7 @@ pub(crate) fn are_idle(links: &[Link]) -> bool
     links.iter().all(|l| !holds(links, l.from, l.to))
 }
 
-/// How many sections a relay has.
+/// The number of sections of a relay.
 fn count_of(relay: &Relay) -> u32
     requires { length relay.now.sections ≤ 4096 }
     ensures { result ≡ length relay.now.sections }
@@ -66,9 +67,9 @@ fn count_of(relay: &Relay) -> u32
     relay.sections().as_slice().len() as u32
 }
 
-/// How many sections relays have, all together.
+/// The number of sections of all these relays together.
 pub(crate) fn sections_in(relays: &[Relay]) -> u32
-    requires few { length relays.now ≤ 64 }
+    requires few { length relays.now ≤ most_nodes }
     requires each { All (λ (r : Relaying). length r.sections ≤ 4096) relays.now }
     ensures { result ≡ sum (map (λ (r : Relaying). length r.sections) relays.now) }
 {
@@ -79,14 +80,14 @@ pub(crate) fn sections_in(relays: &[Relay]) -> u32
     total
 }
 
-/// Whether a link's points come before another's, or are the same.
+/// Whether these points precede those of a link, or are the same.
 fn is_before(from: PointCode, to: PointCode, link: &Link) -> bool
     ensures { result ≡ is_before from to link.now.from link.now.to }
 {
     from.value() < link.from.value() || (from == link.from && to.value() <= link.to.value())
 }
 
-/// The points of the lesser one of the best link so far and another one.
+/// The points of the lesser of two links: the best one so far, if any, and another one.
 fn lesser(best: Option<(PointCode, PointCode)>, link: &Link) -> (PointCode, PointCode)
     ensures { result ≡ lesser best link.now.from link.now.to }
 {
@@ -96,7 +97,7 @@ fn lesser(best: Option<(PointCode, PointCode)>, link: &Link) -> (PointCode, Poin
     }
 }
 
-/// The points of the least of the links that hold a message, by its first point and then its second.
+/// The points of the least link that holds a message, by its first point and then its second.
 pub(crate) fn least(links: &[Link]) -> Option<(PointCode, PointCode)>
     ensures { result ≡ best_of links.now None links.now }
 {

@@ -1,3 +1,4 @@
+//! The result of a look at one connection: its path, and the data that entered and left it.
 use sccp_base::{List, Octets, PointCode};
 
 /// What a DT1 carries: the M bit and the data.
@@ -12,7 +13,7 @@ pub struct Piece {
 pub struct Line {
     /// The places of the relays in the plan, in order.
     pub path: List<u8>,
-    /// The point of the end behind the last of them.
+    /// The point of the end after the last of them.
     pub far: PointCode,
     /// What the first relay passed on from the end that the line begins at.
     pub forth_in: List<Piece>,

@@ -1,4 +1,4 @@
-//! The line of a connection, made of what running relays and links have.
+//! The line of a connection, made from the records of running relays and links.
 ghost use Rattle.std.specs.Prelude.{◌≡◌, ◌<◌, All, Some, length, map, option_map, IfOk, IfSome};
 ghost use Rattle.couple_chain.specs.Logged.{logged};
 ghost use Rattle.couple_chain.specs.World.{is_node};
@@ -9,13 +9,13 @@ ghost use Rattle.chain_world.specs.Staged.{told_piece, told_line, passed_at, pie
 use crate::line::{Line, Piece};
 use crate::link::{Link, delivered};
 use crate::pieces::{passed_by, pieces_of};
-use crate::stage::{Stage, follow, point_at};
+use crate::stage::{Stage, follow};
 use couple_chain::Relay;
 use plan_model::Plan;
 use sccp_base::{List, OutOfMemory, PointCode, Reference};
 use std::alloc::Global;
 
-/// The relays that a line goes through.
+/// The places of the relays that a line goes through.
 fn nodes_of(alloc: Global, path: &[Stage]) -> Result<List<u8>, OutOfMemory>
     ensures { IfOk result (λ nodes. nodes ≡ map (λ stage. stage.node) path.now) }
 {
@@ -40,7 +40,7 @@ fn passed_at(
     passed_by(alloc, relay.passed(), own)
 }
 
-/// What a link delivered for a reference, where there is one.
+/// What a link delivered for a reference, if there is a reference.
 fn handed(
     alloc: Global,
     links: &[Link],
@@ -56,7 +56,7 @@ fn handed(
     }
 }
 
-/// What went in at the first pair's near side.
+/// What went in at the near side of the first pair.
 fn forth_in(alloc: Global, relays: &[Relay], first: &Stage) -> Result<List<Piece>, OutOfMemory>
     requires { first.now.node < length relays.now }
     ensures { IfOk result (λ pieces. map told_piece pieces ≡ logged first.now.near.own (passed_at relays.now first.now.node)) }
@@ -65,7 +65,7 @@ fn forth_in(alloc: Global, relays: &[Relay], first: &Stage) -> Result<List<Piece
     passed_at(alloc, relays, first.node, own)
 }
 
-/// What went in at the last pair's far side.
+/// What went in at the far side of the last pair.
 fn back_in(alloc: Global, relays: &[Relay], last: &Stage) -> Result<List<Piece>, OutOfMemory>
     requires { last.now.node < length relays.now }
     ensures { IfOk result (λ pieces. map told_piece pieces ≡ logged last.now.far.own (passed_at relays.now last.now.node)) }
@@ -84,7 +84,7 @@ fn forth_out(
     requires { last.now.node < length plan.now.nodes }
     ensures { IfOk result (λ pieces. map told_piece pieces ≡ pieces_in last.now.far.remote (delivered_by links.now (point_of plan.now last.now.node) last.now.far.point)) }
 {
-    let from = point_at(plan, last.node);
+    let from = plan.point_of(last.node);
     let to = last.far.point;
     let remote = last.far.remote;
     handed(alloc, links, from, to, remote)
@@ -101,12 +101,12 @@ fn back_out(
     requires { first.now.node < length plan.now.nodes }
     ensures { IfOk result (λ pieces. map told_piece pieces ≡ pieces_in first.now.near.remote (delivered_by links.now (point_of plan.now first.now.node) point)) }
 {
-    let from = point_at(plan, first.node);
+    let from = plan.point_of(first.node);
     let remote = first.near.remote;
     handed(alloc, links, from, point, remote)
 }
 
-/// The line over these pairs.
+/// The line over these pairs, of which the first and the last are given again.
 fn line_over(
     alloc: Global,
     plan: &Plan,
@@ -139,7 +139,7 @@ fn line_over(
     })
 }
 
-/// The line over pairs that follow one another.
+/// The line over pairs that follow one another. There is none without a pair.
 pub(crate) fn line_along(
     alloc: Global,
     plan: &Plan,

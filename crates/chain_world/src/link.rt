@@ -6,8 +6,8 @@ ghost use Rattle.chain_world.specs.Links.{is_link, octets_on, gone_from, with_at
 use sccp_base::{Octets, OutOfMemory, PointCode};
 use std::alloc::Global;
 
-/// The way from one point to another: all messages that were put on it, as octets, oldest first, and how many of them it has
-/// delivered.
+/// The link from one point to another: all messages that were put on it, as octets, oldest first. `gone` is the number that
+/// it has delivered.
 #[derive(Drop)]
 pub(crate) struct Link {
     pub(crate) from: PointCode,
@@ -23,7 +23,7 @@ pub(crate) fn place_of(links: &[Link], from: PointCode, to: PointCode) -> Option
     links.iter().position(|l| l.from == from && l.to == to)
 }
 
-/// A message goes on its link.
+/// Puts a message on a link.
 fn put_on(link: &mut Link, octets: Octets) -> Result<(), OutOfMemory>
     ensures from { link.new.from ≡ link.old.from }
     ensures to { link.new.to ≡ link.old.to }
@@ -35,7 +35,7 @@ fn put_on(link: &mut Link, octets: Octets) -> Result<(), OutOfMemory>
     Ok(())
 }
 
-/// A link that begins with a message.
+/// Adds a link that was not used before, with a first message.
 fn begin(
     alloc: Global,
     links: &mut Vec<Link>,
@@ -59,7 +59,7 @@ fn begin(
     Ok(())
 }
 
-/// A message goes on the link between two points.
+/// Puts a message on the link between two points.
 pub(crate) fn put(
     alloc: Global,
     links: &mut Vec<Link>,
@@ -77,7 +77,7 @@ pub(crate) fn put(
     }
 }
 
-/// The newest message of a link is taken back.
+/// Takes the newest message of a link back.
 fn drop_last(link: &mut Link)
     ensures from { link.new.from ≡ link.old.from }
     ensures to { link.new.to ≡ link.old.to }
@@ -87,7 +87,7 @@ fn drop_last(link: &mut Link)
     let _ = link.octets.pop();
 }
 
-/// The newest message on the way between two points is taken back.
+/// Takes the newest message on the link between two points back.
 pub(crate) fn take_back(links: &mut Vec<Link>, from: PointCode, to: PointCode)
     ensures octets { (rest : List (List ℕ)) (last : List ℕ) → octets_on links.old.items from to ≡ rest ++ last ∷ [] → (a b : ℕ) → octets_on links.new.items a b ≡ with_at from to rest (octets_on links.old.items) a b }
     ensures gone { (a b : ℕ) → gone_from links.new.items a b ≡ gone_from links.old.items a b }
@@ -104,7 +104,7 @@ fn message_at(octets: &[Octets], place: usize) -> Option<&Octets>
     octets.get(place)
 }
 
-/// The oldest message that a link still has to deliver.
+/// The oldest message that a link has not yet delivered.
 pub(crate) fn oldest(links: &[Link], from: PointCode, to: PointCode) -> Option<&Octets>
     ensures { option_copied result ≡ slice_get (octets_on links.now from to) (gone_from links.now from to) }
 {
@@ -113,7 +113,7 @@ pub(crate) fn oldest(links: &[Link], from: PointCode, to: PointCode) -> Option<&
     message_at(link.octets.as_slice(), link.gone)
 }
 
-/// A link has delivered its oldest message.
+/// Notes that a link has delivered its oldest message.
 fn pass_one(link: &mut Link)
     requires { link.old.gone < length link.old.octets.items }
     ensures from { link.new.from ≡ link.old.from }
@@ -126,7 +126,7 @@ fn pass_one(link: &mut Link)
     }
 }
 
-/// The link between two points has delivered its oldest message.
+/// Notes that the link between two points has delivered its oldest message.
 pub(crate) fn pass(links: &mut Vec<Link>, from: PointCode, to: PointCode)
     requires { gone_from links.old.items from to < length (octets_on links.old.items from to) }
     ensures octets { (a b : ℕ) → octets_on links.new.items a b ≡ octets_on links.old.items a b }
@@ -137,7 +137,7 @@ pub(crate) fn pass(links: &mut Vec<Link>, from: PointCode, to: PointCode)
     }
 }
 
-/// What a link has delivered.
+/// The messages that a link has delivered.
 fn gone_of(link: &Link) -> &[Octets]
     ensures { result.now ≡ take link.now.gone link.now.octets.items }
 {
@@ -148,7 +148,7 @@ fn gone_of(link: &Link) -> &[Octets]
     }
 }
 
-/// What the link between two points has delivered.
+/// The messages that the link between two points has delivered.
 pub(crate) fn delivered(links: &[Link], from: PointCode, to: PointCode) -> &[Octets]
     ensures { result.now ≡ take (gone_from links.now from to) (octets_on links.now from to) }
 {

@@ -1,4 +1,4 @@
-//! What an end offers.
+//! What an end offers, as octets and as the message that they read as.
 ghost use Rattle.std.specs.Prelude.{◌≡◌, ◌==◌, IfOk, IfSome};
 ghost use Rattle.std.specs.List.{list_any};
 ghost use Rattle.couple_chain.specs.World.{names, name_of};
@@ -12,7 +12,7 @@ use sccp_base::{Octets, OutOfMemory, PointCode, Reference};
 use sccp_message::{DecodeFault, EncodeFault, Message, decode, encode};
 use std::alloc::Global;
 
-/// The octets of a message, where it can be written.
+/// The octets of a message, if it can be written.
 #[tactic(auto, using(sccp_scrc::proofs::Redirected::octets_written))]
 pub(crate) fn octets_of(alloc: Global, message: &Message) -> Result<Option<Octets>, OutOfMemory>
     ensures { IfOk result (λ octets. octets ≡ octets_of message.now) }
@@ -25,7 +25,7 @@ pub(crate) fn octets_of(alloc: Global, message: &Message) -> Result<Option<Octet
     }
 }
 
-/// The message that octets are, unless they are none.
+/// The message that octets read as, if they do.
 pub(crate) fn read(alloc: Global, octets: &[u8]) -> Result<Option<Message>, OutOfMemory>
     ensures value { IfOk result (λ message. message ≡ if_read (reading octets.now)) }
     ensures sound { IfOk result (λ message. IfSome message Sound) }
@@ -38,7 +38,7 @@ pub(crate) fn read(alloc: Global, octets: &[u8]) -> Result<Option<Message>, OutO
     }
 }
 
-/// A message as it is read again from what is written of it, where it can be written and read.
+/// A message as it reads after it was written, if it can be written and read.
 pub(crate) fn read_again(alloc: Global, message: &Message) -> Result<Option<Message>, OutOfMemory>
     ensures value { IfOk result (λ read. read ≡ read_again message.now) }
     ensures sound { IfOk result (λ read. IfSome read Sound) }

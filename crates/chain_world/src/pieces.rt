@@ -1,4 +1,4 @@
-//! What a line passed on, and what came out of it.
+//! The data that sections passed on, and the data that links delivered.
 ghost use Rattle.std.specs.Prelude.{◌≡◌, Some, map, option_map, IfOk};
 ghost use Rattle.couple_chain.specs.Line.{piece_for};
 ghost use Rattle.couple_chain.specs.Logged.{logged};
@@ -36,7 +36,7 @@ pub(crate) fn passed_by(
     Ok(pieces)
 }
 
-/// What a message carries, where it is a DT1 with this destination reference.
+/// What a message carries, if it is a DT1 with this destination reference.
 fn piece_for(alloc: Global, message: &Message, dlr: Reference) -> Result<Option<Piece>, OutOfMemory>
     ensures { IfOk result (λ p. option_map told_piece p ≡ piece_for (Some dlr) message.now) }
 {
@@ -56,7 +56,7 @@ fn piece_for(alloc: Global, message: &Message, dlr: Reference) -> Result<Option<
     }
 }
 
-/// The same of the message that octets are.
+/// What a message given by its octets carries, if it is a DT1 with this destination reference.
 fn piece_read(alloc: Global, octets: &[u8], dlr: Reference) -> Result<Option<Piece>, OutOfMemory>
     ensures { IfOk result (λ p. option_map told_piece p ≡ piece_in (Some dlr) octets.now) }
 {
@@ -70,7 +70,7 @@ fn piece_read(alloc: Global, octets: &[u8], dlr: Reference) -> Result<Option<Pie
     }
 }
 
-/// What the DT1 among messages carry that have this destination reference.
+/// What those DT1 of a list of messages carry that have this destination reference.
 pub(crate) fn pieces_of(
     alloc: Global,
     octets: &[Octets],

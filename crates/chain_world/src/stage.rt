@@ -1,9 +1,9 @@
-//! The pairs that a connection goes through, as running relays find them: by their sections alone.
+//! The pairs that a connection goes through, as running relays find them: only by their sections.
 ghost use Rattle.std.specs.Prelude.{◌≡◌, ◌<◌, ◌≤◌, find, length, position, IfOk, IfSome};
 ghost use Rattle.std.specs.Option.{option_copied};
 ghost use Rattle.sccp_couple.specs.Sections.{is_that, is_near_of, section_at};
+ghost use Rattle.plan_model.specs.Limits.{most_nodes};
 ghost use Rattle.plan_model.specs.Network.{has_point};
-ghost use Rattle.sccp_scrc.specs.Arriving.{point_of};
 ghost use Rattle.chain_world.specs.Staged.{stage_of, sections_at, first_in, joined_to, next_in, is_open, stages_from};
 
 use couple_chain::Relay;
@@ -12,7 +12,7 @@ use sccp_base::{List, OutOfMemory, PointCode, Reference};
 use sccp_couple::Section;
 use std::alloc::Global;
 
-/// A standing pair of a relay: the relay's place in the plan, and the two sections.
+/// A pair that a relay has: the place of the relay in the plan, and the two sections.
 #[derive(Clone, Copy)]
 pub(crate) struct Stage {
     pub(crate) node: u8,
@@ -20,7 +20,7 @@ pub(crate) struct Stage {
     pub(crate) far: Section,
 }
 
-/// Where the near section with this point and remote is.
+/// A reference to the near section with this point and remote, if there is one.
 fn near_at(sections: &[Section], point: PointCode, remote: Reference) -> Option<&Section>
     ensures { option_copied result ≡ find (is_near_of point remote) sections.now }
 {
@@ -29,7 +29,7 @@ fn near_at(sections: &[Section], point: PointCode, remote: Reference) -> Option<
         .find(|s| s.near && s.point == point && s.remote == Some(remote))
 }
 
-/// The near section with this point and remote.
+/// A copy of the near section with this point and remote.
 fn near_of(sections: &[Section], point: PointCode, remote: Reference) -> Option<Section>
     ensures { result ≡ find (is_near_of point remote) sections.now }
 {
@@ -39,14 +39,14 @@ fn near_of(sections: &[Section], point: PointCode, remote: Reference) -> Option<
     }
 }
 
-/// Where the section with an own reference is.
+/// A reference to the section with an own reference, if there is one.
 fn found_at(sections: &[Section], own: Reference) -> Option<&Section>
     ensures { option_copied result ≡ section_at sections.now own }
 {
     sections.iter().find(|s| s.own == own)
 }
 
-/// The section with an own reference.
+/// A copy of the section with an own reference.
 fn section_at(sections: &[Section], own: Reference) -> Option<Section>
     ensures { result ≡ section_at sections.now own }
 {
@@ -67,7 +67,7 @@ fn stage_in(sections: &[Section], node: u8, point: PointCode, remote: Reference)
     Some(Stage { node, near, far })
 }
 
-/// The same at a relay.
+/// The pair of a relay whose near section has this point and remote.
 fn stage_at(relays: &[Relay], node: u8, point: PointCode, remote: Reference) -> Option<Stage>
     requires { node < length relays.now }
     ensures value { result ≡ stage_of (sections_at relays.now node) node point remote }
@@ -77,9 +77,9 @@ fn stage_at(relays: &[Relay], node: u8, point: PointCode, remote: Reference) -> 
     stage_in(relay.sections().as_slice(), node, point, remote)
 }
 
-/// The same at the first relay that has one.
+/// The pair at the first relay that has one whose near section has this point and remote.
 pub(crate) fn first_stage(relays: &[Relay], point: PointCode, remote: Reference) -> Option<Stage>
-    requires { length relays.now ≤ 64 }
+    requires { length relays.now ≤ most_nodes }
     ensures { result ≡ first_in 0 relays.now point remote }
 {
     for (i, relay) in relays.iter().enumerate() {
@@ -90,22 +90,14 @@ pub(crate) fn first_stage(relays: &[Relay], point: PointCode, remote: Reference)
     None
 }
 
-/// Whether both sections have a remote.
+/// Whether both sections have a remote, so that data can pass.
 fn is_open(stage: &Stage) -> bool
     ensures { result ≡ is_open stage.now }
 {
     stage.near.remote.is_some() && stage.far.remote.is_some()
 }
 
-/// The point of a node.
-pub(crate) fn point_at(plan: &Plan, node: u8) -> PointCode
-    requires { node < length plan.now.nodes }
-    ensures { result ≡ point_of plan.now node }
-{
-    plan.nodes().as_slice()[usize::from(node)].pc
-}
-
-/// The node that a pair's far section has as its point.
+/// The relay whose point a pair's far section has. There is none if the point is an end's.
 fn node_behind(plan: &Plan, stage: &Stage) -> Option<u8>
     ensures { result ≡ position (has_point stage.now.far.point) plan.now.nodes }
 {
@@ -113,7 +105,7 @@ fn node_behind(plan: &Plan, stage: &Stage) -> Option<u8>
     plan.node_at(point)
 }
 
-/// Whether the near section's own reference of one pair is the remote of another one's far section.
+/// Whether the near section's own reference of the next pair is the remote of the first pair's far section.
 fn is_joined(stage: &Stage, next: &Stage) -> bool
     ensures { result ≡ is_that stage.now.far.remote next.now.near.own }
 {
@@ -123,7 +115,7 @@ fn is_joined(stage: &Stage, next: &Stage) -> bool
     }
 }
 
-/// The pair, where its near section's own reference is the remote of another one's far section.
+/// The next pair, if it is joined to the first one.
 fn joined_to(stage: &Stage, next: Stage) -> Option<Stage>
     ensures value { result ≡ joined_to stage.now next }
     ensures node { IfSome result (λ joined. joined.node ≡ next.node) }
@@ -135,21 +127,22 @@ fn joined_to(stage: &Stage, next: Stage) -> Option<Stage>
     }
 }
 
-/// The pair behind one: of the relay that its far section has as its point, the one whose near section has this relay's point
-/// and the far section's own reference, where the far section's remote is that near section's own.
+/// The pair after one, at a relay given by its place. Its near section has the first relay's point, and as its remote the own
+/// reference of that relay's far section. It must be joined to the first pair.
 fn next_stage(plan: &Plan, relays: &[Relay], stage: &Stage, node: u8) -> Option<Stage>
     requires inside { stage.now.node < length plan.now.nodes }
     requires node { node < length relays.now }
     ensures value { result ≡ next_in plan.now relays.now stage.now node }
     ensures node { IfSome result (λ next. next.node ≡ node) }
 {
-    let point = point_at(plan, stage.node);
+    let point = plan.point_of(stage.node);
     let own = stage.far.own;
     let next = stage_at(relays, node, point, own)?;
     joined_to(stage, next)
 }
 
-/// The pairs from one on, at most as many as the number: all with both remotes, and behind the last one an end.
+/// The pairs that follow from one, at most `most` of them. There are none unless all have both remotes, and an end is after
+/// the last.
 pub(crate) fn follow(
     alloc: Global,
     plan: &Plan,

@@ -1,3 +1,4 @@
+//! A running world: its relays, its links and its history, and all calls of the layer above.
 ghost use Rattle.std.specs.Prelude.{◌≡◌, ◌↔◌, ◌<◌, [], ◌∷◌, ◌++◌, ℕ, false, true, None, Some, List, All, map, length, position, ⊤, IfOk, IfErr, IfNone, IfSome, OnOk, OnErr, option_map};
 ghost use Rattle.std.specs.Bool.{MatchBool};
 ghost use Rattle.std.specs.List.{range_with_len};
@@ -32,10 +33,11 @@ use sccp_message::Message as Signal;
 use std::alloc::Global;
 use std::marker::Model;
 
-/// The relays of a plan, the ends around them, and the links between their points. Every relay couples, and nothing is prohibited.
+/// The relays of a plan, the ends around them, and the links between their points. Every relay couples, and nothing is
+/// prohibited.
 ///
-/// It keeps its history, which is the list of its accepted offers and of its deliveries, and contracts see it as its plan and that
-/// list: what its relays and links have is what the history leaves of them.
+/// It keeps its history: the list of its accepted offers and of its deliveries. Contracts see it as its plan and that list.
+/// Its relays and links have what the history leads to.
 #[derive(Drop)]
 pub struct World {
     alloc: Global,
@@ -56,7 +58,7 @@ impl Model for World {
     ghost invariant = { λ w. IsWorld w.plan w.relays.items w.links.items w.history.items };
 }
 
-/// One more event.
+/// Adds an event to the history.
 fn note(history: &mut Vec<Happening>, event: Happening) -> Result<(), OutOfMemory>
     ensures ok { OnOk result (history.new.items ≡ history.old.items ++ event ∷ []) }
     ensures err { OnErr result (history.new.items ≡ history.old.items) }
@@ -70,7 +72,7 @@ fn note(history: &mut Vec<Happening>, event: Happening) -> Result<(), OutOfMemor
     }
 }
 
-/// The last event is taken back.
+/// Takes the last event back.
 fn take_back(history: &mut Vec<Happening>)
     ensures { (before : List Event) (last : Event) → history.old.items ≡ before ++ last ∷ [] → history.new.items ≡ before }
 {
@@ -79,7 +81,7 @@ fn take_back(history: &mut Vec<Happening>)
     }
 }
 
-/// So many relays, by their places.
+/// The relays at the first `count` places, without sections.
 fn relays_of(alloc: Global, count: u8) -> Result<Vec<Relay>, OutOfMemory>
     ensures { IfOk result (λ relays. relays.items ≡ map first_relay (range_with_len 0 count)) }
 {
@@ -91,7 +93,7 @@ fn relays_of(alloc: Global, count: u8) -> Result<Vec<Relay>, OutOfMemory>
 }
 
 impl World {
-    /// A world in which nothing has happened yet.
+    /// A world in which nothing has happened yet. The only error is lack of memory.
     pub fn new(alloc: Global, plan: Plan) -> Result<World, OutOfMemory>
         ensures { IfOk result (λ w. w ≡ kept plan []) }
     {
@@ -106,7 +108,7 @@ impl World {
         })
     }
 
-    /// The plan that it was made of.
+    /// The plan whose nodes are the relays.
     pub fn plan(&self) -> &Plan
         ensures { result.now ≡ self.now.plan }
     {
@@ -121,7 +123,7 @@ impl World {
         self.plan.node_at(point).is_some()
     }
 
-    /// Whether a message of an end has the source local reference of an earlier CR or CC of it.
+    /// Whether a message of an end has the source local reference of an earlier CR or CC from this end.
     fn uses_again(&self, from: PointCode, message: &Signal) -> bool
         requires { is_node (network_of self.now.plan) from ≡ false }
         ensures { result ≡ uses_again (network_of self.now.plan) (world_of self.now) from (name_of message.now) }
@@ -132,7 +134,7 @@ impl World {
         }
     }
 
-    /// The first test that an offer fails, but the last one.
+    /// The first test that an offer fails, of all tests but the last.
     fn early_fault(&self, from: PointCode, to: PointCode, message: &Signal) -> Option<OfferFault>
         ensures { result ≡ early_fault (network_of self.now.plan) (world_of self.now) from to message.now }
     {
@@ -151,7 +153,7 @@ impl World {
         None
     }
 
-    /// The oldest message of a link.
+    /// The oldest message that a link has not yet delivered.
     fn oldest(&self, from: PointCode, to: PointCode) -> Result<Option<Signal>, OutOfMemory>
         ensures value { IfOk result (λ m. m ≡ oldest_of ((world_of self.now).waiting from to)) }
         ensures short { IfOk result (λ m. IfSome m HasShortParts) }
@@ -162,7 +164,7 @@ impl World {
         }
     }
 
-    /// An offer that passed every test: it goes on its link, and stands in the history.
+    /// Accepts an offer that passed every test: it is put on its link and in the history.
     fn accept(
         &mut self,
         from: PointCode,
@@ -186,7 +188,7 @@ impl World {
         }
     }
 
-    /// The octets of a message that octets say, where an offer of it passes every test, and else the first that it fails.
+    /// The octets of a message that was read, if an offer of it passes every test; otherwise the first test that it fails.
     fn tested(&self, from: PointCode, to: PointCode, read: &Signal) -> Result<Octets, OfferFault>
         requires sound { Sound read.now }
         requires is_message { IsMessage read.now }
@@ -207,7 +209,7 @@ impl World {
         }
     }
 
-    /// An offer of a message that octets say.
+    /// An offer of a message that was read from octets.
     fn offer_read(&mut self, from: PointCode, to: PointCode, read: Signal) -> Result<(), OfferFault>
         requires sound { Sound read }
         requires is_message { IsMessage read }
@@ -227,7 +229,7 @@ impl World {
         }
     }
 
-    /// The first test that an offer fails of a message that octets don't say.
+    /// The first test that an offer fails, if its message cannot be written, or would not read as a message.
     fn fault_unread(&self, from: PointCode, to: PointCode, message: &Signal) -> OfferFault
         ensures { fault_of_read (network_of self.now.plan) (world_of self.now) from to message.now None ≡ Some result }
     {
@@ -239,10 +241,13 @@ impl World {
 
     /// An end puts a message on its link to a relay.
     ///
-    /// `NotAnEnd` where it comes from a relay's point, else `NotANode` where it goes to none, `Connectionless`, `UsedReference`
-    /// for a CR or CC whose source local reference an earlier accepted one of this end had, and `NotWritable` where it can't be
-    /// written or isn't read again. `OutOfMemory` leaves all as it was, as every fault does. What goes on the link is what the
-    /// octets say: the message itself, unless it has an address that no octets say.
+    /// The faults in the order of testing are: `NotAnEnd` if the message is from a relay's point, `NotANode` if it goes to no
+    /// relay, and `Connectionless`. Then `UsedReference` if it is a CR or CC whose source local reference an earlier accepted
+    /// one of this end had. The last is `NotWritable` if it cannot be written or does not read again. Lack of memory is
+    /// `OutOfMemory`. Each fault leaves all as it was.
+    ///
+    /// What goes on the link is what the octets say. That is the message itself, unless it has an address that no octets can
+    /// express.
     pub fn offer(
         &mut self,
         from: PointCode,
@@ -259,7 +264,7 @@ impl World {
         }
     }
 
-    /// A link without a message has nothing to deliver.
+    /// A delivery of a link that holds no message.
     fn deliver_nothing(&mut self, from: PointCode, to: PointCode) -> Result<Delivered, OutOfMemory>
         requires { (world_of self.old).waiting from to ≡ [] }
         ensures answer { IfOk result (λ d. d ≡ delivery (network_of self.old.plan) (world_of self.old) from to) }
@@ -270,7 +275,7 @@ impl World {
         Ok(Delivered::Nothing)
     }
 
-    /// An end is handed the oldest message.
+    /// Hands the oldest message of a link to an end.
     fn hand_out(
         &mut self,
         from: PointCode,
@@ -295,7 +300,7 @@ impl World {
         }
     }
 
-    /// A relay takes the oldest message, and what it sends goes on its links.
+    /// A relay takes the oldest message of a link, and what it sends is put on its links.
     fn handle(
         &mut self,
         node: u8,
@@ -332,8 +337,9 @@ impl World {
         }
     }
 
-    /// A link delivers its oldest message: `Nothing` where it has none, `Handled` where a relay takes it, whose coupling then
-    /// sends what it sends, and `Out` where an end is handed it. After want of memory all is as before.
+    /// A link delivers its oldest message. The answer is `Nothing` if it holds none, and `Handled` if a relay takes the
+    /// message; what its coupling sends is then on its links. It is `Out` if an end is handed the message. The only error is
+    /// lack of memory; it leaves all as it was.
     pub fn deliver(&mut self, from: PointCode, to: PointCode) -> Result<Delivered, OutOfMemory>
         ensures answer { IfOk result (λ d. d ≡ delivery (network_of self.old.plan) (world_of self.old) from to) }
         ensures ok { OnOk result (self.new ≡ kept self.old.plan (self.old.history ++ Delivers from to ∷ [])) }
@@ -373,8 +379,8 @@ impl World {
         sections_in(self.relays.as_slice())
     }
 
-    /// Of the links that hold a message the least, by its first point and then its second; `None` where no link holds one. It
-    /// takes no memory.
+    /// The link that is to deliver next: of the links that hold a message, the least by its first point and then its second.
+    /// `None` if no link holds one. It takes no memory.
     pub fn next(&self) -> Option<(PointCode, PointCode)>
         ensures some { IfSome result (λ l. IsNextLink (world_of self.now) l.0 l.1) }
         ensures none { IfNone result (IsSettled (world_of self.now)) }
@@ -383,10 +389,12 @@ impl World {
         least(self.links.as_slice())
     }
 
-    /// The line of a connection from an end's point and the reference that it gave; `None` exactly where the line doesn't stand.
+    /// The line of a connection from an end's point and the local reference that the end gave. It is `None` if the point is a
+    /// relay's, if a pair on the way is missing or not established, or after 15 pairs without an end. The only error is lack
+    /// of memory.
     ///
-    /// What came out of it is the beginning of what went in, both ways, where no relay gave one own reference twice; where no
-    /// link holds a message either, it is the whole.
+    /// If no relay gave one own reference twice, what came out of the line is the beginning of what went in, both ways. If
+    /// also no link holds a message, it is the whole.
     pub fn line(&self, point: PointCode, reference: Reference) -> Result<Option<Line>, OutOfMemory>
         ensures line { IfOk result (λ l. option_map (told_line self.now.plan) l ≡ line (network_of self.now.plan) (world_of self.now) point reference) }
         ensures inside { IfOk result (λ l. IfSome l (λ x. All (λ node. node < length self.now.plan.nodes) x.path)) }

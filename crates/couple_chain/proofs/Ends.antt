@@ -1,4 +1,4 @@
--- an end's reference names one section of all relays
+-- an end's reference names at most one section of all relays
 use Rattle.std.specs.Prelude.{ℕ, ◌≡◌, ◌+◌, ◌<◌, ◌≤◌, ◌==◌, ◌⊎◌, Bool, true, false, ◌&&◌, List, [], ◌∷◌, Some, None, refl}
 use Rattle.std.specs.List.{list_any}
 use Rattle.std.proofs.Common.{sym, ◌∙◌, ap, subst, ⊎_elim, inl, inr, arith}
@@ -18,7 +18,7 @@ use Rattle.couple_chain.proofs.Counts.{number, number-append, number-or, one_of,
 use Rattle.couple_chain.proofs.Turns.{Plain, Passes, Requests, Confirms, Turn, turn}
 use Rattle.couple_chain.proofs.Worlds.{put_left, put_there, arrived_elsewhere, arrived_here, arrived_from_else, moment_here, moment_there, accepted_parts, name_is, none_number, none_among, put_on_offer, put_on_else, offered_cases, delivered_cases}
 
--- a near section stood before, or this CR made it
+-- a near section was there before, or this CR made it
 abbrev NearWas : List Section → Event → ℕ → Section → Type 0
 NearWas l event q t =
     ((s : Section) × (section_at l q ≡ Some s) × (s.near ≡ true) × (s.point ≡ t.point) × (s.remote ≡ t.remote))
@@ -63,7 +63,7 @@ starts network =
     nothing : (own : ℕ) (s : Section) → section_at [] own ≡ Some s → ⊥
     nothing own s h = cc
 
--- what has arrived is more
+-- what has arrived only grows
 left_more : (w : World) (from to : ℕ) (message : Message) (rest : List Message) (p : Message → Bool) (a b : ℕ) → number p (w.arrived a b) ≤ number p ((left w from to message rest).arrived a b)
 left_more w from to message rest p a b =
     ⊎_elim
@@ -145,7 +145,7 @@ puts network w ends from to message accepted =
     let here : (a b q : ℕ) → ((a == from) && (b == to)) ≡ true → number (names q) (put_on v a b) ≡ number (names q) (put_on w from to) + number (names q) (message ∷ []) = λ a b q e.
     let both = and_parts (a == from) (b == to) e in
     ap (number (names q)) (ap (λ (n : ℕ). put_on v n b) (eqb-true a from both.0) ∙ ap (put_on v from) (eqb-true b to both.1) ∙ put_on_offer w from to message) ∙ number-append (names q) (put_on w from to) (message ∷ []) in
-    -- a reference that the message names stands on none of the end's links
+    -- a reference that the message names is on none of the end's links
     let unnamed : (q b : ℕ) → names q message ≡ true → number (names q) (put_on w from b) ≡ 0 = λ q b named.
     ⊎_elim
     (λ (e : is_node network b ≡ true).

@@ -1,4 +1,4 @@
--- sections become more by a CR alone, which makes the pair of the two last ones
+-- only a CR adds sections, and the last two are then its pair
 use Rattle.std.specs.Prelude.{ℕ, ◌≡◌, ◌+◌, ◌<◌, ◌≤◌, ◌⊎◌, true, false, cond, List, [], ◌∷◌, ◌++◌, length, filter, flat_map, Some, None, slice_get, refl}
 use Rattle.std.proofs.Common.{zero, suc, sym, ◌∙◌, ap, ⊎_elim, inl, inr, arith, length-append}
 use Rattle.sccp_couple.specs.declared.section.Section.{Section}
@@ -33,7 +33,7 @@ by_change l m (EndsBoth s other at joined) = let a = without_fewer s.own l in le
 by_change l m (Releases s other t at joined there some) = let a = without_fewer s.own l in let b = changed_length released other (without s.own l) in inl (omega arith)
 by_change l m (Couples origin remote to unheard fits) = inr (origin, remote, to, refl)
 
--- what a step did that made the sections more
+-- what a step did that added sections
 pub record Grows (l : List Section) (event : Event) : Type 0 where
   pub origin : ℕ
   pub remote : ℕ
@@ -106,7 +106,7 @@ given_grows l event g = ap (flat_map both_of) g.pair
 abbrev pub IsOwnAt : List Section → ℕ → ℕ → Type 0
 IsOwnAt l i own = (s : Section) → slice_get l i ≡ Some s → own ≡ s.own
 
--- of a step whose sections became more: the two last ones give the references
+-- after a step that added sections, the last two give the references
 record LastTwo (l : List Section) (event : Event) (n k : ℕ) : Type 0 where
   pub grown : Grows l event
   pub near : n ≡ first_new l

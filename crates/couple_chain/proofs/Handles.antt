@@ -1,4 +1,4 @@
--- A relay takes a message: what holds of it before holds after.
+-- A relay takes a message. What holds of the relay before holds after.
 use Rattle.std.specs.Prelude.{ℕ, ◌≡◌, ◌≢◌, ◌+◌, ◌<◌, ◌≤◌, ◌==◌, ◌⊎◌, Bool, true, false, not, cond, ◌&&◌, ◌||◌, List, [], ◌∷◌, ◌++◌, map, Option, Some, None, is_some, refl}
 use Rattle.std.proofs.Common.{zero, suc, sym, ◌∙◌, ap, subst, ⊎_elim, inl, inr, arith}
 use Rattle.std.proofs.lemmas.Bool.{cases_Bool, cases_eq, eq-eqb, eqb-true, and_parts, not-true}
@@ -30,7 +30,7 @@ use Rattle.couple_chain.proofs.Early.{early_quiet, early_more, early_first}
 use Rattle.couple_chain.proofs.Takes.{Peers, Takes, half_is, by_names, opens, passes_in, passes_not, quiet_sent}
 use Rattle.couple_chain.proofs.Pairs.{none_of_nothing, only_data, PairAfter, Same, Gains, SidesAfter, sides_after}
 
--- a DT1 goes to this point with this DLR: it is of an established section, and goes to its other one
+-- a DT1 goes to this point with this DLR: it belongs to an established section, and goes to its other one
 pub record SendsData (l : List Section) (to q : ℕ) : Type 0 where
   pub from : ℕ
   pub own : ℕ
@@ -138,7 +138,7 @@ module _ (network : Network) (put arrived toward put_then arrived_then : ℕ →
       let c = number-append p (arrived event.origin) (event.message ∷ []) in
       omega arith
 
-  -- what the message names had no name before
+  -- no earlier message from this point named what this message names
   unnamed : (q : ℕ) → names q event.message ≡ true → number (names q) (arrived event.origin) ≡ 0
   unnamed q h =
       let a = peers.once event.origin q in
@@ -195,7 +195,7 @@ module _ (network : Network) (put arrived toward put_then arrived_then : ℕ →
       let d = fars_after m event own in
       omega arith
 
-  -- the standing pair of two sections
+  -- the pair of two sections that are there
   pair_of : (d o : ℕ) (s : Section) → section_at m.sections d ≡ Some s → s.other ≡ Some o → s.near ≡ false →
       (p : Pair) × (p.stands ≡ true) × (p.near ≡ o) × (p.far ≡ d) × (0 < number (has_near o) m.pairs) × StandsFor network put arrived m p
   pair_of d o s at joined far =
@@ -227,7 +227,7 @@ module _ (network : Network) (put arrived toward put_then arrived_then : ℕ →
           let b = to_point_some (confirms own) n.point to (messages.Cc r o class params) (subst (λ (x : List Answer). 0 < number (confirms own) (messages_to to x)) sent k) in
           subst (λ (x : ℕ). 0 < number (has_near x) m.pairs) (eqb-true o own b.1) (pair_of dlr o u u_at u_other u_far).4
 
-  -- what stands under a reference afterwards
+  -- what the section under a reference was before
   data Was (key q : ℕ) (t : Section) : Type 0 where
     Old : (s : Section) → section_at m.sections q ≡ Some s → t.near ≡ s.near → t.point ≡ s.point → t.remote ≡ s.remote → Was key q t
     New : (r : ℕ) → q ≡ key → t.remote ≡ Some r → t.point ≡ event.origin → names_by t.near r event.message ≡ true → Was key q t
@@ -288,7 +288,7 @@ module _ (network : Network) (put arrived toward put_then arrived_then : ℕ →
       or_true true = refl
       or_true false = refl
 
-  -- an old section can't have the remote that has just been named
+  -- an old section cannot have the remote that has just been named
   clash : (own r q : ℕ) (s b t : Section) → section_at m.sections own ≡ Some b → s.point ≡ b.point → s.remote ≡ b.remote → s.remote ≡ Some q → t.remote ≡ Some r → t.remote ≡ Some q → t.point ≡ event.origin → s.point ≡ t.point → names_by t.near r event.message ≡ true → ⊥
   clash own r q s b t at point remote has_it is_r is_q from same named =
       let e : r ≡ q = some_same r q t.remote is_r is_q in
@@ -374,7 +374,7 @@ module _ (network : Network) (put arrived toward put_then arrived_then : ℕ →
           absurd (omega arith))
           (cases_Bool d.section.near)
 
-  -- a side of a pair that stands
+  -- a side of a pair that is still there
   sent_side : (own other : ℕ) (s : Section) (q : ℕ) (old : List Piece) → section_at m.sections own ≡ Some s → s.remote ≡ Some q → s.other ≡ Some other → old ≡ pieces_for (Some q) (put s.point) →
       (point : ℕ) → point ≡ s.point → old ++ sent_in m.sections own other event ≡ pieces_for (Some q) (put_then point)
   sent_side own other s q old at has_it joined before point same =
@@ -518,7 +518,7 @@ module _ (network : Network) (put arrived toward put_then arrived_then : ℕ →
       (λ (e : 0 < number (confirms own) (put to)). let d = holds.confirmed to own e in absurd (omega arith))
       (zero_or (number (confirms own) (put to)))
 
-  -- no DT1 is for a reference that wasn't given
+  -- no DT1 is for a reference that was not given
   no_data_for : (own from : ℕ) → 0 < number (has_near own) (made m.sections event) + number (has_far own) (made m.sections event) → is_node network from ≡ true → number (carries own) (arrived from) ≡ 0
   no_data_for own from h inner =
       let a = not_given own from h in
@@ -538,7 +538,7 @@ module _ (network : Network) (put arrived toward put_then arrived_then : ℕ →
       (λ (e : 0 < number (answers own) (arrived from)). let c = peers.answers_named from own inner (omega arith) in absurd (omega arith))
       (zero_or (number (answers own) (arrived from)))
 
-  -- what has arrived afterwards, of a message that doesn't count
+  -- the count of what has arrived stays 0 after a message that is not counted
   still_none : (p : Message → Bool) (from : ℕ) → number p (arrived from) ≡ 0 → p event.message ≡ false → number p (arrived_then from) ≡ 0
   still_none p from old h =
       ⊎_elim
@@ -595,7 +595,7 @@ module _ (network : Network) (put arrived toward put_then arrived_then : ℕ →
         unanswered = λ inner h. still_none (answers far) t.point (no_answer_for far t.point far_made inner) (ap (answers far) is);
       }
 
-  -- each pair that stands afterwards
+  -- each pair that is there afterwards
   carried_stands : Turn m.sections event → (p : Pair) → IsFair m.sections p × ((0 < number (has_near p.near) m.pairs) × (0 < number (has_far p.far) m.pairs)) × StandsFor network put arrived m p →
       StandsFor network put_then arrived_then (happens m event) (carried m.sections event p)
   carried_stands turned p known =
@@ -648,7 +648,7 @@ module _ (network : Network) (put arrived toward put_then arrived_then : ℕ →
         stretches = stretches_then turned;
       }
 
-  -- a relay names a section in one CR or CC at most
+  -- a relay names a section in at most one CR or CC
   pub once_then : (to own : ℕ) → number (names own) (put_then to) ≤ 1
   once_then to own = go (turn m.sections holds.kept.coupling event)
     where

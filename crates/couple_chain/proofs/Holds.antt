@@ -18,7 +18,7 @@ has_near own p = p.near == own
 abbrev pub has_far : ℕ → Pair → Bool
 has_far own p = p.far == own
 
--- the DT1 with this DLR that come before each CC with it
+-- the DT1 with this DLR that are before each CC with it
 abbrev pub early_of : Bool → List Piece → List Piece
 early_of true pieces = []
 early_of false pieces = pieces
@@ -31,7 +31,8 @@ early dlr (x ∷ xs) = early_of (answers dlr x) (pieces_for (Some dlr) (x ∷ []
 abbrev pub names_by : Bool → ℕ → Message → Bool
 names_by near own message = cond near (requests own message) (confirms own message)
 
--- A standing pair of a relay, with its two sections. put is what the relay put on its link to each point, and arrived what came to it from each.
+-- A pair that a relay has, with its two sections. `put` is what the relay put on its link to each point, and `arrived` what
+-- it received from each.
 pub record StretchFor (network : Network) (put arrived : ℕ → List Message) (p : Pair) (s t : Section) : Type 0 where
   pub near_sent : (q : ℕ) → s.remote ≡ Some q → p.sent_near ≡ pieces_for (Some q) (put s.point)
   pub far_sent : (q : ℕ) → t.remote ≡ Some q → p.sent_far ≡ pieces_for (Some q) (put t.point)
@@ -46,7 +47,7 @@ abbrev pub StandsFor : Network → (ℕ → List Message) → (ℕ → List Mess
 StandsFor network put arrived m p =
     (s t : Section) → p.stands ≡ true → section_at m.sections p.near ≡ Some s → section_at m.sections p.far ≡ Some t → StretchFor network put arrived p s t
 
--- a relay, beside the pairs of all
+-- a relay, with the pairs of all relays
 pub record HoldsFor (network : Network) (put arrived : ℕ → List Message) (pairs : ℕ → List Pair) (m : Moment) : Type 0 where
   pub kept : IsKept m
   pub fair : All (IsFair m.sections) m.pairs
@@ -77,5 +78,5 @@ Holds network w node = HoldsFor network (put_on w node) (coming w node) (pairs_o
 
 pub record AllHold (network : Network) (w : World) : Type 0 where
   pub each : (node : ℕ) → is_node network node ≡ true → Holds network w node
-  -- each point uses a source local reference in one CR or CC at most, on each of its links
+  -- on each of its links, each point uses a source local reference in at most one CR or CC
   pub once : (from to own : ℕ) → number (names own) (put_on w from to) ≤ 1

@@ -1,3 +1,4 @@
+-- The lemmas of this crate, by subject.
 pub mod Counts
 pub mod Holds
 pub mod Lines

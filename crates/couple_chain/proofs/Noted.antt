@@ -13,7 +13,7 @@ use Rattle.couple_chain.specs.Relays.{Relaying, first_relay, relay_after, relay_
 use Rattle.sccp_couple.proofs.Ledger.{carried_near, carried_far}
 use Rattle.couple_chain.proofs.Logs.{logged_after}
 
--- a relay's notes are those of a moment
+-- what a relay notes is that of a moment
 pub record IsNoted (m : Moment) (r : Relaying) : Type 0 where
   pub sections : r.sections ≡ m.sections
   pub passed : IsLogged m.pairs r.passed

@@ -1,4 +1,4 @@
--- what a step leaves of a standing pair, and which messages it sends
+-- what a present pair is after a step, and which messages the step sends
 use Rattle.std.specs.Prelude.{ℕ, ◌≡◌, ◌⊎◌, Bool, true, false, List, [], Some, None, refl}
 use Rattle.std.proofs.Common.{sym, ◌∙◌, ap, subst, ⊎_elim}
 use Rattle.std.proofs.lemmas.Bool.{cases_Bool, ne_eqb}
@@ -22,7 +22,7 @@ use Rattle.couple_chain.proofs.Sending.{to_point_none, plain_none, confirms_plai
 pub none_of_nothing : (p : Message → Bool) (to : ℕ) (sent : List Answer) → sent ≡ [] → number p (messages_to to sent) ≡ 0
 none_of_nothing p to sent h = ap (λ (x : List Answer). number p (messages_to to x)) h
 
--- of a DT1 only DT1 are sent
+-- a DT1 makes a relay send only DT1
 pub only_data : (p : Message → Bool) → ((dlr : ℕ) (more : Bool) (payload : List ℕ) → p (messages.Dt1 dlr more payload) ≡ false) →
     (l : List Section) (event : Event) (dlr : ℕ) (more : Bool) (payload : List ℕ) → event.message ≡ messages.Dt1 dlr more payload → (to : ℕ) → number p (messages_to to (coupled l event).sent) ≡ 0
 only_data p h l event dlr more payload is to =
@@ -33,7 +33,7 @@ only_data p h l event dlr more payload is to =
     (λ (q : Passes l event.origin event.way dlr more payload). ap (λ (x : List Answer). number p (messages_to to x)) q.sent ∙ to_point_none p q.other_section.point to (messages.Dt1 q.remote more payload) (h q.remote more payload))
     (dt1_goes l event.origin event.way dlr more payload))
 
--- what a standing pair's sections are after the step
+-- what the sections of a present pair are after the step
 pub data PairAfter (l : List Section) (event : Event) (p : Pair) (s t now : Section) : Type 0 where
   Same : now.remote ≡ t.remote → (t.remote ≡ None → (to : ℕ) → number (confirms p.near) (messages_to to (coupled l event).sent) ≡ 0) → (t.remote ≡ None → t.point ≡ event.origin → answers p.far event.message ≡ false) → PairAfter l event p s t now
   Gains : (slr class r : ℕ) (params : List Parameter) → event.message ≡ messages.Cc p.far slr class params → t.point ≡ event.origin → t.remote ≡ None → now.remote ≡ Some slr → s.remote ≡ Some r →
@@ -51,7 +51,7 @@ same_at l q s t h k = cc
 none_at : (l : List Section) (q w : ℕ) (s : Section) → section_at l q ≡ Some s → q ≡ w → section_at l w ≡ None → ⊥
 none_at l q w s h e k = let g : section_at l q ≡ None = subst (λ (n : ℕ). section_at l n ≡ None) (sym e) k in cc
 
--- an old section stays where two are put behind
+-- an old section stays when two are added at the end
 old_stays : (l after : List Section) (origin slr to q : ℕ) (s t : Section) → after ≡ with_pair (first_new l) (second_new l) origin slr to l → section_at l q ≡ Some s → section_at after q ≡ Some t → s ≡ t
 old_stays l after origin slr to q s t is h k =
     ⊎_elim

@@ -1,4 +1,4 @@
--- what a relay's step puts on its links, and what of it counts
+-- what a relay's step puts on its links, and how much of it is counted
 use Rattle.std.specs.Prelude.{ℕ, ◌≡◌, ◌<◌, ◌≤◌, ◌==◌, Bool, true, false, cond, ◌&&◌, ◌||◌, List, [], ◌∷◌, length, filter, Option, Some, None, refl}
 use Rattle.std.specs.List.{cons_option}
 use Rattle.std.proofs.Common.{sym, ◌∙◌, ap, subst, ⊎_elim, arith}
@@ -39,7 +39,7 @@ to_point_few p point to m =
     ] in
     omega arith
 
--- only such a message counts, at its point
+-- only a message that passes the test counts, at the point that it goes to
 pub to_point_some : (p : Message → Bool) (point to : ℕ) (m : Message) → 0 < number p (messages_to to (to_one point m)) → (point ≡ to) × (p m ≡ true)
 to_point_some p point to m h =
     let k : 0 < number p (cond (point == to) (m ∷ []) []) = subst (λ (l : List Message). 0 < number p l) (to_point point to m) h in
@@ -97,7 +97,7 @@ pub toward_it : (s : Section) (sent : List Answer) → pieces_for s.remote (mess
 toward_it s [] = refl
 toward_it s (x ∷ xs) = toward_parts s.point s.remote x.to x.message (pieces_toward (Some s) xs) (messages_to s.point xs) (toward_it s xs)
 
--- toward a section without remote goes no DT1
+-- no DT1 goes toward a section without remote
 pub toward_none : (s : Section) (sent : List Answer) → s.remote ≡ None → pieces_toward (Some s) sent ≡ []
 toward_none s sent h = sym (toward_it s sent) ∙ ap (λ (o : Option ℕ). pieces_for o (messages_to s.point sent)) h ∙ nothing (messages_to s.point sent)
   where
@@ -109,7 +109,7 @@ toward_none s sent h = sym (toward_it s sent) ∙ ap (λ (o : Option ℕ). piece
     nothing [] = refl
     nothing (m ∷ ms) = rw (step (data_of m)) (nothing ms)
 
--- A DT1 goes toward this section alone where points and remotes are apart: so toward another one goes nothing.
+-- If points and remotes differ, a DT1 goes only toward this section. So nothing goes toward another one.
 pub other_silent : (l : List Section) → AreApart l → (own other : ℕ) (s : Section) (q : ℕ) → section_at l own ≡ Some s → s.remote ≡ Some q → s.other ≡ Some other → ((d o : ℕ) (t u : Section) → section_at l d ≡ Some t → t.other ≡ Some o → section_at l o ≡ Some u → u.other ≡ Some d) →
     (event : Event) → knows l other event ≡ false → pieces_toward (Some s) (coupled l event).sent ≡ []
 other_silent l away own other s q at has_it joined paired event deaf =

@@ -1,4 +1,4 @@
--- One delivery at a relay: what holds of it before holds after.
+-- One delivery at a relay. What holds before it holds after.
 use Rattle.std.specs.Prelude.{ℕ, ◌≡◌, ◌≢◌, ◌<◌, ◌≤◌, Bool, true, false, not, cond, ◌&&◌, List, [], ◌∷◌, ◌++◌, Option, Some, None, is_some, option_and_then, refl}
 use Rattle.std.specs.List.{cons_option}
 use Rattle.std.proofs.Common.{sym, ◌∙◌, ap, ⊎_elim}
@@ -19,7 +19,7 @@ use Rattle.couple_chain.specs.Line.{pieces_for}
 use Rattle.couple_chain.proofs.Counts.{number, number-or, number-or_right, none_of, has_dlr, carries, answers, no_pieces}
 use Rattle.couple_chain.proofs.Holds.{has_near, early, names_by}
 
--- what the other relays' laws say of the links that end here
+-- what the laws of the other relays say of the links that end here
 pub record Peers (network : Network) (put toward : ℕ → List Message) (pairs : ℕ → List Pair) (m : Moment) : Type 0 where
   pub once : (from q : ℕ) → number (names q) (toward from) ≤ 1
   pub once_here : (to q : ℕ) → number (names q) (put to) ≤ 1
@@ -56,14 +56,14 @@ is_there : (o : Option ℕ) → o ≢ None → is_some o ≡ true
 is_there None h = absurd (h refl)
 is_there (Some n) h = refl
 
--- a section is open where it and its other have a remote
+-- a section is open if both it and its other have a remote
 pub opens : (l : List Section) (own other : ℕ) (s t : Section) → section_at l own ≡ Some s → s.other ≡ Some other → section_at l other ≡ Some t → s.remote ≢ None → t.remote ≢ None → is_open l (section_at l own) ≡ true
 opens l own other s t at joined there one two =
     ap (is_open l) at
     ∙ and_from (is_some s.remote) (has_remote (other_of l s)) (is_there s.remote one)
     (ap has_remote (ap (λ (o : Option ℕ). option_and_then (section_at l) o) joined ∙ there) ∙ is_there t.remote two)
 
--- what the section passes of a message, where it is open to a DT1 that is for it
+-- what the section passes of a message, if it is open to each DT1 that is for it
 pub passes_in : (l : List Section) (own : ℕ) (s : Section) → section_at l own ≡ Some s → (event : Event) → s.point ≡ event.origin → (carries own event.message ≡ true → is_open l (section_at l own) ≡ true) →
     passed_in l own event ≡ pieces_for (Some own) (event.message ∷ [])
 passes_in l own s at event from opened =
@@ -87,14 +87,14 @@ passes_in l own s at event from opened =
     (cases_eq dlr own))
     opened
 
--- a message from elsewhere isn't passed
+-- a message from elsewhere is not passed
 pub passes_not : (l : List Section) (own : ℕ) (s : Section) → section_at l own ≡ Some s → (event : Event) → (s.point ≡ event.origin → ⊥) → passed_in l own event ≡ []
 passes_not l own s at event from =
     let known_is : known l event.origin own ≡ None = ap (λ (o : Option Section). option_and_then (if_from event.origin) o) at ∙ ap (λ (b : Bool). cond b (Some s) None) (ne_eqb s.point event.origin from) in
     ap (λ (o : Option Section). cond ((is_that (dlr_of event.message) own && is_some o) && is_open l (section_at l own)) (piece_of (data_of event.message)) []) known_is
     ∙ elim (is_that (dlr_of event.message) own) as (λ b. cond ((b && false) && is_open l (section_at l own)) (piece_of (data_of event.message)) [] ≡ []) [ true ↦ refl | false ↦ refl ]
 
--- what isn't a DT1 sends none
+-- a message other than a DT1 sends no DT1
 pub quiet_sent : (l : List Section) (own other : ℕ) (event : Event) → data_of event.message ≡ None → sent_in l own other event ≡ []
 quiet_sent l own other event none =
     ap (λ (x : List Piece). cond (knows l other event) x []) (quiet_toward (section_at l own) (coupled l event).sent (quiet l event.origin event.way event.message none))

@@ -28,7 +28,7 @@ is_plain _ = true
 abbrev pub ArePlain : List Answer → Type 0
 ArePlain sent = Each (λ (s : Answer). is_plain s.message ≡ true) sent
 
--- each section stood before, with the same side, point and remote
+-- each section was there before, with the same side, point and remote
 abbrev pub Loses : List Section → List Section → Type 0
 Loses l m = (q : ℕ) (t : Section) → section_at m q ≡ Some t → (s : Section) × (section_at l q ≡ Some s) × (t.near ≡ s.near) × (t.point ≡ s.point) × (t.remote ≡ s.remote)
 

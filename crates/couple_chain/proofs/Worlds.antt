@@ -1,4 +1,4 @@
--- What holds of every world in which no relay gave one own reference to two sections.
+-- What holds in every world in which no relay gave one own reference to two sections.
 use Rattle.std.specs.Prelude.{ℕ, ◌≡◌, ◌≤◌, ◌==◌, ◌⊎◌, Bool, true, false, not, cond, ◌&&◌, ◌||◌, List, [], ◌∷◌, ◌++◌, length, filter, Option, Some, None, is_some, refl}
 use Rattle.std.specs.List.{list_any}
 use Rattle.std.proofs.Common.{sym, ◌∙◌, ap, subst, ⊎_elim, inl, inr, arith, append_assoc}
@@ -6,7 +6,7 @@ use Rattle.std.proofs.lemmas.Bool.{not-false, cases_Bool, cases_eq, eq-eqb, eqb-
 use Rattle.std.proofs.lemmas.List.Elements.{All-nil}
 use Rattle.sccp_message.specs.declared.message.Message.{Message}
 use Rattle.sccp_message.specs.declared.message.Message.TheVariants as messages
-use Rattle.sccp_scrc.specs.Unitdata.{called_of}
+use Rattle.sccp_message.specs.Unitdata.{called_of}
 use Rattle.sccp_couple.specs.declared.section.Section.{Section}
 use Rattle.sccp_couple.specs.Sections.{is_that, section_at}
 use Rattle.sccp_couple.specs.Events.{Event}
@@ -72,7 +72,7 @@ starts network =
     nothing : (own : ℕ) (s : Section) → section_at [] own ≡ Some s → ⊥
     nothing own s h = cc
 
--- the oldest message leaves its link, and stands in what arrived
+-- the oldest message leaves its link, and is then among those that arrived
 pub put_left : (w : World) (from to : ℕ) (message : Message) (rest : List Message) → w.waiting from to ≡ message ∷ rest → (a b : ℕ) → put_on (left w from to message rest) a b ≡ put_on w a b
 put_left w from to message rest h a b =
     elim ((a == from) && (b == to)) as (λ x. ((a == from) && (b == to)) ≡ x → cond x (w.arrived from to ++ message ∷ []) (w.arrived a b) ++ cond x rest (w.waiting a b) ≡ w.arrived a b ++ w.waiting a b) [
@@ -112,7 +112,7 @@ moment_here w node event = ap (λ (x : Bool). cond x (coupling.happens (w.moment
 pub moment_there : (w : World) (node : ℕ) (event : Event) (n : ℕ) → (n ≡ node → ⊥) → (handled w node event).moments n ≡ w.moments n
 moment_there w node event n e = ap (λ (x : Bool). cond x (coupling.happens (w.moments node) event) (w.moments n)) (ne_eqb n node e)
 
--- references given stay given
+-- references that were given stay given
 times_more : (m : Moment) (event : Event) (own : ℕ) → times own (given m) ≤ times own (given (coupling.happens m event))
 times_more m event own =
     let a = times_both own m.pairs in
@@ -225,7 +225,7 @@ accepted_parts network w from to message h =
     let parts = none_by (is_node network from) (not (is_node network to)) (is_some (called_of message)) (uses_again network w from (name_of message)) (not (is_writable message)) h in
     (parts.0, not-false (is_node network to) parts.1, parts.3)
 
--- a message names a reference where that is the one that it has
+-- a message names a reference exactly if that is its source local reference
 pub named_by : (own : ℕ) (message : Message) → names own message ≡ is_that (name_of message) own
 named_by own (messages.Cr slr class called params) = or_false (slr == own)
   where

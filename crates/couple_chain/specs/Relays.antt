@@ -1,4 +1,4 @@
--- What a running relay keeps beside its sections, and what a message leaves of it.
+-- What a running relay keeps besides its sections, and what it is after a message.
 use Rattle.std.specs.Prelude.{ℕ, List, [], ◌∷◌, ◌++◌, flat_map}
 use Rattle.sccp_message.specs.declared.message.Message.{Message}
 use Rattle.sccp_couple.specs.declared.section.Section.{Section}
@@ -17,13 +17,15 @@ pub record Relaying : Type 0 where
   pub passed : List Passed
   pub given : List ℕ
 
--- a message from a point, and what the relay makes of it where it is a connection request
+-- a message from a point, and what the relay makes of it if it is a connection request
 abbrev pub event_with : ℕ → Message → Way → Event
 event_with origin message way = record { origin = origin; message = message; way = way }
 
+-- a relay to which nothing has happened
 abbrev pub first_relay : ℕ → Relaying
 first_relay node = record { node = node; sections = []; passed = []; given = [] }
 
+-- a relay after one event
 abbrev pub relay_after : Relaying → Event → Relaying
 relay_after r event = record {
   node = r.node;

@@ -1,12 +1,13 @@
+//! The result of one delivery of a link.
 use sccp_message::Message;
 
-/// What a link's delivery comes to.
+/// What a delivery of a link did.
 #[derive(Drop)]
 pub enum Delivered {
     /// The link holds no message.
     Nothing,
     /// A relay took the message, and what it answered is on its links.
     Handled,
-    /// An end is handed this message.
+    /// The link leads to an end, which is handed this message.
     Out(Message),
 }

@@ -1,9 +1,9 @@
 //! Chains of coupled relays: connections over several relays, whose links keep order (Q.714 section 3).
 //!
-//! A world is what offers of ends and deliveries of links, one after another, leave of the relays and their links. The layer
-//! above may rely on the laws of `laws`, which hold of every list of happenings, whatever the order in which the links
-//! deliver: what leaves a connection at one end is the beginning of what entered it at the other, and all of it where no
-//! link holds a message.
+//! A world is the state of all relays and links after offers of ends and deliveries of links, one after another. The layer
+//! above may rely on the laws in `laws`. They hold for every list of happenings, whatever the order in which the links
+//! deliver. What leaves a connection at one end is the beginning of what entered it at the other. If no link holds a message,
+//! it is all of that.
 #![tactic(auto)]
 
 mod delivered;

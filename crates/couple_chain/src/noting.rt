@@ -18,7 +18,7 @@ use sccp_couple::Exchange;
 use sccp_message::Message;
 use std::alloc::Global;
 
-/// Whether data from this point with this destination reference are known to an established section.
+/// Whether data from this point with this destination reference belong to an established section.
 fn is_passed(exchange: &Exchange, origin: PointCode, dlr: Reference) -> bool
     ensures { result ≡ (is_some (known exchange.now.sections origin dlr) && is_open exchange.now.sections (section_at exchange.now.sections dlr)) }
 {
@@ -28,7 +28,7 @@ fn is_passed(exchange: &Exchange, origin: PointCode, dlr: Reference) -> bool
     }
 }
 
-/// Data that were passed on.
+/// Notes data that were passed on.
 fn log_one(
     alloc: Global,
     passed: &mut Vec<Passed>,
@@ -44,7 +44,7 @@ fn log_one(
     Ok(())
 }
 
-/// What a message adds to what was passed on.
+/// Notes the data of a message, if a section passes them on.
 fn log(
     alloc: Global,
     passed: &mut Vec<Passed>,
@@ -67,14 +67,14 @@ fn log(
     }
 }
 
-/// A new pair has passed nothing on.
+/// Removes what earlier sections with these references passed on, since a new pair has passed nothing.
 fn forget(passed: &mut Vec<Passed>, near: Reference, far: Reference)
     ensures { passed.new.items ≡ filter (is_of_others (new_pair near far)) passed.old.items }
 {
     passed.retain(|e| !(e.own == near) && !(e.own == far));
 }
 
-/// Two references were given.
+/// Notes two references that were given, or reports lack of memory and notes none.
 fn give(given: &mut Vec<Reference>, near: Reference, far: Reference) -> Result<(), OutOfMemory>
     ensures ok { OnOk result (given.new.items ≡ given.old.items ++ near ∷ far ∷ []) }
     ensures err { OnErr result (given.new.items ≡ given.old.items) }
@@ -89,7 +89,7 @@ fn give(given: &mut Vec<Reference>, near: Reference, far: Reference) -> Result<(
     }
 }
 
-/// How many sections there are.
+/// The number of sections.
 fn count_of(exchange: &Exchange) -> usize
     ensures value { result ≡ length exchange.now.sections }
     ensures kept { IsCoupling exchange.now.sections }
@@ -105,7 +105,7 @@ fn own_at(exchange: &Exchange, place: usize) -> Reference
     exchange.sections().as_slice()[place].own
 }
 
-/// What is noted of a message that led from the one coupling to the other. Where the sections became more, the two last ones
+/// Notes what a message did that led from the one coupling to the other. If there are more sections than before, the last two
 /// are a new pair.
 pub(crate) fn note(
     alloc: Global,

@@ -1,3 +1,4 @@
+//! The causes for which an end's offer is refused.
 ghost use Rattle.std.specs.Prelude.{◌≡◌};
 ghost use Rattle.couple_chain.specs.declared.offer_fault.OfferFault.TheVariants as faults;
 
@@ -7,21 +8,22 @@ use thiserror::Error;
 /// Why an offer is refused, in the order of testing.
 #[derive(Clone, Copy, Debug, Error)]
 pub enum OfferFault {
-    /// The point that the message comes from is a relay's.
+    /// The point that offers the message is a relay's.
     #[error("the message comes from a relay")]
     NotAnEnd,
-    /// The point that it goes to is no relay's.
+    /// The point that the message goes to is not a relay's.
     #[error("the message goes to an end")]
     NotANode,
-    /// It is no connection-oriented message.
+    /// The message is not connection-oriented.
     #[error("the message is connectionless")]
     Connectionless,
-    /// A request or confirmation whose source local reference an earlier accepted one from this point had.
+    /// A CR or CC whose source local reference was in an earlier accepted CR or CC from this point.
     #[error("the source local reference was used before")]
     UsedReference,
-    /// What would be written of it doesn't fit its lengths and pointers, or doesn't read.
+    /// The message does not fit its lengths and pointers, or its octets would not read.
     #[error("the message can't be written")]
     NotWritable,
+    /// There is not enough memory to keep the message.
     #[error("out of memory")]
     OutOfMemory,
 }

@@ -1,3 +1,4 @@
+//! One relay of a chain: its coupling, and its record of data and references.
 ghost use Rattle.std.specs.Prelude.{◌≡◌, ◌<◌, map, length, IfOk, OnOk, OnErr};
 ghost use Rattle.sccp_couple.specs.Coupling.{coupled};
 ghost use Rattle.sccp_couple.specs.Sending.{written_sent, HasShortParts};
@@ -15,7 +16,7 @@ use sccp_message::Message;
 use std::alloc::Global;
 use std::marker::Model;
 
-/// What a message makes of a relay's coupling, and what is sent.
+/// What a message makes of a relay's coupling, and the messages that are to be sent.
 #[derive(Drop)]
 pub struct Prepared {
     pub exchange: Exchange,
@@ -40,7 +41,7 @@ impl Model for Relay {
 }
 
 impl Relay {
-    /// A relay without sections, given by its place in the plan. It takes no memory.
+    /// A relay without sections. The relay is given by its place in the plan. This takes no memory.
     pub fn new(alloc: Global, node: u8) -> Relay
         ensures { result ≡ first_relay node }
     {
@@ -52,8 +53,8 @@ impl Relay {
         }
     }
 
-    /// What a connection-oriented message from a point makes of the coupling, and what is sent. The relay stays as it is: it
-    /// has taken the message only once `commit` took what this answers.
+    /// What a connection-oriented message from a point makes of the coupling, and what is to be sent. The relay stays as it
+    /// is: it has taken the message only once `commit` has been given the result. The only error is lack of memory.
     pub fn prepare(
         &self,
         plan: &Plan,
@@ -72,8 +73,8 @@ impl Relay {
         Ok(Prepared { exchange, sent })
     }
 
-    /// The relay has the coupling that a message made, and notes what its sections passed on and the references that it gave.
-    /// An error is want of memory, and leaves the relay as it was.
+    /// Takes the coupling that `prepare` made of a message, and notes the data that sections passed on and the references
+    /// that were given. The only error is lack of memory; it leaves the relay as it was.
     pub fn commit(
         &mut self,
         exchange: Exchange,
@@ -97,21 +98,22 @@ impl Relay {
         Ok(())
     }
 
-    /// The sections, in the order in which they were made, of a pair the near one first.
+    /// The sections in the order in which they were made. Of each pair the near one is first.
     pub fn sections(&self) -> &List<Section>
         ensures { result.now ≡ self.now.sections }
     {
         self.exchange.sections()
     }
 
-    /// The data that the sections passed on, in order. Of a standing pair's sections they are all that these passed.
+    /// The data that the sections passed on, in order. For the sections of a pair that is still there, this is all that they
+    /// passed.
     pub fn passed(&self) -> &[Passed]
         ensures { result.now ≡ self.now.passed }
     {
         self.passed.as_slice()
     }
 
-    /// The own references that it gave, each as often as it gave it.
+    /// The own references that the relay gave, each as often as it gave it.
     pub fn given(&self) -> &[Reference]
         ensures { result.now ≡ self.now.given }
     {

@@ -36,7 +36,7 @@ some_three : {A : Type 0} (o : Option A) (P Q R : A → Type 0) → IfSome o P �
 some_three None P Q R p q r = absurd q
 some_three (Some x) P Q R p q r = (x, p, q, r)
 
--- what is written back over a whole list is that
+-- a list written back over a whole list of its length is the result
 pub whole_back : {A : Type 0} (xs ys : List A) → length ys ≡ length xs → take (length xs) (ys ++ drop (length ys) xs) ≡ ys
 whole_back [] [] e = refl
 whole_back [] (y ∷ ys) e = absurd (omega (arith, e))
@@ -90,7 +90,7 @@ module _ {P : Type 0} {g : Ghosts P} where
     pub follows_through : (plans : List Verified) → Follows plans v → Follows plans x
     follows_through plans f = (goes_same v w x h.goes_on k).follows plans f
 
-  -- what workers keep after a batch they learned in it
+  -- what workers keep after a batch is what they learned in it
   pub by_events : (before after : List Verified) (ws ws' : List (Worker P g)) → IsPrefix before after → AllPairs (Lasts (length before)) ws ws' → ((i : ℕ) (d : Worker P g) → i < length ws → Follows after (get_or ws' i d)) → IsByEvents before after ws ws'
   by_events before after ws ws' begins lasts follows valid =
       batch_leads (λ (w : Worker P g). w.kept.number) before after ws ws' begins lasts.long

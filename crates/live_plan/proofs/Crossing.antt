@@ -27,7 +27,7 @@ use Rattle.live_plan.specs.contracts.rule.ByBatchProtocolPublishedKnown.TheImpl.
 use Rattle.live_plan.specs.contracts.teller.Teller as Teller
 use Rattle.live_plan.specs.contracts.worker.Worker as Worker
 
--- a struct may where each of its fields may
+-- a struct may cross if each of its fields may
 pub declared_send : (T : Declared) → AllSend (fields T) → IsSend (row T)
 declared_send T all = recorded_send (Struct (shape T)) T.D T.to T.to_one (struct_send (shape T) all)
 
@@ -59,6 +59,6 @@ teller_send =
 pub plans_send : IsSend (Deque Accepted Global the_global)
 plans_send = Deque-send Accepted accepted_send
 
--- a closure of four captures may where each of them may
+-- a closure of four captures may cross if each of them may
 pub captures_send : (name : List ℕ) (A B C D : RattleType) → IsSend A → IsSend B → IsSend C → IsSend D → IsSend (TupleAt name (A ∷ B ∷ C ∷ D ∷ []))
 captures_send name A B C D a b c d = declared_send (type_at name (A ∷ B ∷ C ∷ D ∷ [])) (a, (b, (c, (d, tt))))

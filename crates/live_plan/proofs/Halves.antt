@@ -7,7 +7,7 @@ use Rattle.std.proofs.lemmas.List.{get_or_append_left, get_or-append-add, get_or
 use Rattle.std.proofs.lemmas.Bool.{cases_lt}
 
 module _ {X : Type 0} where
-  -- the items behind them
+  -- the items after the first ones
   pub each_behind : (P : ℕ → X → Type 0) (base n : ℕ) (all xs ys : List X) → all ≡ xs ++ ys → length xs ≡ n
       → ((k : ℕ) (d : X) → k < length all → P (base + k) (slice_index_or all k d))
       → (k : ℕ) (d : X) → k < length ys → P (base + n + k) (slice_index_or ys k d)

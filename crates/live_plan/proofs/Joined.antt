@@ -15,14 +15,14 @@ use Rattle.live_plan.proofs.Passed.{get_map}
 pub All-remove : {A : Type 0} (P : A → Type 0) (xs : List A) (i : ℕ) → All P xs → All P (remove xs i)
 All-remove P xs i all = All-append P (take i xs) (drop (suc i) xs) (All-take P i xs all) (All-drop P (suc i) xs all)
 
--- the items of the last list are put behind those that were taken so far
+-- the items of the last list are added after those that were taken so far
 pub all_taken : {A : Type 0} (P : A → Type 0) (lists left : List (List A)) (last taken more : List A) → lists ≡ left ++ last ∷ [] → more ≡ taken ++ last → All (λ l. All P l) lists × All P taken → All (λ l. All P l) left × All P more
 all_taken P lists left last taken more e f all =
     let both = All-pop (λ l. All P l) lists left (Some last) e all.0 in
     (both.0, subst (All P) (sym f) (All-append P taken last all.1 both.1))
 
 module _ {A B : Type 0} (f : A → B) where
-  -- so many of the first, and those that are left
+  -- the first of them, and those that are left, are all
   pub all_of_them : (xs : List A) (ys : List B) → ys ≡ map f (take (length ys) xs) → ys ++ map f (drop (length ys) xs) ≡ map f xs
   all_of_them xs ys is = ap (λ l. l ++ map f (drop (length ys) xs)) is ∙ sym (map-append f (take (length ys) xs) (drop (length ys) xs)) ∙ ap (map f) (take-append-drop (length ys) xs)
 
@@ -31,7 +31,7 @@ module _ {A B : Type 0} (f : A → B) where
       let long : length ys ≡ min (length ys) (length xs) = ap length is ∙ length-map (take (length ys) xs) f ∙ length-take (length ys) xs in
       omega (arith, long)
 
-  -- the first so many, and so many behind them
+  -- two parts, one after the other, from the beginning
   pub two_parts : (xs : List A) (ys zs : List B) → ys ≡ map f (take (length ys) xs) → zs ≡ map f (take (length zs) (drop (length ys) xs)) → ys ++ zs ≡ map f (take (length (ys ++ zs)) xs)
   two_parts xs ys zs first then =
       let n = length ys in
@@ -40,7 +40,7 @@ module _ {A B : Type 0} (f : A → B) where
       let parts : take n xs ++ take m (drop n xs) ≡ take (n + m) xs = ap (λ l. l ++ take m (drop n xs)) (sym front) ∙ ap (λ l. take n (take (n + m) xs) ++ l) (sym (drop-take n m xs)) ∙ take-append-drop n (take (n + m) xs) in
       ap (λ l. l ++ zs) first ∙ ap (λ l. map f (take n xs) ++ l) then ∙ sym (map-append f (take n xs) (take m (drop n xs))) ∙ ap (map f) parts ∙ ap (λ k. map f (take k xs)) (sym (length-append ys zs))
 
--- what each item gives alike
+-- a value that all items give is that of each of them
 alike : {A B : Type 0} (f : A → B) (g : B → ℕ) (n : ℕ) → ((x : A) → g (f x) ≡ n) → (xs : List A) (i : ℕ) (y : B) → slice_get (map f xs) i ≡ Some y → g y ≡ n
 alike f g n each [] i y at = absurd cc
 alike f g n each (x ∷ xs) zero y at = let is : f x ≡ y = cc at in sym (ap g is) ∙ each x

@@ -8,7 +8,7 @@ use Rattle.plan_check.specs.Verified.{Verified}
 use Rattle.live_plan.proofs.Prefixes.{prefix_self, prefix_trans}
 use Rattle.live_plan.specs.Machine.{Machine, Event, Publish, Enter, Learn, IsValid, MayCome, MayAllCome, IsLater, IsOfBatch, LeadsTo, after_event, after_events, with_number}
 
--- where one number is set to no less, each number is no less
+-- if one number is set to no less, each number is no less
 number_le-set : (numbers : List ℕ) (worker n at : ℕ) → slice_index numbers worker ≤ n → slice_index numbers at ≤ slice_index (slice_set numbers worker n) at
 number_le-set [] worker n at le = le_refl _
 number_le-set (x ∷ xs) zero n zero le = le
@@ -16,7 +16,7 @@ number_le-set (x ∷ xs) zero n (suc at) le = le_refl _
 number_le-set (x ∷ xs) (suc worker) n zero le = le_refl _
 number_le-set (x ∷ xs) (suc worker) n (suc at) le = number_le-set xs worker n at le
 
--- where each number and the new one are within a bound, so is each afterwards
+-- if each number and the new one are within a bound, so is each afterwards
 set_le : (numbers : List ℕ) (worker n at most : ℕ) → ((w : ℕ) → slice_index numbers w ≤ most) → n ≤ most → slice_index (slice_set numbers worker n) at ≤ most
 set_le [] worker n at most all le = all at
 set_le (x ∷ xs) zero n zero most all le = le
@@ -98,7 +98,7 @@ learned_at : (front xs : List ℕ) (x y : ℕ) → x ≤ y → slice_set (front 
 learned_at [] xs x y le = let e : max x y ≡ y = omega arith in ap (λ (n : ℕ). n ∷ xs) e
 learned_at (f ∷ front) xs x y le = ap (λ (ns : List ℕ). f ∷ ns) (learned_at front xs x y le)
 
--- each worker behind the first ones learns its number
+-- each worker after the first ones learns its number
 learned : (plans : List Verified) (front xs ys : List ℕ) → Rise (length plans) xs ys → LeadsTo (made_of plans (front ++ xs)) (made_of plans (front ++ ys))
 learned plans front [] [] rise = stays (made_of plans (front ++ []))
 learned plans front [] (y ∷ ys) rise = absurd rise

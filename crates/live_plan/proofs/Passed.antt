@@ -52,7 +52,7 @@ has_end xs n x h = (take_length xs n (has_within xs n x h), has_taken xs n x h)
 pub has_nodes : (nodes : ℕ) (xs : List Verified) (n : ℕ) (x : Verified) → HaveNodes nodes xs → HasPlan xs n x → nodes_of x ≡ nodes
 has_nodes nodes xs n x all h = all (n - 1) x h.1
 
--- what stands in a list with one more item at the end
+-- what a list with one more item at the end has at each place
 pub get_snoc : {A : Type 0} (xs : List A) (x : A) (i : ℕ) (y : A) → slice_get (xs ++ x ∷ []) i ≡ Some y → (slice_get xs i ≡ Some y) ⊎ ((i ≡ length xs) × (x ≡ y))
 get_snoc [] x zero y at = inr (refl, cc at)
 get_snoc [] x (suc i) y at = absurd cc
@@ -63,13 +63,13 @@ pub get_behind : {A : Type 0} (xs rest : List A) (x : A) → slice_get (xs ++ x 
 get_behind [] rest x = refl
 get_behind (y ∷ ys) rest x = get_behind ys rest x
 
--- the plan behind so many
+-- the plan after the first ones
 has_behind : (xs rest : List Verified) (x : Verified) → HasPlan (xs ++ x ∷ rest) (length xs + 1) x
 has_behind xs rest x =
     let same : length xs + 1 - 1 ≡ length xs = omega arith in
     (omega arith, subst (λ k. slice_get (xs ++ x ∷ rest) k ≡ Some x) (sym same) (get_behind xs rest x))
 
--- the first of those that are to come
+-- the first of the plans that are to be published
 pub has_due : (due plans items rest : List Verified) (next : Verified) → due ≡ plans ++ items → items ≡ next ∷ rest → HasPlan due (length plans + 1) next
 has_due due plans items rest next all here = subst (λ l. HasPlan l (length plans + 1) next) (sym (all ∙ ap (λ l. plans ++ l) here)) (has_behind plans rest next)
 

@@ -1,4 +1,4 @@
--- How a share of a batch goes on by one job.
+-- How a share of a batch goes on with one job.
 use Rattle.std.proofs.Common.{◌≡◌, ℕ, ◌+◌, ◌*◌, ◌≤◌, suc, List, [], ◌∷◌, ◌++◌, length, slice_get, Option, Some, None, refl, sym, ap, ◌∙◌, subst, inl, inr, ⊎_elim, le_refl, le_trans, arith, length-append}
 use Rattle.std.proofs.Math.Nat.{suc-mul}
 use Rattle.std.proofs.lemmas.Option.{slice_get_within}
@@ -19,7 +19,7 @@ pub rose_less : (a b c : ℕ) → a ≤ b → Rose b c → Rose a c
 rose_less a b c le (inl lt) = inl (omega arith)
 rose_less a b c le (inr e) = inr e
 
--- where a list is told, what is kept then is of it; where none is, it stayed
+-- if a place reports its list, what is kept then is of that list; if not, what is kept has stayed
 follows_at : (o : Option (List Verified)) (plans : List Verified) (n n' seen : ℕ) (p p' : Verified) → IfSome o (λ l. (n' ≡ seen) × HasPlan l n' p') → (o ≡ None → (n' ≡ n) × (p' ≡ p)) → ForSome o (λ l. l ≡ plans) → HasPlan plans n p → HasPlan plans n' p'
 follows_at None plans n n' seen p p' m same told has = let e = same refl in rw e.0 (rw e.1 has)
 follows_at (Some l) plans n n' seen p p' m same told has = subst (λ x. HasPlan x n' p') (told l refl) m.1

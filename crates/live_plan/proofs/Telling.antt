@@ -16,7 +16,7 @@ use Rattle.live_plan.proofs.Passed.{has_within, has_more, has_taken, have_one, t
 abbrev pub shown_next : Shown → Published → Shown
 shown_next s op = arc_value op.shown
 
--- the last operation alone counts
+-- only the last operation counts
 pub last_shown : (x s : Shown) (all ops : List Published) (op : Published) → x ≡ fold shown_next s all → all ≡ ops ++ op ∷ [] → x ≡ arc_value op.shown
 last_shown x s all ops op is pending = is ∙ (ap (fold shown_next s) pending ∙ fold-append shown_next s ops (op ∷ []))
 
@@ -45,7 +45,7 @@ take_next (y ∷ ys) zero x at = let same : y ≡ x = cc at in ap (λ z. z ∷ [
 take_next (y ∷ ys) (suc n) x at = ap (λ zs. y ∷ zs) (take_next ys n x at)
 
 module _ (nodes : ℕ) (s : Shown) (v : Known) (y : Shown) (t : IsTelling nodes s v) where
-  -- so many plans are published
+  -- the number of published plans
   pub seen_length : length (seen_of v) ≡ s.number
   seen_length = let within = has_within v.plans s.number (arc_value s.plan) t.plan_is in let e = t.number_is in sym (take_length v.plans v.number (omega arith)) ∙ e
 
@@ -92,7 +92,7 @@ module _ (nodes : ℕ) (s : Shown) (v : Known) (y : Shown) (t : IsTelling nodes 
         let before : y.number - 1 ≡ v.number = omega arith in
         ap (λ k. take k v.plans) n ∙ take_next v.plans v.number (arc_value y.plan) (subst (λ k. slice_get v.plans k ≡ Some (arc_value y.plan)) before here.1)
 
--- the first plan alone
+-- the list of only the first plan
 pub first_here : (y : Shown) (first : Verified) → y.number ≡ 1 → y.coming.value ≡ first ∷ [] → arc_value y.plan ≡ first → HasPlan (seen_of newcomer ++ y.coming.value) y.number (arc_value y.plan)
 first_here y first number coming plan = rw number (rw coming (rw plan (omega arith, refl)))
 
@@ -105,6 +105,6 @@ first_telling nodes y first number coming plan same = record {
   bounded = let e = ap length coming in omega (arith, e);
 }
 
--- what an answer that is Ok tells
+-- what follows from an answer that is Ok
 pub ok_match : {A E : Type 0} (r : Result A E) (P : A → Type 0) (Q : E → Type 0) (x : A) → r ≡ Ok x → MatchResult r P Q → P x
 ok_match r P Q x is h = subst (λ o. MatchResult o P Q) is h

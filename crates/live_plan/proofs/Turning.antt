@@ -35,7 +35,7 @@ set_kept s views seat w k mine = record { plans = k.plans; begun = k.begun; here
 abbrev snoc_kept : (s : Shown) (views : List Known) (w : Known) → (k : Kept s views) → Fits s k.plans w → Kept s (views ++ w ∷ [])
 snoc_kept s views w k mine = record { plans = k.plans; begun = k.begun; here = k.here; each = snoc_fits s k.plans views w k.each mine }
 
--- where a batch begins, no view is of it
+-- when a batch begins, no view is of it
 old_fits : (x y : Shown) (plans other : List Verified) (u : Known) → x.batch < y.batch → Fits x plans u → Fits y other u
 old_fits x y plans other u lt f =
     let earlier = f.earlier in record {
@@ -44,7 +44,7 @@ old_fits x y plans other u lt f =
       within = λ e. absurd (omega (arith, e));
     }
 
--- in the same batch more is published
+-- in the same batch, more is published
 more_fits : (x y : Shown) (plans : List Verified) (u : Known) → x.batch ≡ y.batch → x.number ≤ y.number → Fits x plans u → Fits y plans u
 more_fits x y plans u same le f = record {
   earlier = subst (λ n. u.batch ≤ n) same f.earlier;

@@ -1,4 +1,4 @@
--- What a batch of jobs leaves.
+-- What a batch of jobs leads to.
 use Rattle.std.specs.Prelude.{◌≡◌, ◌⊎◌, ℕ, ◌+◌, ◌*◌, ◌%◌, ◌<◌, ◌≤◌, List, length, map, slice_get, slice_index_or, Some, IfSome}
 use Rattle.std.specs.Option.{ForSome}
 use Rattle.plan_check.specs.Verified.{Verified}
@@ -18,13 +18,15 @@ pub record IsServed (plans : List Verified) (states : List State) (job : Job) (s
   pub has : HasPlan plans s.number plan
   pub journey : s.journey ≡ journey_under plan states job
 
--- The answers of a share, so far: that of every count-th job, from the share's own one on. The numbers lie between two, and never fall
+-- The answers of a share, so far: those of every count-th job, from the share's own one on. The numbers lie between two
+-- bounds, and never fall.
 pub record IsShare (plans : List Verified) (states : List State) (jobs : List Job) (count share from upto : ℕ) (answers : List Served) : Type 0 where
   pub each : (r : ℕ) (job : Job) (s : Served) → slice_get jobs (r * count + share) ≡ Some job → slice_get answers r ≡ Some s → IsServed plans states job s
   pub within : (r : ℕ) (s : Served) → slice_get answers r ≡ Some s → (from ≤ s.number) × (s.number ≤ upto)
   pub rising : (q r : ℕ) (s t : Served) → q ≤ r → slice_get answers q ≡ Some s → slice_get answers r ≡ Some t → s.number ≤ t.number
 
--- The answers of a batch: one for each job, in order, under a plan of the list, no earlier one than the batch began with. In a share, which is the jobs of equal index modulo the count, the numbers never fall
+-- The answers of a batch: one for each job, in order, under a plan of the list. That is no earlier one than at the beginning.
+-- In a share, which is the jobs of equal index modulo the count, the numbers never fall.
 pub record AreServed (plans : List Verified) (states : List State) (jobs : List Job) (count from : ℕ) (answers : List Served) : Type 0 where
   pub long : length answers ≡ length jobs
   pub each : (i : ℕ) (job : Job) (s : Served) → slice_get jobs i ≡ Some job → slice_get answers i ≡ Some s → IsServed plans states job s × (from ≤ s.number)
@@ -36,12 +38,12 @@ pub record AllPairs {A : Type 0} (R : A → A → Type 0) (xs ys : List A) : Typ
   pub each : (i : ℕ) (d : A) → i < length xs → R (slice_index_or xs i d) (slice_index_or ys i d)
 
 module _ {P : Type 0} {g : Ghosts P} where
-  -- a worker keeps a plan of the list, which is the one that its place tells, if any
+  -- a worker keeps a plan of the list, which is the list that its place reports, if any
   pub record Follows (plans : List Verified) (w : Worker P g) : Type 0 where
     pub told : ForSome (g.plans w.place) (λ l. l ≡ plans)
     pub has : HasPlan plans w.kept.number (entry_plan w.kept)
 
-  -- what stays of a worker, and what doesn't fall: its number doesn't where it was at most n
+  -- what stays of a worker, and what does not fall; its number does not fall if it was at most n
   pub record Lasts (n : ℕ) (w w' : Worker P g) : Type 0 where
     pub index : w'.index ≡ w.index
     pub nodes : g.nodes w'.place ≡ g.nodes w.place
@@ -49,7 +51,7 @@ module _ {P : Type 0} {g : Ghosts P} where
     pub refusals : g.refusals w.place ≤ g.refusals w'.place
     pub number : w.kept.number ≤ n → w.kept.number ≤ w'.kept.number
 
-  -- what one job leaves of a worker
+  -- what a worker is after one job
   pub record GoesOn (w w' : Worker P g) : Type 0 where
     pub lasts : (n : ℕ) → Lasts n w w'
     pub rises : w.kept.number ≤ w'.kept.number
@@ -65,14 +67,14 @@ module _ {P : Type 0} {g : Ghosts P} where
     pub place : w'.place ≡ w.place
     pub kept : w'.kept ≡ w.kept
 
-  -- a worker served its share, and keeps the answers unless memory was wanting
+  -- a worker served its share, and keeps the answers unless memory was lacking
   pub record HasServed (states : List State) (jobs : List Job) (count share : ℕ) (w w' : Worker P g) : Type 0 where
     pub goes_on : GoesOn w w'
     pub counted : share < length jobs → Counted w w'
     pub enough : IfSome w'.answers (λ q. length jobs ≤ length q.items * count + share)
     pub served : IfSome w'.answers (λ q. (plans : List Verified) → Follows plans w → IsShare plans states jobs count share w.kept.number w'.kept.number q.items)
 
-  -- a new worker, with so many plans published
+  -- a new worker, when n plans are published
   pub record IsHired (plans : List Verified) (n nodes index : ℕ) (w : Worker P g) : Type 0 where
     pub index_is : w.index ≡ index
     pub nodes_are : g.nodes w.place ≡ nodes
@@ -83,6 +85,7 @@ module _ {P : Type 0} {g : Ghosts P} where
   abbrev pub machine_of : List Verified → List (Worker P g) → Machine
   machine_of plans workers = record { plans = plans; numbers = map (λ w. w.kept.number) workers }
 
-  -- where no worker kept a plan of a higher number than the last one's, publications and workers that learn of them lead from the plans and numbers of before to those of after
+  -- If no worker kept a plan with a higher number than the last one's, the batch is a list of events. Publications, and
+  -- workers that learn of them, lead from the plans and numbers before to those after.
   abbrev pub IsByEvents : List Verified → List Verified → List (Worker P g) → List (Worker P g) → Type 0
   IsByEvents before after workers workers' = IsValid (machine_of before workers) → LeadsTo (machine_of before workers) (machine_of after workers')

@@ -1,3 +1,4 @@
+-- The definitions of the live plan: its events, its plans, its workers, batches and blocks.
 pub mod Machine
 pub mod Plans
 pub mod Entries

@@ -14,7 +14,7 @@ use Rattle.live_plan.specs.Plans.{HasPlan, HaveNodes}
 abbrev pub known_by : Seat (Option (Part Published)) (Doing Published Known) → Known
 known_by place = view place
 
--- a reader knows this batch, so many of its plans are passed, and each has so many nodes
+-- a reader knows this batch, `passed` of its plans have been seen, and each plan has this number of nodes
 pub record HasPassed (nodes batch passed : ℕ) (v : Known) : Type 0 where
   pub batch_is : v.batch ≡ batch
   pub some : 0 < passed

@@ -8,9 +8,11 @@ use Rattle.live_plan.specs.declared.teller.Teller.{Teller}
 use Rattle.live_plan.specs.Published.{seen_of}
 use Rattle.live_plan.specs.Seats.{known_by}
 
+-- what the publisher knows
 abbrev pub told_by : Teller → Known
 told_by t = known_by t.writer.desk.place
 
+-- what the publisher shows
 abbrev pub shown_by : Teller → Shown
 shown_by t = arc_value t.writer.desk.shown.value.shown
 
@@ -18,6 +20,6 @@ shown_by t = arc_value t.writer.desk.shown.value.shown
 abbrev pub plans_of : Teller → List Verified
 plans_of t = seen_of (told_by t)
 
--- these, and those that are coming in this batch
+-- these, and those that may still be published in this batch
 abbrev pub due_of : Teller → List Verified
 due_of t = (told_by t).plans

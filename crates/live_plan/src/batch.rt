@@ -1,4 +1,4 @@
-//! A batch of jobs, beside which plans are published.
+//! A batch of jobs, during which plans are published.
 ghost use Rattle.std.specs.Prelude.{◌≡◌, ℕ, ◌+◌, ◌^◌, ◌<◌, ◌≤◌, ◌++◌, List, All, length, slice_index_or, IfOk, OnOk};
 ghost use Rattle.std.specs.Thread.{IsSync};
 ghost use mathlib.Core.List.{IsPrefix};
@@ -25,7 +25,7 @@ use std::sync::Wait;
 use std::thread;
 use std::thread::Threads;
 
-/// So many jobs are worth a thread.
+/// The number of jobs that are worth a thread.
 pub(crate) const WORTHWHILE: usize = 16;
 
 // Each worker serves its share.
@@ -56,7 +56,7 @@ fn serve_all<R: Threads + Sync, G: Gate + Sync>(
     );
 }
 
-// The plans are published beside the workers.
+// Each worker serves its share, while the plans are published.
 fn serve_beside<R: Threads + Wait + Sync, G: Gate + Sync>(
     rt: &R,
     alloc: Global,
@@ -94,7 +94,8 @@ fn serve_beside<R: Threads + Wait + Sync, G: Gate + Sync>(
     published
 }
 
-// As many threads as the jobs are worth, but a second one from four jobs on, and no more than shares or processors.
+// The number of threads that the jobs are worth, and at most that of shares and of processors. Four jobs are worth a second
+// one.
 fn threads_for<R: Threads>(rt: &R, teller: &mut Teller, shares: usize, jobs: usize) -> usize
     ensures some { 0 < result }
     ensures told { told_by teller.new ≡ told_by teller.old }
@@ -144,12 +145,14 @@ fn serve_batch<R: Threads + Wait + Sync, G: Gate + Sync>(
     collect(alloc, jobs.len(), workers)
 }
 
-/// Serves a batch of jobs while these plans are published beside it, one after the other, and answers each job with the
-/// number of its plan, in the order of the jobs.
+/// Serves a batch of jobs while these plans are published, one after the other. Each job is answered with the number of its
+/// plan, in the order of the jobs.
 ///
-/// Job i belongs to share i modulo the number of workers, and worker k serves share k in order. Each message goes over all its
-/// relays under one plan: the last one of before the batch, or one that is published in it, and along a share no earlier
-/// one follows. Where memory is wanting the first so many of the plans may be published, and jobs may have been served.
+/// Job i belongs to share i modulo the number of workers, and worker k serves share k in order. Each message goes over all
+/// its relays under one plan: the last one from before the batch, or one that is published in it. In a share no earlier plan
+/// follows.
+///
+/// The only error is lack of memory. Then some of the plans may be published, the first ones, and jobs may have been served.
 pub fn run_batch<R: Threads + Wait + Sync, G: Gate + Sync>(
     rt: &R,
     alloc: Global,

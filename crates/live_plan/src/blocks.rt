@@ -1,4 +1,4 @@
-//! Jobs that all go under one plan, in blocks. Each thread takes the next block when it has served one, so a processor that
+//! Jobs that all go under one plan, in blocks. Each thread takes the next block when it has served one. So a processor that
 //! is slower than the others, or begins later, serves fewer.
 ghost use Rattle.std.specs.Prelude.{◌≡◌, ◌++◌, List, All, length, map, nat_eq, position, take, IfOk, IfSome, OnOk};
 ghost use Rattle.relay_net.specs.declared.job.Job.{Job};
@@ -15,17 +15,17 @@ use std::sync::atomic::{AtomicUsize, Ordering};
 use std::thread;
 use std::thread::Threads;
 
-// How many jobs a thread takes at once: some tens of microseconds of work.
+// The number of jobs that a thread takes at once: some tens of microseconds of work.
 const BLOCK: usize = 16;
 
-/// The answers of jobs that follow one another, of which the first has this place.
+/// The answers of jobs that follow one another. `from` is the place of the first job.
 #[derive(Drop)]
 pub(crate) struct Block {
     from: usize,
     answers: List<Served>,
 }
 
-// The answers of these jobs.
+// Serves these jobs, one after the other.
 fn serve_each<G: Gate>(
     alloc: Global,
     setting: &Setting<'_>,
@@ -44,7 +44,7 @@ fn serve_each<G: Gate>(
     Ok(answers)
 }
 
-// Serves the next block, unless all are taken or memory is wanting.
+// Serves the next block, unless all are taken or memory is lacking.
 fn next_block<G: Gate>(
     alloc: Global,
     setting: &Setting<'_>,
@@ -90,7 +90,7 @@ fn serve_lane<G: Gate>(
     blocks
 }
 
-// What so many threads serve, the caller's among them.
+// Serves the jobs by this number of threads, one of which is the caller's.
 fn serve_lanes<R: Threads + Sync, G: Gate + Sync>(
     rt: &R,
     alloc: Global,
@@ -115,14 +115,14 @@ fn serve_lanes<R: Threads + Sync, G: Gate + Sync>(
     )
 }
 
-// Puts the blocks of one more thread behind the others.
+// Adds the blocks of one more thread after the others.
 fn put(blocks: &mut Vec<Block>, lane: List<Block>) -> Result<(), AllocError>
     ensures { OnOk result (blocks.new.items ≡ blocks.old.items ++ lane) }
 {
     blocks.append(&mut lane.into_vec())
 }
 
-// The blocks of all threads.
+// Collects the blocks of all threads.
 fn all_blocks(alloc: Global, lanes: Vec<List<Block>>) -> Result<Vec<Block>, AllocError>
     ensures { (answer : Job → Served) (jobs : List Job) → All (λ lane. All (HasAnswers answer jobs) lane) lanes.items → IfOk result (λ blocks. All (HasAnswers answer jobs) blocks.items) }
 {
@@ -134,13 +134,14 @@ fn all_blocks(alloc: Global, lanes: Vec<List<Block>>) -> Result<Vec<Block>, Allo
     Ok(blocks)
 }
 
+// The place of the block whose first job has this place.
 fn place_of(blocks: &[Block], from: usize) -> Option<usize>
     ensures { result ≡ position (λ block. nat_eq block.from from) blocks.now }
 {
     blocks.iter().position(|block| block.from == from)
 }
 
-// The answers of the blocks, as far as these follow one another. There is room for so many from the start.
+// The answers of the blocks, as far as these follow one another. There is room for `room` answers from the start.
 fn in_order(alloc: Global, room: usize, blocks: Vec<Block>) -> Result<Vec<Served>, AllocError>
     ensures { (answer : Job → Served) (jobs : List Job) → All (HasAnswers answer jobs) blocks.items → IfOk result (λ answers. answers.items ≡ map answer (take (length answers.items) jobs)) }
 {
@@ -153,8 +154,8 @@ fn in_order(alloc: Global, room: usize, blocks: Vec<Block>) -> Result<Vec<Served
     Ok(answers)
 }
 
-/// Answers each job under the plan of this setting, in the order of the jobs, by so many threads. Where a thread had no
-/// memory for a block, the jobs from there on are served again by this one.
+/// Answers each job under the plan of this setting, in the order of the jobs, by this number of threads. If a thread had no
+/// memory for a block, this thread serves the jobs from there on again. The only error is lack of memory.
 pub(crate) fn serve_blocks<R: Threads + Sync, G: Gate + Sync>(
     rt: &R,
     alloc: Global,

@@ -1,4 +1,4 @@
-//! What workers are told before a batch: all plans that are published or come in it.
+//! What workers learn before a batch: all plans that are published or may be published in it.
 ghost use Rattle.std.specs.Prelude.{◌≡◌, ◌<◌, ℕ, length, slice_index_or, OnOk, OnErr};
 ghost use Rattle.live_plan.specs.Batches.{AllPairs, Follows, Lasts};
 ghost use Rattle.live_plan.specs.Tellers.{told_by, plans_of, due_of};
@@ -8,7 +8,7 @@ use crate::teller::Teller;
 use crate::worker::Worker;
 use sccp_base::OutOfMemory;
 
-/// Gives the worker a new reader, where one can be had, and the publisher's last plan.
+/// Gives the worker a new reader, if one can be had, and the publisher's last plan.
 pub(crate) fn brief(worker: &mut Worker<LivePlace>, teller: &mut Teller) -> Result<(), OutOfMemory>
     requires { worker.old.place.nodes ≡ teller.old.nodes }
     ensures lasts { Lasts (length (plans_of teller.old)) worker.old worker.new }

@@ -36,7 +36,7 @@ fn take_all(
     Ok(shares)
 }
 
-// Takes one answer from each share in turn, so many in all.
+// Takes one answer from each share in turn, `all` of them together.
 fn in_turn(
     shares: &mut [VecDeque<Served>],
     alloc: Global,
@@ -58,7 +58,7 @@ fn in_turn(
     Ok(answers)
 }
 
-/// The answers of all shares, in the order of the jobs.
+/// The answers of all shares, in the order of the jobs. An error is lack of memory, here or of a worker.
 pub(crate) fn collect(
     alloc: Global,
     all: usize,

@@ -1,10 +1,10 @@
-/// What is told of the course of a batch, as for a test that lets its threads wait for each other.
+/// A receiver of reports on the course of a batch. A test can use it to let its threads wait for each other.
 pub trait Gate {
-    /// A job of this worker's share is about to be served, and for it nobody has looked at the published plans yet. Both are
-    /// counted from 0. Where no plan comes in a batch another thread may serve it, in whatever order.
+    /// A job of this worker's share is about to be served. Nobody has looked at the published plans for it yet. Worker and
+    /// job are counted from 0. In a batch without further plans another thread may serve the job, in whatever order.
     fn pass(&self, worker: u32, job: u32);
 
-    /// The plan of this number was just published for the first time.
+    /// The plan of this number was just published.
     fn published(&self, number: u32);
 }
 

@@ -1,4 +1,4 @@
-//! A batch in which no plan comes, under the last plan.
+//! A batch without further plans, under the last plan.
 ghost use Rattle.std.specs.Prelude.{◌≡◌, ◌+◌, ◌^◌, ◌<◌, ◌≤◌, ◌++◌, All, length, IfOk, OnOk};
 ghost use mathlib.Core.List.{IsPrefix};
 ghost use Rattle.live_plan.specs.Batches.{AllPairs, AreServed, IsByEvents, Lasts};
@@ -19,7 +19,7 @@ use std::alloc::Global;
 use std::sync::Wait;
 use std::thread::Threads;
 
-// As many threads as the jobs are worth, and no more than shares or processors.
+// The number of threads that the jobs are worth, and at most that of shares and of processors.
 fn threads_for<R: Threads>(rt: &R, teller: &mut Teller, shares: usize, jobs: usize) -> usize
     ensures told { told_by teller.new ≡ told_by teller.old }
     ensures nodes { teller.new.nodes ≡ teller.old.nodes }
@@ -31,7 +31,7 @@ fn threads_for<R: Threads>(rt: &R, teller: &mut Teller, shares: usize, jobs: usi
     worth.min(teller.processors(rt))
 }
 
-// All jobs under the publisher's last plan. Nothing can be published meanwhile, so no worker need look.
+// Serves all jobs under the publisher's last plan. Nothing can be published meanwhile, so no worker needs to look.
 fn serve_latest<R: Threads + Sync, G: Gate + Sync>(
     rt: &R,
     alloc: Global,
@@ -56,8 +56,8 @@ fn serve_latest<R: Threads + Sync, G: Gate + Sync>(
     serve_blocks(rt, alloc, threads, &setting, jobs, gate)
 }
 
-/// Serves a batch of jobs as `run_batch` does, or sooner: where no plan comes, all of them go under the last plan, each
-/// thread takes the next few when it has served some, and the workers rest.
+/// Serves a batch of jobs as `run_batch` does, or faster if there are no further plans. Then all jobs go under the last plan,
+/// each thread takes the next few jobs when it has served some, and the workers rest. The only error is lack of memory.
 pub fn serve_jobs<R: Threads + Wait + Sync, G: Gate + Sync>(
     rt: &R,
     alloc: Global,

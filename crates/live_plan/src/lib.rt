@@ -1,13 +1,18 @@
 //! A plan that is replaced while workers route by it.
 //!
-//! A `Teller` publishes accepted plans one after the other, each under the next number, and `Worker`s look at the published
-//! plans beside it. A message goes over all its relays (ITU-T Q.714 section 2) under one plan: the one that its worker had when
-//! it began. `run_batch` serves a batch of messages by up to sixteen workers, while further plans are published. `serve_jobs`
-//! does so too where plans come; where none comes, it serves the batch under the last one, in blocks, and the workers rest.
+//! A `Teller` publishes accepted plans one after the other, each under the next number. `Worker`s look at the published plans
+//! while it does. A message goes over all its relays (ITU-T Q.714 section 2) under one plan: the one that its worker had when
+//! it began.
 //!
-//! The crates above may rely on this: each message is routed wholly under one published plan, which its answer names by
-//! number; that is the last plan of before the batch, or one that was published in it; no worker goes back to an earlier plan;
-//! plans keep their numbers. That threads really run beside each other, and when a worker sees a new plan, is not promised.
+//! `run_batch` serves a batch of messages by up to sixteen workers, while further plans are published. `serve_jobs` does the
+//! same if there are further plans. If there are none, it serves the batch under the last plan, in blocks, and the workers
+//! rest.
+//!
+//! The crates above may rely on this. Each message is routed wholly under one published plan, and its answer gives the number
+//! of that plan. The plan is the last one from before the batch, or one that was published in the batch. No worker goes back
+//! to an earlier plan, and plans keep their numbers.
+//!
+//! It is not promised that threads really run at the same time, nor when a worker sees a new plan.
 #![tactic(auto)]
 
 mod batch;

@@ -1,3 +1,4 @@
+//! A place over plans in memory, which needs no publisher.
 ghost use Rattle.std.specs.Prelude.{◌≡◌, ◌^◌, ◌<◌, ◌≤◌, true, length, map, slice_get, Some, IfNone, IfSome, IsNone};
 ghost use Rattle.std.specs.Arc.{arc_value};
 ghost use Rattle.plan_check.specs.Verified.{Verified};
@@ -12,7 +13,7 @@ use sccp_base::List;
 use std::alloc::Global;
 use std::sync::Arc;
 
-// One more plan, where there is one.
+// One more plan, if there is one.
 fn one_more(seen: usize, all: usize) -> usize
     requires { seen ≤ all }
     ensures more { seen ≤ result }
@@ -22,7 +23,7 @@ fn one_more(seen: usize, all: usize) -> usize
     if seen < all { seen + 1 } else { seen }
 }
 
-// The entry at the plan of this number, counted from 1. None where it can't be shared once more.
+// An entry at the plan of this number, counted from 1. `None` if the plan cannot be shared once more.
 fn entry_at(alloc: Global, plans: &[Arc<Accepted>], number: usize) -> Option<Entry>
     requires { (0 < number) × (number ≤ length plans.now) × (length plans.now < 2 ^ 32) }
     ensures number { IfSome result (λ e. e.number ≡ number) }
@@ -31,7 +32,7 @@ fn entry_at(alloc: Global, plans: &[Arc<Accepted>], number: usize) -> Option<Ent
     Entry::of(alloc, number as u32, &plans[number - 1]).ok()
 }
 
-/// A place over a list in memory, of which each entry sees one plan more, up to the whole list.
+/// A place over a list in memory. Each entry sees one plan more, up to the whole list.
 #[derive(Drop)]
 pub struct ListPlace {
     alloc: Global,
@@ -47,7 +48,8 @@ pub struct ListPlace {
 }
 
 impl ListPlace {
-    /// The place that has seen the first plan. The calls of `enter` that `refusing` names, counted from 0, are refused.
+    /// The place that has seen the first plan. It refuses the calls of `enter` whose numbers, counted from 0, are in
+    /// `refusing`.
     pub fn new(alloc: Global, plans: List<Arc<Accepted>>, refusing: List<u64>) -> ListPlace
         requires within { (0 < length plans) × (length plans < 2 ^ 32) }
         requires alike { (first : Verified) → slice_get (map arc_value plans) 0 ≡ Some first → HaveNodes (nodes_of first) (map arc_value plans) }
@@ -81,8 +83,8 @@ impl Place for ListPlace {
 
     ghost refusals = { λ p. p.refusals };
 
-    /// Refuses a listed call. Any other sees one plan more, until it sees the whole list, or is refused where the plan can't
-    /// be shared once more.
+    /// Refuses a listed call. Any other call sees one plan more, until the whole list is seen. It is refused if the plan
+    /// cannot be shared once more.
     fn enter(&mut self) -> Option<Entry>
         ensures plans { self.new.plans ≡ self.old.plans }
         ensures nodes { self.new.nodes ≡ self.old.nodes }

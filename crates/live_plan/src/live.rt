@@ -1,3 +1,4 @@
+//! The start: a publisher and its workers.
 ghost use Rattle.std.specs.Prelude.{◌≡◌, ℕ, ◌<◌, ◌≤◌, ◌∷◌, [], length, slice_index_or, IfOk};
 ghost use Rattle.live_plan.specs.Batches.{IsHired};
 ghost use Rattle.live_plan.specs.Plans.{nodes_of};
@@ -15,7 +16,7 @@ use std::sync::Wait;
 /// A plan that is replaced while workers route by it: its publisher and its workers.
 pub struct Live;
 
-// A worker with the publisher's last plan, and no reader yet.
+// A worker with the publisher's last plan, and without a reader.
 fn hired(alloc: Global, teller: &Teller, index: u32) -> Result<Worker<LivePlace>, OutOfMemory>
     ensures index { IfOk result (λ w. w.index ≡ index) }
     ensures nodes { IfOk result (λ w. w.place.nodes ≡ teller.now.nodes) }
@@ -25,7 +26,7 @@ fn hired(alloc: Global, teller: &Teller, index: u32) -> Result<Worker<LivePlace>
     Ok(Worker::over(index, place, first))
 }
 
-// So many workers without a reader.
+// The given number of workers, without readers.
 fn all_hired(
     alloc: Global,
     teller: &Teller,
@@ -43,7 +44,7 @@ fn all_hired(
     Ok(all)
 }
 
-// So many workers, who know what the publisher knows.
+// The given number of workers, who know what the publisher knows.
 fn hire(
     alloc: Global,
     teller: &mut Teller,
@@ -60,8 +61,8 @@ fn hire(
 }
 
 impl Live {
-    /// The publisher of this plan alone, and so many workers, 1 to 16, which keep it. A worker for which no reader can be had
-    /// is there too, and its entries are refused.
+    /// The publisher, with only this plan, and the given number of workers, from 1 to 16, which keep the plan. A worker for
+    /// which no reader can be had is there too, and its entries are refused. The only error is lack of memory.
     pub fn new<R: Wait>(
         rt: &R,
         alloc: Global,

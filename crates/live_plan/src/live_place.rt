@@ -1,3 +1,4 @@
+//! The place of a worker over the published plans.
 ghost use Rattle.std.specs.Prelude.{◌≡◌, ◌≤◌, length, Option, Some, None, IfSome, IsSomeAnd, option_map};
 ghost use Rattle.std.specs.Option.{ForSome};
 ghost use Rattle.std.specs.Arc.{arc_value};
@@ -16,11 +17,11 @@ use std::alloc::Global;
 
 pub(crate) type PlanReader = Reader<Published, Known, ByBatch>;
 
-/// A place over a reader of the published plans, or over none where none could be had: then each entry is refused, and so is
-/// one that meets another batch than that for which the place was briefed, as each does from a `Teller::replace` until the
-/// next `run_batch`.
+/// A place over a reader of the published plans. Every entry is refused if no reader could be had, or if another batch is
+/// shown than the one for which the place was briefed. So each entry is refused from a `Teller::replace` until the next
+/// `run_batch`.
 ///
-/// It keeps its share of the plan of the last entry, so that one which meets the same plan again counts no share of others.
+/// It keeps its share of the plan of the last entry. So an entry that finds the same plan again counts at no other place.
 #[derive(Drop)]
 pub struct LivePlace {
     alloc: Global,
@@ -35,7 +36,7 @@ pub struct LivePlace {
     ghost owns: { ForSome reader (λ r. ForSome own (λ e. HasPlan (known_by r.place).plans e.number (entry_plan e))) },
 }
 
-// What is shown, as an entry: the own one where that has its number.
+// What is shown, as an entry: the own one, if it has that number.
 fn entry_of(alloc: Global, shown: &Shown, own: Option<Entry>) -> Option<Entry>
     requires { ForSome own (λ e. e.number ≡ shown.now.number → entry_plan e ≡ arc_value shown.now.plan) }
     ensures number { IfSome result (λ e. e.number ≡ shown.now.number) }
@@ -49,7 +50,7 @@ fn entry_of(alloc: Global, shown: &Shown, own: Option<Entry>) -> Option<Entry>
     Entry::of(alloc, shown.number, &shown.plan).ok()
 }
 
-// Enters, takes the last plan where it is shown in this batch, and leaves.
+// Enters, takes the last plan if it is shown in this batch, and leaves.
 fn visit(
     alloc: Global,
     reader: PlanReader,
@@ -80,7 +81,7 @@ fn visit(
     }
 }
 
-// One more share of it.
+// One more share of the own entry.
 fn shared(own: &Option<Entry>) -> Option<Entry>
     ensures some { IfSome result (λ e. IsSomeAnd own.now (λ o. (e.number ≡ o.number) × (entry_plan e ≡ entry_plan o))) }
 {
@@ -91,7 +92,7 @@ fn shared(own: &Option<Entry>) -> Option<Entry>
 }
 
 impl LivePlace {
-    /// A place without a reader, for plans of so many nodes.
+    /// A place without a reader, for plans with this number of nodes.
     pub(crate) fn vacant(alloc: Global, nodes: u8) -> LivePlace
         ensures plans { result.reader ≡ None }
         ensures nodes { result.nodes ≡ nodes }
@@ -109,7 +110,7 @@ impl LivePlace {
         }
     }
 
-    /// Takes a new reader, where one can be had, that knows what the publisher knows.
+    /// Takes a new reader that knows what the publisher knows, if one can be had.
     pub(crate) fn brief(&mut self, teller: &mut Teller)
         requires { self.old.nodes ≡ teller.old.nodes }
         ensures plans { ForSome self.new.reader (λ r. (known_by r.place).plans ≡ due_of teller.old) }

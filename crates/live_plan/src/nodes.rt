@@ -1,3 +1,4 @@
+//! The number of nodes of a plan.
 ghost use Rattle.std.specs.Prelude.{◌≡◌};
 ghost use Rattle.live_plan.specs.Plans.{nodes_of};
 

@@ -1,3 +1,4 @@
+//! The place from which a worker looks at the published plans, and what it takes from there.
 ghost use Rattle.std.specs.Prelude.{◌≡◌, ℕ, ◌<◌, ◌≤◌, List, Option, Some, None, IfOk, IfSome, IfNone, IsSomeAnd};
 ghost use Rattle.std.specs.Arc.{arc_value};
 ghost use Rattle.live_plan.specs.Entries.{entry_plan};
@@ -11,8 +12,8 @@ use std::sync::Arc;
 
 /// A plan with its number among those that are published, from 1.
 ///
-/// All workers share the plan, and who shares it is counted in one place, for which threads that count often wait. So each
-/// worker shares a share of its own: of that it counts for itself, once for each message.
+/// All workers share the plan, and the users of a shared value are counted in one memory place. Threads that count there
+/// often wait for each other. So each worker shares a share of its own: it counts for itself there, once for each message.
 #[derive(Drop)]
 pub struct Entry {
     pub number: u32,
@@ -20,7 +21,7 @@ pub struct Entry {
 }
 
 impl Entry {
-    /// A share of this plan, with its number, of which nobody else counts.
+    /// A share of this plan, with its number. Nobody else counts there yet. The only error is lack of memory.
     pub fn of(alloc: Global, number: u32, plan: &Arc<Accepted>) -> Result<Entry, OutOfMemory>
         ensures number { IfOk result (λ e. e.number ≡ number) }
         ensures plan { IfOk result (λ e. entry_plan e ≡ arc_value plan.now) }
@@ -30,7 +31,7 @@ impl Entry {
         Ok(Entry { number, plan })
     }
 
-    /// The same plan with its number, counted where this one is.
+    /// The same plan with its number, counted at the same place as this one.
     pub(crate) fn again(&self) -> Result<Entry, OutOfMemory>
         ensures number { IfOk result (λ e. e.number ≡ self.now.number) }
         ensures plan { IfOk result (λ e. entry_plan e ≡ entry_plan self.now) }
@@ -43,7 +44,7 @@ impl Entry {
     }
 }
 
-/// One more, where the count isn't at its end.
+/// The next count, or the same one if it is the largest.
 pub(crate) fn raised(count: u64) -> u64
     ensures rose { Rose count result }
     ensures never_falls { count ≤ result }
@@ -53,7 +54,7 @@ pub(crate) fn raised(count: u64) -> u64
 
 /// A place from which published plans are looked at.
 pub trait Place {
-    /// The plans that are published one after the other, where the place tells them.
+    /// The plans that are published one after the other, if the place says which.
     ghost plans: { Self → Option (List Verified) };
 
     /// How many of them, from the first on, the place has seen published.
@@ -62,13 +63,13 @@ pub trait Place {
     /// The number of nodes that each of them has.
     ghost nodes: { Self → ℕ };
 
-    /// How many entries were made, and how many were refused.
+    /// The number of entries that were made. `refusals` is the number of those that were refused.
     ghost entries: { Self → ℕ };
 
     ghost refusals: { Self → ℕ };
 
-    /// Enters the published plans, takes the last one with its number, and leaves. None is an entry that was refused: then no
-    /// more plans were seen.
+    /// Enters the published plans, takes the last one with its number, and leaves. The result is `None` if the entry was
+    /// refused: then no more plans were seen.
     fn enter(&mut self) -> Option<Entry>
         ensures plans { plans self.new ≡ plans self.old }
         ensures nodes { nodes self.new ≡ nodes self.old }

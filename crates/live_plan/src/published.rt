@@ -1,4 +1,4 @@
-//! What is published: the last plan alone.
+//! What is published: only the last plan.
 ghost use Rattle.std.specs.Arc.{arc_value};
 
 use left_right::Absorb;
@@ -8,8 +8,8 @@ use std::alloc::AllocError;
 use std::snapshot::Snapshot;
 use std::sync::Arc;
 
-/// The last plan with its number, the batch in which it is shown, and the plans that were still to come when the batch
-/// began. These take no room: a snapshot has no bytes.
+/// The last plan with its number, and the batch in which it is shown. Also the plans that were still to be published when the
+/// batch began: these take no room, since a snapshot has no bytes.
 #[derive(Drop)]
 pub struct Shown {
     pub batch: u64,
@@ -18,8 +18,8 @@ pub struct Shown {
     pub coming: Snapshot<List<Accepted>>,
 }
 
-/// The published value, which both copies share. An operation on it is the whole next value, so one that is left over after
-/// want of memory is overwritten by the next one.
+/// The published value, which both copies share. An operation on it is the whole next value. So an operation that is left
+/// over after lack of memory is overwritten by the next one.
 #[derive(Drop)]
 pub struct Published {
     pub shown: Arc<Shown>,

@@ -1,4 +1,4 @@
-//! What the publisher does beside the workers.
+//! What the publisher does while the workers serve a batch.
 ghost use Rattle.std.specs.Prelude.{◌≡◌, ◌++◌};
 ghost use Rattle.live_plan.specs.Publishing.{HasPublished};
 ghost use Rattle.live_plan.specs.Tellers.{plans_of, due_of};
@@ -10,7 +10,7 @@ use sccp_base::OutOfMemory;
 use std::collections::VecDeque;
 use std::sync::Wait;
 
-/// Publishes the plans that are coming, one after the other, and tells the gate of each.
+/// Publishes the coming plans, one after the other, and reports each to the gate. The only error is lack of memory.
 pub(crate) fn publish_all<R: Wait, G: Gate>(
     rt: &R,
     gate: &G,

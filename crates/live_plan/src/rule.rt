@@ -1,4 +1,4 @@
-//! The rule under which plans are published, and what each of its steps tells.
+//! The rule under which plans are published, and what each of its steps makes known.
 ghost use Rattle.std.specs.Prelude.{◌≡◌};
 ghost use Rattle.std.specs.Arc.{arc_value};
 ghost use Rattle.live_plan.specs.Published.{Kept, Saw, newcomer, begun, advanced};
@@ -8,7 +8,7 @@ use crate::published::Published;
 use atomic_table::{Join, Split};
 use crossbeam_utils::rule::{Outcome, Protocol};
 
-/// What is shown is a plan of the list of its batch, and whoever knows the batch knows that list.
+/// The plan that is shown is in the list of its batch, and everyone who knows the batch knows that list.
 pub struct ByBatch;
 
 impl Protocol<Published, Known> for ByBatch {
@@ -38,7 +38,7 @@ impl Outcome<Published, Known> for Advances {
     ghost then = { λ v _ y w. w ≡ advanced v (arc_value y.shown) };
 }
 
-/// The publisher tells all that it knows, and a reader learns it.
+/// The publisher passes on all that it knows, and a reader learns it.
 pub(crate) struct Whole;
 
 impl Split<Known> for Whole {

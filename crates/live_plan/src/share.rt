@@ -11,7 +11,7 @@ use sccp_base::OutOfMemory;
 use std::alloc::Global;
 use std::collections::VecDeque;
 
-// No answers yet, with room for so many where it can be had.
+// An empty queue of answers, with room for this many if memory allows.
 fn room_for(alloc: Global, answers: usize) -> VecDeque<Served>
     ensures { result.items ≡ [] }
 {
@@ -21,7 +21,7 @@ fn room_for(alloc: Global, answers: usize) -> VecDeque<Served>
     }
 }
 
-// Serves every count-th job, from this one on.
+// Serves every count-th job, from `share` on.
 pub(crate) fn serve_from<P: Place, G: Gate>(
     alloc: Global,
     count: usize,
@@ -49,7 +49,7 @@ pub(crate) fn serve_from<P: Place, G: Gate>(
     Ok(answers)
 }
 
-/// Serves a share. The worker keeps the answers, or none where memory was wanting.
+/// Serves a share. The worker keeps the answers, or none if memory was lacking.
 pub(crate) fn keep_share<P: Place, G: Gate>(
     alloc: Global,
     count: usize,

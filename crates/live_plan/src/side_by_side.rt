@@ -1,4 +1,4 @@
-//! Work on the items of a slice that several threads share, each of which the caller makes itself.
+//! Work on the items of a slice, shared among several threads, which the caller's thread makes itself.
 ghost use Rattle.std.specs.Prelude.{◌+◌, ◌^◌, ◌<◌, length};
 ghost use Rattle.std.specs.Fork.{AcceptsAt, AcceptsEach, ChangesAt, ChangesEach};
 ghost use denote.Param.Send.{IsSync, IsSend};
@@ -7,7 +7,7 @@ ghost use Rattle.live_plan.specs.ByPlace.{AcceptsFrom, ChangesFrom};
 use std::thread;
 use std::thread::Threads;
 
-// The items, one after the other, on this thread.
+// Works on the items, one after the other, on this thread.
 fn in_order<T, F: Fn(usize, &mut T)>(f: &F, base: usize, items: &mut [T])
     requires room { base + length items.old < 2 ^ 64 }
     requires accepts { AcceptsFrom F.Fn f.now base items.old }
@@ -18,6 +18,7 @@ fn in_order<T, F: Fn(usize, &mut T)>(f: &F, base: usize, items: &mut [T])
     }
 }
 
+// Works on one item.
 fn one<T, F: Fn(usize, &mut T)>(f: &F, at: usize, item: &mut T)
     requires { AcceptsAt F.Fn f.now at item.old }
     ensures { ChangesAt F.Fn f.now at item.old item.new }
@@ -25,7 +26,7 @@ fn one<T, F: Fn(usize, &mut T)>(f: &F, at: usize, item: &mut T)
     f(at, item);
 }
 
-// The first items on a new thread, and the others, so many to a thread, from this one.
+// Works on the first items on a new thread, and on the others from this one, `share` items to a thread.
 #[cycle(shared)]
 fn beside<R: Threads + Sync, T: Send, F: Fn(usize, &mut T) + Sync>(
     rt: &R,
@@ -55,7 +56,7 @@ fn beside<R: Threads + Sync, T: Send, F: Fn(usize, &mut T) + Sync>(
     thread::join_mut(rt, &mut there, &mut here);
 }
 
-// The items, so many to a thread: the last ones on this thread.
+// Shares the items out, `share` items to a thread. The last ones are done on this thread.
 #[cycle(shared)]
 fn shared_out<R: Threads + Sync, T: Send, F: Fn(usize, &mut T) + Sync>(
     rt: &R,
@@ -77,8 +78,8 @@ fn shared_out<R: Threads + Sync, T: Send, F: Fn(usize, &mut T) + Sync>(
     beside(rt, f, share, base, first, base + share, others);
 }
 
-/// Calls `f` with each place and its item, on so many threads at most, and joins them all. The caller's thread makes the others
-/// itself, one after the other, so none waits for another to begin.
+/// Calls `f` with each place and its item, on at most `threads` threads, and joins them all. The caller's thread makes the
+/// others itself, one after the other, so none waits for another to begin.
 pub(crate) fn for_each_beside<R: Threads + Sync, T: Send, F: Fn(usize, &mut T) + Sync>(
     rt: &R,
     items: &mut [T],

@@ -1,3 +1,4 @@
+//! A worker: it looks at the published plans before each job, and routes the job.
 ghost use Rattle.std.specs.Prelude.{◌≡◌, ◌⊎◌, ◌<◌, ◌≤◌, length, None, IfOk, IfSome};
 ghost use Rattle.live_plan.specs.Entries.{entry_plan};
 ghost use Rattle.live_plan.specs.Plans.{HasPlan, IsKept, Rose, nodes_of};
@@ -12,7 +13,7 @@ use sccp_base::OutOfMemory;
 use std::alloc::Global;
 use std::collections::VecDeque;
 
-// A job is routed over all its relays under one plan, which has this number.
+// Routes a job over all its relays under one plan, which has this number.
 pub(crate) fn route(
     alloc: Global,
     number: u32,
@@ -48,7 +49,7 @@ pub struct Worker<P: Place> {
 }
 
 impl<P: Place> Worker<P> {
-    /// A worker over a place, which keeps the plan that it is handed. It tells gates its index.
+    /// A worker over a place, which keeps the plan that it is handed. Gates learn its index.
     pub fn over(index: u32, place: P, first: Entry) -> Worker<P>
         requires { IsKept (P.plans place) (P.seen place) (P.nodes place) first.number (entry_plan first) }
         ensures { (result.index ≡ index) × (result.place ≡ place) × (result.kept ≡ first) }
@@ -75,7 +76,8 @@ impl<P: Place> Worker<P> {
         count_nodes(&self.kept.plan)
     }
 
-    // Enters the published plans once, and keeps the plan of that entry, or the one of before where it was refused.
+    // Enters the published plans once, and keeps the plan of that entry. If it was refused, the worker keeps the plan from
+    // before.
     fn look(&mut self)
         ensures index { self.new.index ≡ self.old.index }
         ensures nodes { P.nodes self.new.place ≡ P.nodes self.old.place }
@@ -93,8 +95,9 @@ impl<P: Place> Worker<P> {
         }
     }
 
-    /// Passes the gate, enters the published plans once, and routes the job over all its relays under the plan that it keeps
-    /// then: the one of this entry or, where that was refused, the one of before. Where memory is wanting a new plan may be kept.
+    /// Passes the gate, enters the published plans once, and routes the job over all its relays under the plan that it then
+    /// keeps. That is the plan of this entry or, if it was refused, the one from before. The only error is lack of memory; a
+    /// new plan may be kept even so.
     pub fn serve<G: Gate>(
         &mut self,
         alloc: Global,

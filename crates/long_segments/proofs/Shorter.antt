@@ -1,4 +1,4 @@
--- Where a segment can be written, so can one with no more data.
+-- If a segment can be written, so can one with no more data.
 use Rattle.std.specs.Prelude.{◌≡◌, ℕ, ◌+◌, ◌-◌, ◌*◌, ◌<◌, ◌≤◌, ◌==◌, nat_le, nat_lt, Bool, true, false, cond, List, [], ◌∷◌, length, map, filter, not, drop, Option, Some, None, Result, Ok, Err, refl}
 use Rattle.std.specs.List.{All, list_all, range_with_len}
 use Rattle.std.proofs.Common.{zero, suc, sym, ap, subst, arith, get_or, length-take, length-drop}

@@ -1,4 +1,5 @@
--- A long unitdata message sent on in segments, each an extended unitdata message (ITU-T Q.714 section 4.1). Profile: the class and the options of the segments.
+-- A long unitdata message sent on in segments, each an extended unitdata message (ITU-T Q.714 section 4.1). Profile: the
+-- class and the options of the segments.
 use Rattle.std.specs.Prelude.{ℕ, ◌+◌, ◌*◌, ◌==◌, nat_lt, Bool, true, false, not, ◌&&◌, if◌then◌else◌, List, [], ◌∷◌, map, filter, Option, Some, None, Result, Ok, Err}
 use Rattle.std.specs.Option.{option_map_or}
 use Rattle.std.specs.List.{All}
@@ -23,19 +24,19 @@ use Rattle.long_segments.specs.declared.long_fault.LongFault.TheVariants as faul
 
 -- ---- the segments
 
--- delivery in sequence was asked for (class 1)
+-- whether delivery in sequence was asked for (class 1)
 abbrev pub is_in_sequence : ℕ → Bool
 is_in_sequence class = bits class 1 4 == 1
 
--- the reference of the message's own segmentation parameter, or else a given one
+-- the reference of the message's own segmentation parameter; without one, the given reference
 abbrev pub reference_of : List Parameter → ℕ → ℕ
 reference_of params reference = option_map_or (λ contents. reference_at contents 1) (param params segmentation) reference
 
--- class 1, so that the segments stay in order; the message's options stand on the first segment alone
+-- class 1, so that the segments stay in order; only the first segment has the message's options
 abbrev pub class_for : ℕ → Segment → ℕ
 class_for class s = 1 + (if s.first then 16 * bits class 5 8 else 0)
 
--- the segmentation parameter, and behind it the message's others
+-- the segmentation parameter, and after it the message's others
 abbrev pub params_for : List Parameter → Segment → List Parameter
 params_for params s = parameter segmentation (segmentation_octets s) ∷ filter (λ p. not (p.name == segmentation)) params
 
@@ -43,7 +44,7 @@ params_for params s = parameter segmentation (segmentation_octets s) ∷ filter 
 abbrev pub segment_message : ℕ → ℕ → Address → Address → List Parameter → Segment → Message
 segment_message class hops called calling params s = messages.Xudt (class_for class s) hops called calling s.payload (params_for params s)
 
--- the segments of a message's data, in pieces of so many octets
+-- the segments of a message's data, in pieces of `size` octets
 abbrev pub cut : ℕ → List ℕ → List Parameter → ℕ → ℕ → List Segment
 cut class payload params size reference = segments true (is_in_sequence class) (reference_of params reference) (pieces payload size)
 
@@ -54,17 +55,17 @@ sent_on _ size reference = []
 
 -- ---- what keeps a message from being sent on
 
--- no segmentation parameter, or that of a first segment with none behind it
+-- no segmentation parameter, or that of a first segment which no other follows
 abbrev pub is_one_segment : Option (List ℕ) → Bool
 is_one_segment None = true
 is_one_segment (Some contents) = bit (octet contents 0) 8 && bits (octet contents 0) 1 4 == 0
 
--- the octets of messages, where the first of them can be written
+-- the octets of messages, if the first of them can be written
 abbrev pub written_if : Result (List ℕ) EncodeFault → List Message → Result (List (List ℕ)) LongFault
 written_if (Ok octets) all = Ok (map message_octets all)
 written_if (Err f) all = Err (faults.NotWritable f)
 
--- the octets of messages, or the fault by which the first can't be written
+-- the octets of messages, or the fault by which the first cannot be written
 abbrev pub written_all : List Message → Result (List (List ℕ)) LongFault
 written_all [] = Ok []
 written_all (m ∷ ms) = written_if (encoding m) (m ∷ ms)
@@ -78,7 +79,7 @@ sending_message (messages.Ludt class hops called calling payload params) size re
     else written_all (sent_on (messages.Ludt class hops called calling payload params) size reference)
 sending_message _ size reference = Err faults.NotLong
 
--- the same of octets that were read, or not
+-- the same of what reading gives
 abbrev pub sending_read : Result Message DecodeFault → ℕ → ℕ → Result (List (List ℕ)) LongFault
 sending_read (Ok m) size reference = sending_message m size reference
 sending_read (Err f) size reference = Err faults.NotLong
@@ -87,7 +88,7 @@ sending_read (Err f) size reference = Err faults.NotLong
 abbrev pub sending : List ℕ → ℕ → ℕ → Result (List (List ℕ)) LongFault
 sending octets size reference = sending_read (reading octets) size reference
 
--- want of memory is the one fault that may come at any time
+-- want of memory is the one fault that any call may give
 abbrev pub is_memory : LongFault → Bool
 is_memory faults.OutOfMemory = true
 is_memory faults.NotLong = false
@@ -101,7 +102,7 @@ Gives view result expected = Answers is_memory view result expected
 
 -- ---- the same for the calls inside
 
--- where the first of these messages can be written, so can the others
+-- if the first of these messages can be written, so can the others
 abbrev pub FirstTells : List Message → Type 0
 FirstTells [] = Unit {0}
 FirstTells (m ∷ ms) = Writable m → All Writable ms

@@ -1,5 +1,5 @@
-// Laws of the segments of every long message that can be cut: `sent_on`, which they speak of, gives the messages whose
-// octets `send_on` answers.
+// Laws of the segments of every long message that can be cut. They speak of `sent_on`, which gives the messages whose octets
+// `send_on` answers.
 ghost use Rattle.std.specs.Prelude.{◌≡◌, ◌<◌, ◌≤◌, ℕ, List, Some, []};
 ghost use Rattle.sccp_address.specs.declared.address.Address.{Address};
 ghost use Rattle.sccp_layout.specs.Parameter.{Parameter};
@@ -17,8 +17,8 @@ pub fn segments_carry_the_data()
         whole (segments_in (sent_on (Ludt class hops called calling payload params) size reference)) ≡ Some payload }
 {}
 
-/// A pool that is given these segments one after the other, after any arrivals, answers the data at the last one; or the
-/// first one is refused, since 64 other messages are under way.
+/// Let a pool be given these segments one after another, after any arrivals. It answers the data at the last one; or it
+/// refuses the first one, since 64 other messages are under way.
 pub fn a_pool_answers_the_data()
     ensures { (arrivals : List Arrival) (class hops : ℕ) (called calling : Address) (payload : List ℕ) (params : List Parameter) (size reference : ℕ) → 0 < size → piece_count payload size ≤ 16 →
         IsRefusedOrWhole (answers (pooled [] arrivals) (arrivals_in (sent_on (Ludt class hops called calling payload params) size reference))) payload }

@@ -1,11 +1,10 @@
-//! Long messages over links that carry short ones alone: a long unitdata message (LUDT) is sent on in segments, each of
-//! them an extended unitdata message (XUDT) (Q.714 section 4.1).
+//! Long messages over links that carry only short ones (Q.714 section 4.1). A long unitdata message (LUDT) is sent on in
+//! segments, each of them an extended unitdata message (XUDT).
 //!
-//! The layer above may rely on this: `send_on` answers the octets of each segment, in order, or the first cause why it
-//! can't; and the segments together have the data of the long message, so a pool that takes them answers that data.
+//! The layer above may rely on this. `send_on` answers the octets of each segment, in order, or the first cause why it
+//! cannot. The segments together have the data of the long message, so a pool that takes them answers that data.
 #![tactic(auto)]
 
-mod copies;
 mod laws;
 mod long_fault;
 mod sending;

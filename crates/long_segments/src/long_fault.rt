@@ -1,3 +1,4 @@
+//! The faults of sending a message on in segments.
 ghost use Rattle.std.specs.Prelude.{◌≡◌};
 ghost use Rattle.long_segments.specs.declared.long_fault.LongFault.TheVariants as faults;
 
@@ -5,19 +6,19 @@ use sccp_base::OutOfMemory;
 use sccp_message::EncodeFault;
 use std::alloc::{AllocError, AllocFailed};
 
-/// Why a message isn't sent on in segments: the first of these that holds.
+/// Why a message is not sent on in segments: the first of these that holds.
 #[derive(Clone, Copy, Debug)]
 pub enum LongFault {
-    /// The octets don't read as an LUDT.
+    /// The octets do not read as an LUDT.
     NotLong,
-    /// It is one of several segments: its segmentation parameter isn't that of a first segment with none behind it.
+    /// It is one of several segments: its segmentation parameter is not that of a first segment which no other follows.
     AlreadySegment,
     /// Segments of 0 octets.
     ZeroSize,
     /// More than 16 segments.
     TooMany,
-    /// The first segment can't be written, by this fault, which is never want of memory. The others have no more data, so
-    /// where the first can be written they can.
+    /// The first segment cannot be written, by this fault, which is never want of memory. The others have no more data, so
+    /// if the first can be written they can.
     NotWritable(EncodeFault),
     /// There was no memory.
     OutOfMemory,

@@ -1,3 +1,4 @@
+//! Sending a long message on in segments.
 ghost use Rattle.std.specs.Prelude.{◌≡◌, ◌<◌, ◌++◌, true, map, IfOk, OnOk, All};
 ghost use Rattle.sccp_layout.specs.Parameter.{parameter};
 ghost use Rattle.sccp_layout.specs.Table.{segmentation};
@@ -8,19 +9,18 @@ ghost use Rattle.sccp_message.specs.Fields.{param as param_of, reads_if};
 ghost use Rattle.sccp_segment.specs.Segments.{segmentation_octets};
 ghost use Rattle.long_segments.specs.Sending.{FirstTells, Gives, class_for, is_one_segment, params_for, reference_of, segment_message, sending, sending_message, written_all};
 
-use crate::copies::copied_param;
 use crate::long_fault::LongFault;
 use sccp_address::Address;
 use sccp_base::{List, Octets, OutOfMemory, Reference};
 use sccp_layout::Param;
 use sccp_message::{DecodeFault, EncodeFault, Message, decode, encode, param};
-use sccp_segment::{Segment, SplitDataFault, copied_address, split_data};
+use sccp_segment::{Segment, SplitDataFault, split_data};
 use std::alloc::Global;
 
 // The name of the segmentation parameter (Q.713 section 3.17).
 const SEGMENTATION: u8 = 0x10;
 
-// What a long message has beside its data.
+// What a long message has besides its data.
 #[derive(Drop)]
 struct Frame {
     class: u8,
@@ -48,7 +48,7 @@ fn segmentation(alloc: Global, segment: &Segment) -> Result<Param, OutOfMemory>
     Ok(Param::new(SEGMENTATION, Octets::from_vec(octets)).unwrap())
 }
 
-// The segmentation parameter of a segment, and behind it the other parameters of the message.
+// The segmentation parameter of a segment, and after it the other parameters of the message.
 fn params_for(
     alloc: Global,
     params: &List<Param>,
@@ -61,13 +61,13 @@ fn params_for(
     list.push(segmentation(alloc, segment)?)?;
     for param in params.as_slice() {
         if param.name() != SEGMENTATION {
-            list.push(copied_param(alloc, param)?)?;
+            list.push(param.try_clone(alloc)?)?;
         }
     }
     Ok(list)
 }
 
-// Class 1, so that the segments stay in order, with the message's options on the first segment alone.
+// Class 1, so that the segments stay in order. Only the first segment has the message's options.
 fn class_for(class: u8, segment: &Segment) -> u8
     ensures { result ≡ class_for class segment.now }
 {
@@ -83,8 +83,8 @@ fn message(alloc: Global, frame: &Frame, segment: &Segment) -> Result<Message, O
     requires { segment.now.remaining < 16 }
     ensures { IfOk result (λ m. m ≡ segment_message frame.now.class frame.now.hops frame.now.called frame.now.calling frame.now.params segment.now) }
 {
-    let called = copied_address(alloc, &frame.called)?;
-    let calling = copied_address(alloc, &frame.calling)?;
+    let called = frame.called.try_clone(alloc)?;
+    let calling = frame.calling.try_clone(alloc)?;
     let payload = segment.payload.try_clone(alloc)?;
     let params = params_for(alloc, &frame.params, segment)?;
     Ok(Message::Xudt {
@@ -154,7 +154,7 @@ fn written_all(
     Ok(list)
 }
 
-// Whether a message with these parameters is no segment, or the only one.
+// Whether a message with these parameters is not a segment, or is the only one.
 fn is_one_segment(params: &List<Param>) -> bool
     requires { reads_if segmentation (param_of params.now segmentation) ≡ true }
     ensures { result ≡ is_one_segment (param_of params.now segmentation) }
@@ -165,7 +165,7 @@ fn is_one_segment(params: &List<Param>) -> bool
     }
 }
 
-// The reference of the message's own segmentation parameter, or else the given one.
+// The reference of the message's own segmentation parameter; without one, the given reference.
 fn reference_of(params: &List<Param>, reference: Reference) -> Reference
     requires { reads_if segmentation (param_of params.now segmentation) ≡ true }
     ensures { result ≡ reference_of params.now reference }
@@ -179,7 +179,7 @@ fn reference_of(params: &List<Param>, reference: Reference) -> Reference
     }
 }
 
-// A long message that was read, by its frame and its data.
+// Sends a long message on that was read, given as its frame and its data.
 fn send_message(
     alloc: Global,
     frame: &Frame,
@@ -203,9 +203,10 @@ fn send_message(
     }
 }
 
-/// Sends a long unitdata message (LUDT) on in segments of `size` octets of data each (Q.714 section 4.1): the octets of an
-/// XUDT for each, in order, with the message's addresses, hop counter and other parameters, class 1, and its options on
-/// the first alone. Their reference is that of the message's own segmentation parameter, or else the given one.
+/// Sends a long unitdata message (LUDT) on in segments of `size` octets of data each (Q.714 section 4.1). It answers the
+/// octets of an XUDT for each, in order, of class 1 and with the message's addresses, hop counter and other parameters. Only
+/// the first has the message's options. The reference is that of the message's own segmentation parameter; without one it is
+/// the given one.
 ///
 /// The fault is the first that holds of `NotLong`, `AlreadySegment`, `ZeroSize`, `TooMany` and `NotWritable`.
 pub fn send_on(

@@ -7,7 +7,8 @@ use crate::fields::{PROTOCOL_DATA, first};
 use crate::numbers::number_4;
 use crate::payload::Carried;
 
-/// What the first protocol data carry. `None` exactly where no parameter is protocol data, or the first has fewer than 12 octets.
+/// What the first protocol data carries. `None` exactly if no parameter is protocol data, or the first has fewer than 12
+/// octets.
 pub fn carried(value: &Data) -> Option<Carried<'_>>
     ensures { lent result ≡ carried_of value.now }
 {

@@ -27,7 +27,7 @@ impl Model for Data {
 }
 
 impl Data {
-    /// `None` exactly for more than 1,024 parameters.
+    /// The message of these parameters. `None` exactly for more than 1,024 parameters.
     pub fn new(params: List<Tagged>) -> Option<Data>
         ensures { SomeIff result (length params ≤ 1024) params }
     {
@@ -38,7 +38,7 @@ impl Data {
         }
     }
 
-    /// The parameters.
+    /// The parameters, in the order of the message.
     pub fn params(&self) -> &[Tagged]
         ensures same { result.now ≡ self.now }
         ensures few { length self.now ≤ 1024 }

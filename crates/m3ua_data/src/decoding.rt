@@ -15,7 +15,7 @@ use crate::tagged::Tagged;
 use sccp_base::{List as Params, Octets};
 use std::alloc::Global;
 
-/// A parameter as it stands in a message.
+/// A parameter as a message has it: its tag and its contents, without padding.
 #[derive(Clone, Copy)]
 pub struct Standing<'a> {
     pub tag: u16,
@@ -38,7 +38,7 @@ fn is_length(end: usize, size: usize) -> bool
     end >= 8 && (size == end || size == up_to_four(end))
 }
 
-// The parameter at the front, where all of it stands within so many octets.
+// The parameter at the front, if all of it is within this number of octets.
 fn param_in(octets: &[u8], room: usize) -> Option<Standing<'_>>
     requires { room ≤ length octets.now }
     ensures param { tagged_at result ≡ param_in room octets.now }
@@ -87,7 +87,7 @@ fn params_of(alloc: Global, octets: &[u8], end: usize) -> Result<Params<Tagged>,
     }
 }
 
-// The message of parameters that were read, where their contents are sound.
+// The message of parameters that were read, if their contents are sound.
 fn sound(params: Params<Tagged>) -> Result<Data, DataFault>
     requires { length params ≤ 1024 }
     ensures { Gives (λ value. value) result (unless (field_fault params) (Ok params)) }
@@ -98,7 +98,7 @@ fn sound(params: Params<Tagged>) -> Result<Data, DataFault>
     }
 }
 
-// The message, by the one definition of what reading gives; `decode` says the same by how the octets are put together.
+// The message, by the one definition of what reading gives. `decode` says the same by how the octets are put together.
 #[tactic(auto, unfolding(crate::specs::Reading::reading))]
 fn whole(alloc: Global, octets: &[u8]) -> Result<Data, DataFault>
     ensures { Gives (λ value. value) result (reading octets.now) }
@@ -119,7 +119,7 @@ fn whole(alloc: Global, octets: &[u8]) -> Result<Data, DataFault>
 
 /// The parameters of a DATA message (RFC 4666, section 3.3.1), or the first fault in the order of `DataFault`.
 ///
-/// Parameters may come in any order, other tags are kept, and of a tag the first counts. Reserved and padding octets may have
+/// Parameters may be in any order, other tags are kept, and of a tag the first counts. Reserved and padding octets may have
 /// any value. The length may leave out the last parameter's padding, and the message may then end with it or without it.
 pub fn decode(alloc: Global, octets: &[u8]) -> Result<Data, DataFault>
     ensures found { IfOk result (λ value. DataIs octets.now value) }

@@ -12,7 +12,7 @@ use crate::too_long::TooLong;
 use sccp_base::Octets;
 use std::alloc::{AllocError, Global};
 
-// A parameter is followed by at most three octets.
+// A parameter is followed by at most three octets of padding.
 const PADDING: [u8; 3] = [0; 3];
 
 // The first parameter with more octets than its length can say.
@@ -101,8 +101,8 @@ fn short_written(alloc: Global, params: &[Tagged]) -> Result<Octets, TooLong>
     Ok(Octets::from_vec(octets))
 }
 
-/// The octets of a DATA message: reserved and padding octets are 0, and the length counts all padding. `TooLong::Parameter` for
-/// the first parameter with more than 65,531 octets. What is written of a sound message reads as that message.
+/// The octets of a DATA message: reserved and padding octets are 0, and the length counts all padding. `TooLong::Parameter`
+/// for the first parameter with more than 65,531 octets. What is written of a sound message is read as that message.
 pub fn encode(alloc: Global, value: &Data) -> Result<Octets, TooLong>
     ensures exact { Gives (λ octets. octets) result (writing value.now) }
     ensures again { IfOk result (λ octets. IsSound value.now → DataIs octets value.now) }

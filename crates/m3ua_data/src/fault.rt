@@ -12,13 +12,13 @@ pub enum DataFault {
     /// There are fewer than 8 octets.
     #[error("short")]
     Short,
-    /// Version, class or type isn't 1.
+    /// Version, class or type is not 1.
     #[error("bad header")]
     BadHeader,
     /// The length is below 8, or the number of octets is neither the length nor the next multiple of four.
     #[error("bad length")]
     BadLength,
-    /// The parameter doesn't end inside the length, or its own length is below 4, or it is the 1,025th.
+    /// The parameter does not end inside the length, or its own length is below 4, or it is the 1,025th.
     #[error("bad parameter {0}")]
     BadParameter(u16),
     /// No parameter is protocol data.

@@ -1,7 +1,7 @@
 //! The DATA message of M3UA (RFC 4666, sections 3.2 and 3.3.1), which carries messages of SCCP over IP.
 //!
-//! The layer above may rely on this: octets are read exactly where they are a DATA message with sound contents, into the one
-//! list of parameters that they have; a refusal is the first test that fails; and what is written is read again.
+//! The layer above may rely on this. Octets are read exactly if they are a DATA message with sound contents, into the one
+//! list of parameters that they have. A refusal is the first test that fails, and what is written is read again.
 #![tactic(auto)]
 
 mod carrying;

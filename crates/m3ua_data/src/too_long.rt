@@ -5,7 +5,7 @@ ghost use Rattle.m3ua_data.specs.declared.too_long.TooLong.TheVariants as faults
 use std::alloc::{AllocError, AllocFailed};
 use thiserror::Error;
 
-/// Why a DATA message isn't written.
+/// Why a DATA message is not written.
 #[derive(Clone, Copy, Debug, Error)]
 pub enum TooLong {
     /// The first parameter, counted from 0, with more than 65,531 octets.

@@ -1,11 +1,11 @@
--- Fields that are parted by a separator.
+-- Fields between separators.
 use Rattle.std.proofs.Common.{◌≡◌, ℕ, Bool, true, false, List, [], ◌∷◌, ◌++◌, Option, Some, None, eqb, refl, sym, ◌∙◌, ap, inl, inr, ◌⊎◌}
 use Rattle.std.specs.List.{list_all}
 use Rattle.std.proofs.lemmas.Bool.{and_parts, eq-eqb}
 use Rattle.std.proofs.lemmas.Bool.Decides.{eqb_tells}
 use Rattle.sccp_base.specs.Text.{cut_at}
 
--- what passes a test that the separator doesn't isn't the separator
+-- an octet that passes a test which the separator fails is not the separator
 pub other : (test : ℕ → Bool) (separator octet : ℕ) → test separator ≡ false → test octet ≡ true → eqb octet separator ≡ false
 other test separator octet fails pass =
     elim (eqb_tells octet separator) [

@@ -1,4 +1,4 @@
--- A line more of the trace.
+-- One more line of the trace.
 use Rattle.std.proofs.Common.{◌≡◌, ℕ, ◌+◌, List, [], ◌∷◌, ◌++◌, length, Result, Ok, Err, refl, sym, ◌∙◌, ap, subst, append_assoc, arith}
 use Rattle.std.proofs.lemmas.List.{append-nil}
 use Rattle.plan_model.specs.Network.{Network}
@@ -7,7 +7,7 @@ use Rattle.trace_text.specs.declared.line_fault.LineFault.{LineFault}
 use Rattle.m3ua_trace.specs.Traces.{and_octets, octets_of_line, octets_of_lines, text_of_octets, trace_text, trace_if_read, trace_of, IsTraceOf}
 use Rattle.m3ua_trace.proofs.Traces.{ok, ok_octets, err_octets, is_trace}
 
--- a trace behind a text, or the fault alone
+-- a text and a trace after it, or only the fault
 abbrev pub behind : List ℕ → Result (List ℕ) LineFault → Result (List ℕ) LineFault
 behind text (Ok more) = Ok (text ++ more)
 behind text (Err fault) = Err fault
@@ -19,7 +19,7 @@ joined plan text octets (Ok messages) = ap Ok (ap (λ l. text ++ l) (sym (append
     ∙ sym (append_assoc text (text_of_octets plan octets ++ 10 ∷ []) (trace_text plan messages)))
 joined plan text octets (Err fault) = refl
 
--- a line whose octets are told
+-- a line without a fault
 pub one_more : (plan : Network) (text octets : List ℕ) (number : ℕ) (line : TextLine) (lines : List TextLine) → octets_of_line number line ≡ Ok octets
     → behind text (trace_if_read plan (octets_of_lines number (line ∷ lines))) ≡ behind (text ++ (text_of_octets plan octets ++ 10 ∷ [])) (trace_if_read plan (octets_of_lines (number + 1) lines))
 one_more plan text octets number line lines e =
@@ -36,7 +36,7 @@ unfolding trace_text
 at_end plan text [] number e = ap Ok (append-nil text)
 at_end plan text (octet ∷ octets) number e = absurd (omega arith)
 
--- what the loop hands out is a trace
+-- what the loop gives is a trace
 pub is_traced : (plan : Network) (file text : List ℕ) → trace_of plan file ≡ Ok text → IsTraceOf plan file text
 is_traced plan file text e = by (octets_of_lines 1 (lines_of file)) refl e where
   by : (r : Result (List (List ℕ)) LineFault) → octets_of_lines 1 (lines_of file) ≡ r → trace_if_read plan r ≡ ok text → IsTraceOf plan file text

@@ -1,4 +1,4 @@
--- What a DATA message carries stands in its octets.
+-- What a DATA message carries is among its octets.
 use Rattle.std.proofs.Common.{◌≡◌, ℕ, ◌+◌, ◌-◌, ◌<◌, ◌≤◌, Bool, true, false, cond, eqb, leb, ltb, List, [], ◌∷◌, ◌++◌, length, drop, get_or, Option, Some, None, Ok, refl, sym, ◌∙◌, ap, subst, append_assoc, length-drop, arith, inl, inr, ◌⊎◌}
 use Rattle.std.specs.Prelude.{option_map, option_and_then, find, slice_index, ◌==◌}
 use Rattle.std.proofs.lemmas.Bool.{ltb-true, ltb-false, leb-true}
@@ -13,7 +13,7 @@ use Rattle.m3ua_data.specs.Numbers.{number_4, up_to_four}
 use Rattle.m3ua_data.specs.Reading.{reading}
 use Rattle.m3ua_data.specs.declared.tagged.Tagged.{Tagged}
 
--- octets that are among those of a text, and so many fewer
+-- octets that are among those of a text, and fewer by at least this number
 pub record IsIn (b octets : List ℕ) (fewer : ℕ) : Type 0 where
   pub short : length octets + fewer ≤ length b
   pub bytes : IsBytes octets
@@ -28,7 +28,7 @@ bytes-front front back h = λ i. by i (ltb i (length front)) refl where
   by i true e = subst (λ (x : ℕ). x < 256) (get_or_append_left front back 0 i (ltb-true i (length front) e)) (h i)
   by i false e = subst (λ (x : ℕ). x < 256) (sym (get_or_past front i 0 (ltb-false i (length front) e))) (omega arith)
 
--- the contents of a parameter that stands at the front
+-- the contents of a parameter at the front
 contents_in : (room : ℕ) (octets : List ℕ) (p : Tagged) → IsBytes octets → Stands room octets p → IsBytes p.octets
 contents_in room octets p h s =
     bytes-front p.octets s.behind (subst IsBytes (ap (drop 4) (s.parts ∙ append_assoc (to_be_bytes w16 p.tag ++ to_be_bytes w16 (own_length p)) p.octets s.behind)) (bytes-drop 4 octets h))

@@ -1,4 +1,4 @@
--- Texts that lie on one line.
+-- Texts of one line.
 use Rattle.std.proofs.Common.{◌≡◌, ℕ, zero, suc, ◌-◌, ◌^◌, ◌<◌, ◌≤◌, Bool, true, false, cond, eqb, not, ◌&&◌, ◌||◌, List, [], ◌∷◌, ◌++◌, length, take, get_or, refl, sym, ◌∙◌, ap, arith}
 use Rattle.std.specs.Prelude.{slice_index, decimal, ◌==◌}
 use Rattle.std.specs.Char.{is_ascii_digit}
@@ -61,7 +61,7 @@ one_line (octet ∷ octets) h =
     let p = and_parts (is_plain octet) (list_all is_plain octets) h in
     All-cons (λ octet. is_line_feed octet ≡ false) octet octets (plain_at octet p.0).0 (one_line octets p.1)
 
--- no octet is a carriage return, nor is what a read behind the end gives
+-- no octet is a carriage return, nor is what a read after the end gives
 no_return : (text : List ℕ) (i : ℕ) → IsPlain text → eqb (get_or text i 0) 13 ≡ false
 no_return [] i h = refl
 no_return (octet ∷ octets) zero h = (plain_at octet (and_parts (is_plain octet) (list_all is_plain octets) h).0).1

@@ -213,7 +213,7 @@ line_within number line octets e = by_number (ltb 1000000 number) refl e where
 
 -- ---- all of them
 
--- the octets of all lines can be held, and the last of the lines isn't behind the limit
+-- the octets of all lines can be held, and the last line is within the limit
 record AreWithin (number : ℕ) (messages : List (List ℕ)) : Type 0 where
   each : AllByRecursion IsHeld messages
   few : number ≤ 1000001 → number + length messages ≤ 1000001

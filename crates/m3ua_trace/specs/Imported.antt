@@ -1,4 +1,5 @@
--- What becomes of a DATA message in a trace: a line with the message of SCCP that it carries, or a line that says why there is none.
+-- What becomes of a DATA message in a trace. It is a line with the message of SCCP that it carries, or a line that says why
+-- there is none.
 use Rattle.std.specs.Prelude.{ℕ, not, ◌||◌, ◌==◌, nat_lt, if◌then◌else◌, List, [], ◌++◌, length, codes, decimal, Option, Some, None, Result, Ok, Err, option_and_then}
 use Rattle.std.specs.List.{find}
 use Rattle.hex.specs.Hex.{encode_upper}
@@ -17,7 +18,7 @@ use Rattle.trace_text.specs.declared.line.Line.TheVariants as lines
 
 -- what becomes of it, in the order of testing
 pub data Imported : Type 0 where
-  -- it is no DATA message: the number of the first fault
+  -- it is not a DATA message: the number of the first fault
   Refused : ℕ → Imported
   -- the service indicator is this one, and not that of SCCP
   OtherService : ℕ → Imported
@@ -27,7 +28,7 @@ pub data Imported : Type 0 where
   UnknownNode : Imported
   -- SCCP gets no octets
   NoOctets : Imported
-  -- the node that it is for, by its name, the point that it comes from, and the octets for SCCP
+  -- the name of the node that it is for, the point from which it arrives, and the octets for SCCP
   Message : List ℕ → ℕ → List ℕ → Imported
 
 -- the faults by their numbers, in the order of testing; want of memory is none
@@ -40,11 +41,12 @@ fault_number NoData = 5
 fault_number (BadField tag) = 6
 fault_number OutOfMemory = 0
 
+-- the number of a fault, none for want of memory
 abbrev pub number_unless_memory : DataFault → Option ℕ
 number_unless_memory OutOfMemory = None
 number_unless_memory fault = Some (fault_number fault)
 
--- what the code hands out of a DATA message
+-- what the code gives of a DATA message
 abbrev pub payload_in : Carried → Payload
 payload_in c = record { origin = c.origin; destination = c.destination; service = c.service; payload = c.payload.now }
 
@@ -56,21 +58,24 @@ sccp = 3
 abbrev pub name_at : Network → ℕ → Option (List ℕ)
 name_at plan pc = option_and_then (λ node. name_of node.name) (find (has_point pc) plan.nodes)
 
+-- by the name of the destination's node
 abbrev pub for_node : Option (List ℕ) → ℕ → List ℕ → Imported
 for_node None origin octets = UnknownNode
 for_node (Some name) origin octets = if length octets == 0 then NoOctets else Message name origin octets
 
+-- by what the message carries, in the order of testing
 abbrev pub from_payload : Network → Payload → Imported
 from_payload plan p =
     if not (p.service == sccp) then OtherService p.service
     else if nat_lt 16383 p.origin || nat_lt 16383 p.destination then OtherPoint
     else for_node (name_at plan p.destination) p.origin p.payload
 
--- sound parameters carry something, so the first line isn't met
+-- sound parameters always carry protocol data, so the first case never arises
 abbrev pub from_carried : Network → Option Payload → Imported
 from_carried plan None = Refused (fault_number NoData)
 from_carried plan (Some p) = from_payload plan p
 
+-- by what reading gives
 abbrev pub from_reading : Network → Result (List Tagged) DataFault → Imported
 from_reading plan (Ok params) = from_carried plan (carried_of params)
 from_reading plan (Err fault) = Refused (fault_number fault)
@@ -83,7 +88,7 @@ imported plan octets = from_reading plan (reading octets)
 unfoldable pub message_line : List ℕ → ℕ → List ℕ → List ℕ
 message_line name origin octets = codes "msg " ++ (name ++ (codes " " ++ (point_code_text origin ++ (codes " " ++ encode_upper octets))))
 
--- The line without its line feed. One that begins with # is skipped where the trace is read.
+-- The line without its line feed. A line that begins with # is skipped when the trace is read.
 unfoldable pub imported_text : Imported → List ℕ
 imported_text (Refused fault) = codes "# refused " ++ decimal fault
 imported_text (OtherService service) = codes "# service " ++ decimal service

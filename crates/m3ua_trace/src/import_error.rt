@@ -1,4 +1,4 @@
-//! Why a file doesn't become a trace.
+//! Why a file does not become a trace.
 ghost use Rattle.std.specs.Prelude.{◌≡◌};
 ghost use Rattle.m3ua_trace.specs.declared.import_error.ImportError.TheVariants.{Memory};
 
@@ -6,11 +6,11 @@ use sccp_base::OutOfMemory;
 use std::alloc::AllocError;
 use trace_text::LineFault;
 
-/// Why a file doesn't become a trace.
+/// Why a file does not become a trace.
 #[derive(Clone, Copy, Debug)]
 pub enum ImportError {
     Memory,
-    /// The first line that is no word of hexadecimal digits or breaks a limit of lines.
+    /// The first line that is not a word of hexadecimal digits or breaks a limit of lines.
     Line(LineFault),
 }
 

@@ -20,7 +20,7 @@ const SCCP: u8 = 3;
 /// The greatest point code.
 const LAST_POINT: u32 = 16383;
 
-/// Appends words as they stand.
+/// Appends words unchanged.
 fn put(text: &mut Vec<u8>, words: &[u8]) -> Result<(), OutOfMemory>
     ensures { OnOk result (text.new.items ≡ text.old.items ++ words.now) }
 {
@@ -189,7 +189,7 @@ fn put_data(
     }
 }
 
-/// Appends the line of a trace for the octets of a DATA message, without a line feed.
+/// Appends the line of a trace for the octets of a DATA message, without a line feed. The error is want of memory.
 pub fn put_imported(
     alloc: Global,
     text: &mut Vec<u8>,

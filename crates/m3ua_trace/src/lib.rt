@@ -1,7 +1,7 @@
 //! DATA messages of M3UA (RFC 4666 section 3.3.1), one a line in hexadecimal digits, become a trace of SCCP messages.
 //!
-//! The layer above may rely on this: each line of the file gives one line of the trace, which is the message for a node of the
-//! plan that the DATA message carries, or one that is skipped and says why; and the trace has no faulty line.
+//! The layer above may rely on this. Each line of the file gives one line of the trace. That is the message for a node of
+//! the plan that the DATA message carries, or a line that is skipped and says why. The trace has no faulty line.
 #![tactic(auto)]
 
 mod import_error;

@@ -10,7 +10,7 @@ use sccp_base::{Octets, OutOfMemory};
 use std::alloc::Global;
 use trace_text::{LineFault, LineKind, content, first_line, octets_of};
 
-/// The octets of what a line holds, none where it is empty, or its fault.
+/// The octets of what a line holds, none if it is empty, or its fault.
 fn held_octets(alloc: Global, number: u32, content: &[u8]) -> Result<Octets, ImportError>
     ensures { GivesOctets result (held_octets number content.now) }
 {
@@ -26,7 +26,7 @@ fn held_octets(alloc: Global, number: u32, content: &[u8]) -> Result<Octets, Imp
     }
 }
 
-/// The octets of a line, none where it is empty, or its fault.
+/// The octets of a line, none if it is empty, or its fault.
 fn octets_of_line(
     alloc: Global,
     number: u32,
@@ -42,7 +42,7 @@ fn octets_of_line(
     }
 }
 
-/// Appends the line of a trace for octets; for none, an empty line.
+/// Appends the line of a trace for octets, and an empty line if there are none.
 fn put_line(
     alloc: Global,
     text: &mut Vec<u8>,
@@ -58,10 +58,10 @@ fn put_line(
     Ok(())
 }
 
-/// The trace of a file: for each of its lines one line, with the message of SCCP that the DATA message carries to a node of the
-/// plan, or a line that is skipped: an empty one for an empty line, and else the first of `# refused F` with the number of the
-/// fault, `# service N`, `# point`, `# unknown node` and `# empty` that holds. A line of the file that is no word of hexadecimal
-/// digits or breaks a limit of lines is the answer alone.
+/// The trace of a file, with one line for each of its lines. This is the message of SCCP that a DATA message carries to a
+/// node of the plan, or a line that is skipped. An empty line gives an empty line. Otherwise a skipped line is the first
+/// that holds of `# refused F` with the number of the fault, `# service N`, `# point`, `# unknown node` and `# empty`. The
+/// error is the first line that is not a word of hexadecimal digits or breaks a limit of lines, or want of memory.
 pub fn import(alloc: Global, plan: &Plan, file: &[u8]) -> Result<Vec<u8>, ImportError>
     ensures exact { Gives result (trace_of plan.now file.now) }
     ensures trace { IfOk result (λ text. IsTraceOf plan.now file.now text.items) }

@@ -23,11 +23,11 @@ row_if hands number i d = rule selector None (d ∷ []) (targets_if hands number
 
 -- ---- the plan
 
--- Of the number its remainder counts alone.
+-- only the remainder of the number by three matters
 next_by_remainder : (number i d : ℕ) → next_relay number i d ≡ next_relay (number % 3) i d
 next_by_remainder number i d = ap (λ n. min 7 (i + 1 + n)) (omega arith)
 
--- the relays, by where they hand titles on
+-- the relays, by the relay to which they hand titles on
 abbrev row_by : (ℕ → ℕ → ℕ) → ℕ → ℕ → Rule
 row_by next i d = rule selector None (d ∷ []) (option_to_list (if nat_lt i 7 then Some (onward (next i d)) else None) ++ destination d ∷ [])
 

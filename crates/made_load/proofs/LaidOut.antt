@@ -3,7 +3,7 @@ use Rattle.std.proofs.Common.{◌≡◌, ℕ, ◌/◌, ◌%◌, List, [], ◌∷
 use Rattle.made_load.specs.Draws.{after, pair}
 use Rattle.made_load.specs.Messages.{made_octets}
 
--- as they stand, with the five octets of digits
+-- the octets in their order, with the five octets of digits
 abbrev pub laid : ℕ → ℕ → ℕ → ℕ → ℕ → ℕ → List ℕ
 laid place a b c d e =
     9 ∷ 128 ∷ 3 ∷ 13 ∷ 17 ∷ 10 ∷ 18 ∷ 6 ∷ 0 ∷ 18 ∷ 4 ∷ a ∷ b ∷ c ∷ d ∷ e ∷ 4 ∷ 67 ∷ 1 ∷ 24 ∷ 8 ∷ 4
@@ -16,7 +16,7 @@ drawn_out : (place x : ℕ) → laid place (pair x) (pair (two_on x)) (pair (two
 unfolding made_octets
 drawn_out place x = refl
 
--- where each two digits are drawn behind the last ones
+-- these are the octets of the message at the place, if each two digits are drawn after the last ones
 pub laid_out : (place x x1 x2 x3 x4 a b c d e : ℕ) → x1 ≡ two_on x → x2 ≡ two_on x1 → x3 ≡ two_on x2 → x4 ≡ two_on x3
     → a ≡ pair x → b ≡ pair x1 → c ≡ pair x2 → d ≡ pair x3 → e ≡ pair x4 → laid place a b c d e ≡ made_octets place x
 laid_out place x x1 x2 x3 x4 a b c d e h1 h2 h3 h4 ha hb hc hd he =

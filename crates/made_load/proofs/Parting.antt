@@ -8,7 +8,7 @@ use Rattle.made_load.specs.declared.counts.Counts.{Counts}
 use Rattle.made_load.proofs.Passing.{one_part}
 use Rattle.made_load.proofs.Sending.{roomy, stands_after}
 
--- ---- where the parts begin
+-- ---- the places at which the parts begin
 
 div_grows : (a b p : ℕ) → 0 < p → a ≤ b → a / p ≤ b / p
 div_grows a b p some le = le-div (a / p) b p some (le_trans (div-mul-le_self a p) le)

@@ -1,4 +1,4 @@
--- Messages that aren't sent leave what those leave that are, but for the counts.
+-- Messages that are not sent leave the same as those that are, but for the counts.
 use Rattle.std.proofs.Common.{◌≡◌, ◌≤◌, ◌<◌, ℕ, zero, suc, ◌+◌, ◌-◌, ◌%◌, Bool, true, false, cond, List, length, refl, sym, ◌∙◌, ap, subst, arith}
 use Rattle.std.specs.Prelude.{◌==◌}
 use Rattle.plan_model.specs.Network.{Network}
@@ -83,7 +83,7 @@ all_bare plan zero i l = refl
 all_bare plan (suc n) i l =
     ap (λ k. all_passed plan n (i + 1) (passed k)) (before_bare plan i l) ∙ all_bare plan n (i + 1) (sent plan i (before_message plan i l))
 
--- ---- one part behind the other
+-- ---- one part after another
 
 splits : (plan : Network) (n m i : ℕ) (l : Load) → all_sent plan (n + m) i l ≡ all_sent plan m (i + n) (all_sent plan n i l)
 splits plan zero m i l =
@@ -113,7 +113,7 @@ one_part number from upto le =
     ∙ ap (λ k. ahead there.counts (all_sent plan (upto - from) from k)) (sym (all_bare plan from 0 first)) in
     ap (λ (k : Load). k.counts) same
 
--- ---- messages that aren't sent
+-- ---- messages that are not sent
 
 -- those that are left up to a place leave what all of them leave
 pub record StillPasses (plan : Network) (upto place : ℕ) (first l : Load) : Type 0 where

@@ -6,10 +6,10 @@ use Rattle.sccp_base.specs.declared.mark.Mark.{Mark}
 use Rattle.sccp_message.specs.Reading.{reading}
 use Rattle.sccp_message.specs.declared.fault.DecodeFault.{DecodeFault}
 use Rattle.sccp_message.specs.declared.message.Message.{Message}
+use Rattle.sccp_message.specs.Unitdata.{hops_of}
 use Rattle.plan_model.specs.Network.{Network, node_of}
 use Rattle.plan_model.specs.declared.node.Node.{Node}
 use Rattle.sccp_scrc.specs.Arriving.{arrival, point_of}
-use Rattle.sccp_scrc.specs.Unitdata.{hops_of}
 use Rattle.sccp_scrc.specs.declared.arrival.Arrival.{Arrival}
 use Rattle.sccp_scrc.specs.declared.arrival.Arrival.TheVariants as arrivals
 use Rattle.relay_net.specs.Journeys.{held_at, onward, travel, most_arrivals, journey}
@@ -26,7 +26,7 @@ use Rattle.made_load.specs.declared.counts.Counts.{Counts}
 use Rattle.made_load.specs.declared.fate.Fate.{Fate}
 use Rattle.made_load.specs.declared.fate.Fate.TheVariants as fates
 
--- ---- a message comes to fifteen nodes at most
+-- ---- a message reaches fifteen nodes at most
 
 travel_few : (plan : Network) (states : List (List Mark)) (left node origin : ℕ) (b : List ℕ) → length (travel plan states left node origin b).path ≤ left
 travel_few plan states zero node origin b = omega arith
@@ -80,7 +80,7 @@ ready_after plan place l ready same is = subst (IsAfter place) (sym same) (prepa
 pub roomy : (place : ℕ) (l : Load) → place < 2 ^ 32 → IsAfter place l → IsRoomy l.counts
 roomy place l lt is = record { messages = omega (arith, lt, is.messages); ended = omega (arith, lt, is.ended); returned = omega (arith, lt, is.returned); translations = omega (arith, lt, is.translations) }
 
--- so many at most were counted
+-- at most this number was counted
 record AreAtMost (count : ℕ) (c : Counts) : Type 0 where
   pub messages : c.messages ≤ count
   pub ended : c.ended ≤ count
@@ -141,7 +141,7 @@ all_after plan (suc count) place l is =
     subst (λ n. IsAfter n (all_sent plan count (place + 1) (sent plan place (before_message plan place l)))) (omega arith)
     (all_after plan count (place + 1) (sent plan place (before_message plan place l)) (one_sent plan place (before_message plan place l) (prepared plan place l is)))
 
--- where a load stands before the message at a place
+-- the state of a load before the message at a place
 pub stands_after : (plan : Network) (number place : ℕ) → plan ≡ load_plan number → IsAfter place (all_sent plan place 0 (begun number plan))
 stands_after plan number place own =
     subst (λ n. IsAfter n (all_sent plan place 0 (begun number plan))) (omega arith) (all_after plan place 0 (begun number plan) (begun_after number plan (of_eight plan number own)))

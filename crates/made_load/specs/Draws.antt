@@ -1,14 +1,15 @@
--- Numbers that follow one from the other.
+-- Numbers that follow one from another.
 use Rattle.std.specs.Prelude.{ℕ, zero, suc, ◌+◌, ◌*◌, ◌/◌, ◌%◌, ◌^◌, List, [], ◌∷◌}
 
--- a linear congruential generator: where it comes to from a number
+-- a linear congruential generator: the number after a number
 abbrev pub after : ℕ → ℕ
 after x = (1664525 * x + 1013904223) % 2 ^ 32
 
--- what is drawn on the way: the upper sixteen bits
+-- the value that is drawn from a number: the upper sixteen bits of the number after it
 abbrev pub drawn : ℕ → ℕ
 drawn x = after x / 65536
 
+-- a digit from a drawn value
 abbrev pub digit : ℕ → ℕ
 digit x = drawn x % 10
 
@@ -16,11 +17,12 @@ digit x = drawn x % 10
 abbrev pub pair : ℕ → ℕ
 pair x = digit x + 16 * digit (after x)
 
--- so many digits, and where the generator comes to
+-- this number of digits
 abbrev pub digits : ℕ → ℕ → List ℕ
 digits zero x = []
 digits (suc count) x = digit x ∷ digits count (after x)
 
+-- the number after as many digits
 abbrev pub after_digits : ℕ → ℕ → ℕ
 after_digits zero x = x
 after_digits (suc count) x = after_digits count (after x)

@@ -1,3 +1,4 @@
+-- The definitions of this crate, one file a subject.
 pub mod Draws
 pub mod Relays
 pub mod Messages

@@ -22,12 +22,13 @@ use Rattle.made_load.specs.Relays.{end_point, load_plan}
 abbrev pub no_counts : Counts
 no_counts = record { messages = 0; ended = 0; returned = 0; translations = 0 }
 
+-- a message with this fate
 abbrev pub with_fate : Fate → Counts → Counts
 with_fate Ended c = record c { ended = c.ended + 1 }
 with_fate Returned c = record c { returned = c.returned + 1 }
 with_fate Other c = c
 
--- one more message, with a translation at each node that it came to
+-- one more message, with a translation at each node that it reached
 abbrev pub with_message : ℕ → Fate → Counts → Counts
 with_message nodes fate c = with_fate fate (record c { messages = c.messages + 1; translations = c.translations + nodes })
 
@@ -43,7 +44,7 @@ pub record IsRoomy (c : Counts) : Type 0 where
 
 -- ---- one message after the other
 
--- where a load stands: the number that the draws have come to, what the relays keep, and what was counted
+-- the state of a load: the number that the draws have reached, what the relays keep, and what was counted
 pub record Load : Type 0 where
   pub at : ℕ
   pub states : List State
@@ -56,7 +57,7 @@ drawn_relay value = value / 10 % 8
 abbrev pub drawn_point : ℕ → ℕ
 drawn_point value = end_point (value % 10)
 
--- a relay is told that it has lost a point or, where it had, that the point is there again
+-- the event at a relay that it loses a point or, if it has lost it, that the point is there again
 abbrev pub turn : List State → ℕ → ℕ → Event
 turn states node pc = if holds (held_at (markings_of states) node) (PointCode pc) then Resume pc else Pause pc
 
@@ -64,17 +65,18 @@ abbrev pub turned : Network → List State → ℕ → List State
 turned plan states value =
     (applied plan states (drawn_relay value) (Managed (turn states (drawn_relay value) (drawn_point value)))).states
 
--- before every sixty-fourth message a drawn relay is told so of a drawn destination
+-- before every sixty-fourth message a drawn relay loses or finds a drawn destination
 abbrev pub before_message : Network → ℕ → Load → Load
 before_message plan i l =
     if i % 64 == 63 then record l { at = after l.at; states = turned plan l.states (drawn l.at) } else l
 
--- Its ten digits are drawn, and it comes to the first relay. No relay has subsystems, so its end leaves nothing to be done.
+-- The message's ten digits are drawn, and it arrives at the first relay. No relay has subsystems, so its end leaves nothing
+-- to be done.
 abbrev pub sent : Network → ℕ → Load → Load
 sent plan i l =
     record l { at = after_digits 10 l.at; counts = counted (journey plan (markings_of l.states) 0 origin (made_octets i l.at)) l.counts }
 
--- so many messages, from a place on
+-- this number of messages, from a place on
 abbrev pub all_sent : Network → ℕ → ℕ → Load → Load
 all_sent plan zero i l = l
 all_sent plan (suc left) i l = all_sent plan left (i + 1) (sent plan i (before_message plan i l))
@@ -82,11 +84,11 @@ all_sent plan (suc left) i l = all_sent plan left (i + 1) (sent plan i (before_m
 abbrev pub begun : ℕ → Network → Load
 begun number plan = record { at = number; states = first_states plan; counts = no_counts }
 
--- the counts of so many messages that are made from a number, over the relays of the number's plan
+-- the counts of `size` messages that are made from a number, over the relays of the number's plan
 unfoldable pub load_counts : ℕ → ℕ → Counts
 load_counts number size = (all_sent (load_plan number) size 0 (begun number (load_plan number))).counts
 
--- so many messages at most were counted, and there are eight relays
+-- at most this number of messages was counted, and there are eight relays
 pub record IsAfter (count : ℕ) (l : Load) : Type 0 where
   pub states : length l.states ≡ 8
   pub messages : l.counts.messages ≤ count
@@ -96,16 +98,17 @@ pub record IsAfter (count : ℕ) (l : Load) : Type 0 where
 
 -- ---- in parts
 
--- its ten digits are drawn, and it isn't sent
+-- the message's ten digits are drawn, but it is not sent
 abbrev pub passed : Load → Load
 passed l = record l { at = after_digits 10 l.at }
 
--- so many messages, from a place on, aren't sent: relays lose and find destinations, and digits are drawn
+-- This number of messages, from a place on, is not sent. Relays lose and find destinations, and digits are drawn, as if they
+-- were.
 abbrev pub all_passed : Network → ℕ → ℕ → Load → Load
 all_passed plan zero i l = l
 all_passed plan (suc left) i l = all_passed plan left (i + 1) (passed (before_message plan i l))
 
--- the counts of so many messages from a place on
+-- the counts of this number of messages from a place on
 abbrev pub part_counts : ℕ → ℕ → ℕ → Counts
 part_counts number from count =
     (all_sent (load_plan number) count from (all_passed (load_plan number) from 0 (begun number (load_plan number)))).counts
@@ -118,7 +121,7 @@ plus c d = record {
   translations = c.translations + d.translations;
 }
 
--- the place at which a part begins, of so many that are about equal
+-- the place at which a part begins, of parts that are about equal
 abbrev pub beginning : ℕ → ℕ → ℕ → ℕ
 beginning size parts part = size * part / parts
 

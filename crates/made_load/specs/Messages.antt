@@ -7,7 +7,7 @@ use Rattle.sccp_message.specs.declared.message.Message.TheVariants.{Udt}
 use Rattle.made_load.specs.Draws.{digits}
 use Rattle.made_load.specs.Relays.{selector}
 
--- they come from 3-0-1
+-- the point of their calling address, 3-0-1, from which they arrive
 abbrev pub origin : ℕ
 origin = 6145
 

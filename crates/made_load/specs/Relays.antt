@@ -23,7 +23,7 @@ selector = numbers 4 0 1 4
 abbrev pub destination : ℕ → Target
 destination d = Final (end_point d) (Some 6)
 
--- a relay hands titles on to one of the next three, as their first digit and the number say
+-- a relay hands titles on to one of the next three, which their first digit and the number choose
 abbrev pub next_relay : ℕ → ℕ → ℕ → ℕ
 next_relay number i d = min 7 (i + 1 + (number + i + d) % 3)
 
@@ -34,7 +34,7 @@ onward i = Relay (relay_point i) 0 [] None None
 abbrev pub first_target : ℕ → ℕ → ℕ → Option Target
 first_target number i d = if nat_lt i 7 then Some (onward (next_relay number i d)) else None
 
--- to another relay first, and then straight to the destination
+-- to another relay first, and otherwise straight to the destination
 abbrev pub targets : ℕ → ℕ → ℕ → List Target
 targets number i d = option_to_list (first_target number i d) ++ destination d ∷ []
 
@@ -45,6 +45,7 @@ row_of number i d = rule selector None (d ∷ []) (targets number i d)
 abbrev pub rows_of : ℕ → ℕ → List Rule
 rows_of number i = map (row_of number i) (range_with_len 0 10)
 
+-- relay i with its rows, without subsystems
 abbrev pub relay : ℕ → ℕ → Node
 relay number i =
     record { name = codes "n" ++ decimal i; pc = relay_point i; subsystems = []; concerned = []; table = rows_of number i }

@@ -1,9 +1,10 @@
+//! What is counted of the messages of a load.
 ghost use Rattle.std.specs.Prelude.{◌≡◌, ◌≤◌};
 
 use crate::fate::Fate;
 
-/// How many messages were sent, how many of them ended at a destination and how many came back, and how many translations
-/// were made on their ways. The ways of service messages don't count.
+/// The number of messages that were sent, of those that ended at a destination, of those that were returned, and of
+/// translations on their ways. The ways of service messages do not count.
 #[derive(Drop)]
 pub struct Counts {
     pub messages: usize,
@@ -15,7 +16,7 @@ pub struct Counts {
 impl Counts {
     ghost use Rattle.made_load.specs.Loads.{no_counts, plus, with_message, IsRoomy};
 
-    /// Before the first message.
+    /// The counts before the first message.
     pub(crate) fn none() -> Counts
         ensures { result ≡ no_counts }
     {
@@ -27,7 +28,7 @@ impl Counts {
         }
     }
 
-    /// One more message, which came to so many nodes and ended so.
+    /// Counts one more message, which reached this number of nodes and has this fate.
     pub(crate) fn add(&mut self, nodes: usize, fate: Fate)
         requires few { nodes ≤ 15 }
         requires room { IsRoomy self.old }
@@ -42,7 +43,7 @@ impl Counts {
         }
     }
 
-    /// The counts of further messages.
+    /// Adds the counts of further messages.
     pub(crate) fn join(&mut self, more: &Counts)
         requires room { IsRoomy (plus self.old more.now) }
         ensures { self.new ≡ plus self.old more.now }

@@ -1,10 +1,10 @@
-//! Numbers that follow one from the other.
+//! Numbers that follow one from another.
 ghost use Rattle.std.specs.Prelude.{◌≡◌, ◌<◌};
 ghost use Rattle.made_load.specs.Draws.{after, after_digits, drawn, digit, pair};
 
 use std::marker::Model;
 
-/// A linear congruential generator, which contracts see as the number that it has come to.
+/// A linear congruential generator, which contracts see as the number that it has reached.
 #[derive(Drop)]
 pub(crate) struct Draws {
     at: u32,
@@ -19,14 +19,14 @@ impl Model for Draws {
 }
 
 impl Draws {
-    /// It begins at the number.
+    /// A generator that begins at the number.
     pub(crate) fn new(number: u32) -> Draws
         ensures { result ≡ number }
     {
         Draws { at: number }
     }
 
-    /// The next drawn value: the upper sixteen bits of where it comes to.
+    /// The next drawn value: the upper sixteen bits of the number that the generator reaches.
     pub(crate) fn draw(&mut self) -> u16
         ensures value { result ≡ drawn self.old }
         ensures next { self.new ≡ after self.old }
@@ -55,7 +55,7 @@ impl Draws {
         low + 16 * high
     }
 
-    /// Ten digits are drawn and not looked at.
+    /// Draws ten digits without looking at them.
     pub(crate) fn pass(&mut self)
         ensures { self.new ≡ after_digits 10 self.old }
     {

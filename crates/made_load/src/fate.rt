@@ -1,3 +1,4 @@
+//! How journeys end, as far as it is counted.
 ghost use Rattle.std.specs.Prelude.{◌≡◌, length};
 ghost use Rattle.made_load.specs.Fates.{fate_of};
 
@@ -10,13 +11,13 @@ use sccp_message::Message;
 pub(crate) enum Fate {
     /// The message went to its destination.
     Ended,
-    /// It came back.
+    /// It was returned.
     Returned,
     /// Another end.
     Other,
 }
 
-// What isn't counted goes out of scope in functions of their own: the drop of a message is spelled out type by type.
+// What is not counted goes out of scope in functions of its own: the drop of a message is spelled out type by type.
 fn uncounted(_message: Boxed<Message>) -> Fate
     ensures { result ≡ Fate.Other }
 {
@@ -43,7 +44,7 @@ fn forget_end(end: Option<End>) {
     }
 }
 
-/// The way of a service message doesn't count.
+/// Drops the way of a service message, which does not count.
 fn forget(back: Option<Boxed<Back>>) {
     if let Some(back) = back {
         let Back {
@@ -56,7 +57,7 @@ fn forget(back: Option<Boxed<Back>>) {
     }
 }
 
-/// How many nodes a message came to, and how its journey ended.
+/// The number of nodes that a message reached, and how its journey ended.
 pub(crate) fn passed(journey: Journey) -> (usize, Fate)
     ensures nodes { result.0 ≡ length journey.path }
     ensures fate { result.1 ≡ fate_of journey.end }

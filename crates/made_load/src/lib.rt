@@ -1,8 +1,8 @@
 //! A plan of eight relays and any number of messages, made from a number, and what becomes of the messages.
 //!
-//! The layer above may rely on this: the same number gives the same plan and the same messages, and the four counts are those of
-//! the journeys of exactly these messages, with relays that lose and find destinations on the way (ITU-T Q.714 sections 2 and 5).
-//! They are so however many workers send them.
+//! The layer above may rely on this. The same number gives the same plan and the same messages. The four counts are those of
+//! the journeys of exactly these messages (ITU-T Q.714 sections 2 and 5). Relays lose and find destinations meanwhile. The
+//! counts do not depend on how many workers send the messages.
 #![tactic(auto)]
 
 mod counts;

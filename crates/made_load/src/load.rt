@@ -1,4 +1,4 @@
-//! Messages that are made and sent one after the other.
+//! Messages that are made and sent one after another.
 ghost use Rattle.std.specs.Prelude.{◌≡◌, ◌<◌, ◌+◌, ◌-◌, ◌^◌, length, IfOk, OnOk};
 ghost use Rattle.relay_net.specs.Journeys.{held_at, journey};
 ghost use Rattle.relay_net.specs.States.{markings_of};
@@ -20,7 +20,7 @@ use sccp_manage::Event;
 use std::alloc::Global;
 use std::marker::Model;
 
-/// Where the sending stands: what was drawn last, what the relays keep, and what was counted.
+/// The state of the sending: what was drawn last, what the relays keep, and what was counted.
 #[derive(Drop)]
 struct Load {
     draws: Draws,
@@ -44,7 +44,7 @@ fn marking_at(net: &Net, relay: u8) -> &Marking
     net.states()[usize::from(relay)].marking()
 }
 
-/// What a relay is told of a point: that it is lost or, where it was, that it is there again.
+/// The event at a relay that it loses a point or, if it has lost it, that the point is there again.
 fn turn(net: &Net, relay: u8, point: PointCode) -> Event
     requires { relay < length net.now }
     ensures { result ≡ turn net.now relay point }
@@ -56,7 +56,7 @@ fn turn(net: &Net, relay: u8, point: PointCode) -> Event
     }
 }
 
-/// The relay that a drawn value names is told so of the destination that it names.
+/// The relay that a drawn value names loses or finds the destination that the value names.
 fn turn_drawn(plan: &Plan, net: &mut Net, value: u16) -> Result<(), OutOfMemory>
     requires nodes { length plan.now.nodes ≡ 8 }
     requires states { length net.old ≡ 8 }
@@ -68,7 +68,7 @@ fn turn_drawn(plan: &Plan, net: &mut Net, value: u16) -> Result<(), OutOfMemory>
     Ok(())
 }
 
-/// The octets of a message have their journey, which is counted.
+/// Sends the octets of a message on their journey, and counts it.
 fn carry(
     alloc: Global,
     accepted: &Accepted,
@@ -88,7 +88,7 @@ fn carry(
 }
 
 impl Load {
-    /// Before the first message.
+    /// The load before the first message.
     fn begin(alloc: Global, number: u32, plan: &Plan) -> Result<Load, OutOfMemory>
         ensures { IfOk result (λ load. load ≡ begun number plan.now) }
     {
@@ -99,7 +99,7 @@ impl Load {
         })
     }
 
-    /// Before every sixty-fourth message a drawn relay loses or finds a drawn destination.
+    /// Before every sixty-fourth message, lets a drawn relay lose or find a drawn destination.
     fn prepare(&mut self, plan: &Plan, place: u32) -> Result<(), OutOfMemory>
         requires nodes { length plan.now.nodes ≡ 8 }
         requires states { length self.old.states ≡ 8 }
@@ -112,7 +112,7 @@ impl Load {
         Ok(())
     }
 
-    /// The message at a place is made, and has its journey.
+    /// Makes the message at a place, and sends it on its journey.
     fn send(&mut self, alloc: Global, accepted: &Accepted, place: u32) -> Result<(), OutOfMemory>
         requires nodes { length accepted.now.plan.nodes ≡ 8 }
         requires after { IsAfter place self.old }
@@ -122,7 +122,7 @@ impl Load {
         carry(alloc, accepted, &self.net, &octets, &mut self.counts)
     }
 
-    /// The messages from a place up to another are made and sent. Each is made when it is sent, and not kept.
+    /// Makes and sends the messages from a place up to another. Each is made when it is sent, and not kept.
     fn send_all(
         &mut self,
         alloc: Global,
@@ -141,7 +141,7 @@ impl Load {
         Ok(())
     }
 
-    /// The messages up to a place aren't sent.
+    /// Passes over the messages up to a place without sending them: only their draws and the changes of relays happen.
     fn pass_all(&mut self, plan: &Plan, upto: u32) -> Result<(), OutOfMemory>
         requires nodes { length plan.now.nodes ≡ 8 }
         requires states { length self.old.states ≡ 8 }
@@ -155,7 +155,8 @@ impl Load {
     }
 }
 
-/// The counts of the messages from a place up to another, over the relays of an accepted plan, which is the number's.
+/// The counts of the messages from a place up to another, over the relays of an accepted plan, which is the number's. The
+/// error is want of memory.
 pub(crate) fn part_counts(
     alloc: Global,
     accepted: &Accepted,

@@ -6,10 +6,10 @@ ghost use Rattle.made_load.specs.Messages.{made_octets, origin};
 use crate::draws::Draws;
 use sccp_base::PointCode;
 
-/// How many octets each message has.
+/// The number of octets of each message.
 pub(crate) const LENGTH: usize = 26;
 
-/// The point that the messages come from.
+/// The point from which the messages arrive.
 pub(crate) fn origin() -> PointCode
     ensures { result ≡ origin }
 {
@@ -19,8 +19,8 @@ pub(crate) fn origin() -> PointCode
     }
 }
 
-/// The octets of the message at a place, whose digits are drawn (Q.713 section 4.10): a class that asks for return, three
-/// pointers, the called address with its title, the calling address, and the place as data.
+/// The octets of the message at a place, whose digits are drawn (Q.713 section 4.10). It has a class that asks for return,
+/// three pointers, the called address with its title, the calling address, and the place as data.
 #[tactic(auto, unfolding(crate::specs::Messages::made_octets))]
 pub(crate) fn made_octets(place: u32, draws: &mut Draws) -> [u8; LENGTH]
     ensures value { result ≡ made_octets place draws.old }
@@ -49,7 +49,7 @@ pub(crate) fn made_octets(place: u32, draws: &mut Draws) -> [u8; LENGTH]
         third,
         fourth,
         fifth,
-        // The calling address: the point 3-0-1 and its subsystem 8, which the message goes back by.
+        // The calling address, to which the message is returned: the point 3-0-1 and its subsystem 8.
         4,
         0x43,
         0x01,

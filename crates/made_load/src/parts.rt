@@ -1,4 +1,4 @@
-//! The messages of a load in parts, which are sent beside each other.
+//! The messages of a load in parts, which are sent in parallel.
 ghost use Rattle.std.specs.Prelude.{◌≡◌, ℕ, ◌+◌, ◌<◌, ◌≤◌, ◌^◌, length, slice_index_or, vec_len, IfOk};
 ghost use Rattle.made_load.specs.Loads.{beginning, counts_of_part, load_counts};
 ghost use Rattle.made_load.specs.Relays.{load_plan};
@@ -11,10 +11,10 @@ use std::alloc::{AllocError, Global};
 use std::thread;
 use std::thread::Threads;
 
-/// How many messages are worth a thread.
+/// The number of messages that is worth a thread.
 const WORTHWHILE: u32 = 256;
 
-/// The place at which a part begins, of so many that are about equal.
+/// The place at which a part begins, of parts that are about equal.
 fn beginning(size: u32, parts: u32, part: u32) -> u32
     requires some { 0 < parts }
     requires within { part ≤ parts }
@@ -23,7 +23,7 @@ fn beginning(size: u32, parts: u32, part: u32) -> u32
     (u64::from(size) * u64::from(part) / u64::from(parts)) as u32
 }
 
-/// How many parts there are: one for each worker, but none that isn't worth a thread.
+/// The number of parts: one for each worker, but none that is not worth a thread.
 fn parts_for(size: u32, workers: u32) -> u32
     requires { 0 < workers }
     ensures { 0 < result }
@@ -31,7 +31,7 @@ fn parts_for(size: u32, workers: u32) -> u32
     (size / WORTHWHILE).clamp(1, workers)
 }
 
-/// The counts of one part. The relays' states where it begins are those that the happenings before it leave.
+/// The counts of one part. The relays' states at its beginning are those that the changes before it leave.
 fn counts_of_part(
     alloc: Global,
     accepted: &Accepted,
@@ -49,7 +49,7 @@ fn counts_of_part(
     part_counts(alloc, accepted, number, from, upto)
 }
 
-/// The counts of each part, each in a thread of its own where one can be made.
+/// The counts of each part, each in a thread of its own if one can be made.
 fn count_parts<R: Threads + Sync>(
     rt: &R,
     alloc: Global,
@@ -73,8 +73,8 @@ fn count_parts<R: Threads + Sync>(
     )
 }
 
-/// The counts of so many messages over the relays of an accepted plan, which is the number's, sent by so many workers beside
-/// each other where that is worth it. They are the same for each number of workers.
+/// The counts of `size` messages over the relays of an accepted plan, which is the number's. As many `workers` send them in
+/// parallel if that is worth it; the counts do not depend on their number. The error is want of memory.
 pub fn load_counts<R: Threads + Sync>(
     rt: &R,
     alloc: Global,

@@ -20,6 +20,7 @@ fn name(place: u8) -> Name
     }
 }
 
+/// A relay with its table, without subsystems and concerned points.
 fn relay(alloc: Global, number: u32, place: u8) -> Result<Node, OutOfMemory>
     requires { place < 8 }
     ensures { IfOk result (λ node. node ≡ relay number place) }
@@ -33,6 +34,7 @@ fn relay(alloc: Global, number: u32, place: u8) -> Result<Node, OutOfMemory>
     })
 }
 
+/// The eight relays.
 fn relays(alloc: Global, number: u32) -> Result<List<Node>, OutOfMemory>
     ensures { IfOk result (λ nodes. nodes ≡ relays number) }
 {
@@ -54,6 +56,7 @@ fn allowed(alloc: Global) -> Result<List<(PointCode, u8)>, OutOfMemory>
     Ok(places)
 }
 
+/// The cover of all titles of ten digits at the first relay.
 fn cover(alloc: Global) -> Result<Cover, OutOfMemory>
     ensures { IfOk result (λ c. c ≡ cover) }
 {
@@ -76,8 +79,8 @@ fn covers(alloc: Global) -> Result<List<Cover>, OutOfMemory>
     Ok(covers)
 }
 
-/// The plan of a number: eight relays, each of which hands titles on to one of the next three or, where that one is closed,
-/// brings them to their destinations itself, and a cover of all titles of ten digits at the first relay.
+/// The plan of a number: eight relays, and a cover of all titles of ten digits at the first one. Each relay hands titles on
+/// to one of the next three or, if that one is closed, sends them to their destinations itself. The error is want of memory.
 pub fn load_plan(alloc: Global, number: u32) -> Result<Plan, OutOfMemory>
     ensures plan { IfOk result (λ plan. plan ≡ load_plan number) }
     ensures sound { IfOk result IsPlan }

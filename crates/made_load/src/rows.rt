@@ -49,7 +49,7 @@ fn destination(digit: u8) -> Target
     }
 }
 
-/// The relay to which another one hands titles on that begin with the digit.
+/// The relay to which another one hands on titles that begin with the digit.
 fn next_relay(number: u32, place: u8, digit: u8) -> u8
     requires place { place < 7 }
     requires digit { digit < 10 }
@@ -73,7 +73,7 @@ fn onward(place: u8) -> Target
     }
 }
 
-/// All relays but the last hand titles on.
+/// The first target of a row: all relays but the last hand titles on.
 fn first_target(number: u32, place: u8, digit: u8) -> Option<Target>
     requires place { place < 8 }
     requires digit { digit < 10 }
@@ -86,7 +86,7 @@ fn first_target(number: u32, place: u8, digit: u8) -> Option<Target>
     }
 }
 
-/// No digit.
+/// A list of no digits.
 pub(crate) fn no_digits() -> Digits
     ensures { result ≡ [] }
 {
@@ -96,7 +96,7 @@ pub(crate) fn no_digits() -> Digits
     }
 }
 
-/// This digit alone.
+/// A list of this one digit.
 fn one_digit(digit: u8) -> Digits
     requires { digit < 10 }
     ensures { result ≡ digit ∷ [] }
@@ -107,7 +107,7 @@ fn one_digit(digit: u8) -> Digits
     }
 }
 
-/// A row has the destination itself as its last target.
+/// The row for titles that begin with the digit. It has the destination itself as its last target.
 fn row(alloc: Global, number: u32, place: u8, digit: u8) -> Result<Row, OutOfMemory>
     requires place { place < 8 }
     requires digit { digit < 10 }

@@ -5,6 +5,7 @@ use Rattle.std.proofs.Common.{sym, ◌∙◌, ap, subst, inl, inr, ⊎_elim, ari
 use Rattle.std.proofs.lemmas.Bool.{cases_lt}
 use Rattle.std.proofs.lemmas.List.{get_or_past, length-map}
 use Rattle.std.proofs.lemmas.Option.{slice_get_within, slice_get-get_or, get_or_from_slice_get}
+use Rattle.plan_model.specs.Limits.{most_covers}
 use Rattle.plan_model.specs.declared.cover.Cover.{Cover}
 use Rattle.plan_model.specs.declared.spot.Spot.{Spot}
 use Rattle.plan_model.specs.declared.hop.Step.{Step}
@@ -132,10 +133,10 @@ suits_all old new spot (Ended pc ssn target) also a b each = (
       subst (λ (o : Option Cover). IsSomeAnd o (λ q. Contains q.allowed (pc, ssn))) c.at there,
 )
   where
-    few : (d : HasCover new spot) → d.number < 256
+    few : (d : HasCover new spot) → d.number < most_covers
     few d = omega (arith, slice_get_within new.covers d.number d.cover d.at, also.few_covers)
 
--- a walk that came through shows that the mixture is safe for its hops
+-- a walk that ended without a bad title shows that the mixture is safe for its hops
 pub through_safe : (old new : Network) (layers : List (List Stop)) (bound : ℕ) → IsPlan old → IsPlan new → AreLayers old new layers → IsThrough layers bound → BothSafe old new bound
 through_safe old new layers bound is also are through spot turns old_covered new_covered size =
     let a = covering old spot old_covered in
@@ -178,7 +179,7 @@ first_covered old new layers number spot is also are h =
     start : IsFromStart old new stop.0
     start = of_all (IsFromStart old new) (stops_at layers 0) h.0 stop.0 stop.1 are.first
 
-    few : start.j < 256
+    few : start.j < most_covers
     few = omega (arith, slice_get_within new.covers start.j start.b start.new_at, also.few_covers)
 
     number_is : pair start.i start.j ≡ number
@@ -201,7 +202,7 @@ last-append [] h = refl
 last-append (x ∷ []) h = refl
 last-append (x ∷ y ∷ ys) h = last-append (y ∷ ys) h
 
--- the whole of a way that is behind so many hops, with one turn of its own
+-- the whole route of a way that follows this number of hops and has one turn of its own
 behind_one : (old new : Network) (hops : ℕ) (way before : Way) (turn : Turn) → way.turns ≡ turn ∷ [] → (b : IsBehind old new hops way before) → mixed old new before.spot before.turns ≡ b.front ++ record { spot = way.spot; step = made old new turn way.spot } ∷ []
 behind_one old new hops way before turn one b = b.route ∙ ap (λ (hs : List Hop). b.front ++ hs) (ap (mixed old new way.spot) one ∙ one_hop old new way.spot turn)
 

@@ -1,4 +1,4 @@
--- The route of a title where each relay holds one of two plans.
+-- The route of a title while each relay holds one of two plans.
 use Rattle.std.specs.Prelude.{ℕ, ◌≡◌, ◌≤◌, ◌⊎◌, List, [], ◌∷◌, length, IsSomeAnd}
 use Rattle.plan_model.specs.declared.spot.Spot.{Spot}
 use Rattle.plan_model.specs.declared.hop.Step.{Step}
@@ -31,7 +31,7 @@ tagged (hop ∷ hops) (turn ∷ turns) = record { which = turn.which; hop = hop 
 abbrev pub BothAllow : Network → Network → Spot → ℕ → ℕ → Type 0
 BothAllow old new spot pc ssn = IsAllowed old spot pc ssn × IsAllowed new spot pc ssn
 
--- the mixed route of each spot that both plans cover ends so within the bound, whatever each relay on it holds
+-- the mixed route of each spot that both plans cover ends as it may within the bound, whatever each relay on it holds
 abbrev pub BothSafe : Network → Network → ℕ → Type 0
 BothSafe old new bound =
     (spot : Spot) (turns : List Turn) → Covered old spot → Covered new spot → length turns ≡ bound →
@@ -45,7 +45,8 @@ pub record BothTight (old new : Network) (bound : ℕ) (spot : Spot) (turns : Li
   pub count : length turns ≡ bound
   pub hops : length (mixed old new spot turns) ≡ bound
 
--- a mixed route that shows that the plans may not be mixed: both covers have the spot, and it ends as no route of one of them may
+-- A mixed route that shows that the plans may not be mixed. Both covers have the spot, and the route ends as no route of one of
+-- them may.
 pub record BothBad (old new : Network) (old_cover new_cover : ℕ) (spot : Spot) (turns : List Turn) (hops : List MixedHop) (kind : Kind) : Type 0 where
   pub old_covered : HasSpot old old_cover spot
   pub new_covered : HasSpot new new_cover spot

@@ -1,3 +1,4 @@
+//! The answer on a change from one plan to another.
 use crate::mixed_hop::MixedHop;
 use crate::turn::Turn;
 use plan_model::{Kind, Spot};
@@ -6,15 +7,15 @@ use sccp_base::List;
 /// Whether two plans may be mixed.
 #[derive(Drop)]
 pub enum Change {
-    /// Each title that both plans cover has an allowed end, or is blocked, within so many hops, whichever plan each relay
-    /// holds; and this title's mixed route under these turns has so many. Without such a title the bound is 0.
+    /// Each title that both plans cover has an allowed end, or is blocked, within `bound` hops, whichever plan each relay
+    /// holds. The mixed route of this spot under these turns has as many hops. Without such a spot the bound is 0.
     Kept {
         bound: u8,
         spot: Option<Spot>,
         turns: List<Turn>,
     },
     /// A title that these covers have takes these hops under these turns, and they are bad. `Forbidden` says that one of the two
-    /// covers doesn't allow the place.
+    /// covers does not allow the place.
     Broken {
         old_cover: u16,
         new_cover: u16,
@@ -23,6 +24,6 @@ pub enum Change {
         hops: List<MixedHop>,
         kind: Kind,
     },
-    /// The two plans reach at least 262,144 classes: the mixture isn't decided.
+    /// The two plans reach at least 262,144 classes: there is no answer on the mixture.
     TooWide,
 }

@@ -1,9 +1,10 @@
+//! The faults of a comparison of two plans.
 use sccp_base::OutOfMemory;
 
-/// Why two plans weren't compared.
+/// Why two plans were not compared.
 #[derive(Clone, Copy, Debug)]
 pub enum ChangeFault {
-    /// Names, point codes, subsystems or concerned points, in order, aren't the same.
+    /// Names, point codes, subsystems or concerned points, in order, are not the same.
     OtherNodes,
     OutOfMemory,
 }

@@ -20,10 +20,10 @@ use plan_model::have_same_nodes;
 use sccp_base::{List, OutOfMemory};
 use std::alloc::Global;
 
-/// Whether two accepted plans may be mixed: each title that both cover takes, whichever of the two plans each relay on its route
-/// holds and whatever it has prohibited, a route to a place that all covers of both plans that have it allow, or is blocked.
-/// `Broken` shows one that doesn't. `TooWide` comes only where the two plans reach at least 262,144 classes. `OtherNodes` comes
-/// exactly where names, point codes, subsystems and concerned points, in order, aren't the same.
+/// Whether two accepted plans may be mixed. Then each title that both cover is blocked, or reaches a place that all its covers
+/// in both plans allow. That holds whichever of the two plans each relay on its route has, and whatever it has prohibited.
+/// `Broken` shows a title for which it does not hold. `TooWide` is given only if the two plans reach at least 262,144 classes.
+/// The fault is `OtherNodes` exactly if names, point codes, subsystems and concerned points, in order, are not the same.
 pub fn change(alloc: Global, old: &Accepted, new: &Accepted) -> Result<Change, ChangeFault>
     ensures lawful { IfOk result (IsLawfulChange old.now.plan new.now.plan) }
     ensures same { IfOk result (λ _. SameNodes old.now.plan new.now.plan) }
@@ -56,7 +56,7 @@ fn mixture(alloc: Global, plans: &Plans<'_>) -> Result<Change, OutOfMemory>
     }
 }
 
-/// The answer where no hop behind the last one with stops has any.
+/// The answer if the walk reached a hop without stops.
 fn kept(alloc: Global, plans: &Plans<'_>, layers: &[List<Stop>]) -> Result<Change, OutOfMemory>
     requires same { length plans.now.old.now.nodes ≡ length plans.now.new.now.nodes }
     requires old { IsPlan plans.now.old.now }
@@ -82,7 +82,7 @@ fn kept(alloc: Global, plans: &Plans<'_>, layers: &[List<Stop>]) -> Result<Chang
     })
 }
 
-/// The answer where a title of a stop of the last hop has a bad end, or that hop is the fifteenth.
+/// The answer if a title of a stop of the last hop has a bad end, or that hop is the fifteenth.
 fn break_by(
     alloc: Global,
     plans: &Plans<'_>,

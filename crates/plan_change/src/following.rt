@@ -1,6 +1,7 @@
-//! Where the titles of a class go on their next hop.
+//! The titles of a class on their next hop.
 ghost use Rattle.std.specs.Prelude.{◌≡◌, ◌<◌, ◌⊎◌, IsTrue, false, length, IsSomeAnd, IfSome, IfOk, OnOk, Err, None, Some};
 ghost use Rattle.plan_classes.specs.declared.leads.Image.TheVariants.{Ends};
+ghost use Rattle.plan_model.specs.Limits.{most_classes};
 ghost use Rattle.plan_model.specs.Network.{IsPlan};
 ghost use Rattle.plan_classes.specs.Titles.{IsClass, IsMember, IsLongest};
 ghost use Rattle.plan_classes.specs.Classes.{class_row, Reaches};
@@ -16,7 +17,7 @@ use crate::halt::Halt;
 use crate::open_hop::OpenHop;
 use crate::plans::Plans;
 use crate::stop::Origin;
-use crate::way::{Way, one_turn, spot_of};
+use crate::way::{Way, one_turn};
 use plan_check::allows;
 use plan_classes::{Class, Image, class_row, image_by, opening, reaches_by, sample};
 use plan_mixed::{Which, new_of, old_of};
@@ -25,7 +26,7 @@ use plan_rules::Row;
 use sccp_base::{Digits, Marking, OutOfMemory, PointCode};
 use std::alloc::Global;
 
-/// Puts the titles that a class's titles become among the stops of the next hop, or tells a title with a bad end.
+/// Puts the titles that a class's titles become among the stops of the next hop, or gives a title with a bad end.
 pub(crate) fn follow(
     alloc: Global,
     plans: &Plans<'_>,
@@ -39,7 +40,7 @@ pub(crate) fn follow(
     ensures grows { OnOk result (Grows hop.old.stops hop.new.stops (ComesFrom plans.now.old.now plans.now.new.now class.now place)) }
     ensures well { IfOk result (λ way. way ≡ None → LeadsInto plans.now.old.now plans.now.new.now class.now hop.new.stops) }
     ensures bad { IfOk result (λ way. IfSome way (IsBadHere plans.now.old.now plans.now.new.now class.now)) }
-    ensures wide { result ≡ Err halts.Wide → MixedReachAtLeast plans.now.old.now plans.now.new.now 262144 }
+    ensures wide { result ≡ Err halts.Wide → MixedReachAtLeast plans.now.old.now plans.now.new.now most_classes }
 {
     match follow_plan(alloc, plans, Which::Old, class, place, hop)? {
         Some(way) => Ok(Some(way)),
@@ -47,7 +48,7 @@ pub(crate) fn follow(
     }
 }
 
-/// The same under one plan.
+/// As `follow`, under one plan.
 fn follow_plan(
     alloc: Global,
     plans: &Plans<'_>,
@@ -62,7 +63,7 @@ fn follow_plan(
     ensures grows { OnOk result (Grows hop.old.stops hop.new.stops (ComesFrom plans.now.old.now plans.now.new.now class.now place)) }
     ensures well { IfOk result (λ way. way ≡ None → LeadsUnder plans.now.old.now plans.now.new.now (held plans.now.old.now plans.now.new.now which) class.now hop.new.stops) }
     ensures bad { IfOk result (λ way. IfSome way (IsBadHere plans.now.old.now plans.now.new.now class.now)) }
-    ensures wide { result ≡ Err halts.Wide → MixedReachAtLeast plans.now.old.now plans.now.new.now 262144 }
+    ensures wide { result ≡ Err halts.Wide → MixedReachAtLeast plans.now.old.now plans.now.new.now most_classes }
 {
     match class_row(plans.held(which), class) {
         Some(row) => follow_row(alloc, plans, which, class, row, place, hop),
@@ -70,7 +71,7 @@ fn follow_plan(
     }
 }
 
-/// The same under a row, which is handed in.
+/// As `follow`, under the class's row in one plan.
 fn follow_row(
     alloc: Global,
     plans: &Plans<'_>,
@@ -89,7 +90,7 @@ fn follow_row(
     ensures grows { OnOk result (Grows hop.old.stops hop.new.stops (ComesFrom plans.now.old.now plans.now.new.now class.now place)) }
     ensures well { IfOk result (λ way. way ≡ None → LeadsUnder plans.now.old.now plans.now.new.now (held plans.now.old.now plans.now.new.now which) class.now hop.new.stops) }
     ensures bad { IfOk result (λ way. IfSome way (IsBadHere plans.now.old.now plans.now.new.now class.now)) }
-    ensures wide { result ≡ Err halts.Wide → MixedReachAtLeast plans.now.old.now plans.now.new.now 262144 }
+    ensures wide { result ≡ Err halts.Wide → MixedReachAtLeast plans.now.old.now plans.now.new.now most_classes }
 {
     for target in 0..row.target_count() {
         let origin = Origin {
@@ -105,7 +106,7 @@ fn follow_row(
     Ok(None)
 }
 
-/// The same under the target of an origin.
+/// As `follow`, under the target of an origin.
 fn follow_target(
     alloc: Global,
     plans: &Plans<'_>,
@@ -122,7 +123,7 @@ fn follow_target(
     ensures grows { OnOk result (Grows hop.old.stops hop.new.stops (ComesFrom plans.now.old.now plans.now.new.now class.now origin.place)) }
     ensures well { IfOk result (λ way. way ≡ None → TargetGoesWell plans.now.old.now plans.now.new.now (held plans.now.old.now plans.now.new.now origin.which) class.now origin.target hop.new.stops) }
     ensures bad { IfOk result (λ way. IfSome way (IsBadHere plans.now.old.now plans.now.new.now class.now)) }
-    ensures wide { result ≡ Err halts.Wide → MixedReachAtLeast plans.now.old.now plans.now.new.now 262144 }
+    ensures wide { result ≡ Err halts.Wide → MixedReachAtLeast plans.now.old.now plans.now.new.now most_classes }
 {
     let plan = plans.held(origin.which);
     if !reaches_by(plan, class, row, origin.target) {
@@ -139,7 +140,7 @@ fn follow_target(
     }
 }
 
-/// A title of a class that a target ends where not both covers allow it.
+/// A title of a class that a target ends at a place that one of the two covers does not allow.
 fn ended(
     alloc: Global,
     plans: &Plans<'_>,
@@ -187,7 +188,7 @@ fn without_row(
 {
     one_turn(
         alloc,
-        spot_of(class, sample(class)),
+        class.spot_of(&sample(class)),
         which,
         Marking::new(alloc),
     )
@@ -209,10 +210,10 @@ fn bad_way(
 {
     let Origin { which, target, .. } = origin;
     let marking = opening(alloc, plans.held(which), class, target)?;
-    one_turn(alloc, spot_of(class, digits), which, marking)
+    one_turn(alloc, class.spot_of(&digits), which, marking)
 }
 
-/// The longest of a class's titles that have zeros alone behind the known digits.
+/// The longest title of a class that has only zeros after the known digits.
 fn longest(class: &Class) -> Digits
     ensures { IsLongest class.now result }
 {

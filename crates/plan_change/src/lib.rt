@@ -1,9 +1,9 @@
 //! Whether two accepted plans may be mixed while each relay holds either of them (ITU-T Q.714 section 2).
 //!
-//! The walk goes hop by hop over classes of titles that both plans cover: after each hop it has the classes that a title can be
-//! in, whichever plan each relay held and whatever it had prohibited. Where none are left, the mixture is safe for that number
-//! of hops; where a title of one has a bad end, or a fifteenth hop, it is carried back, relay by relay, to a title that both
-//! plans cover. The crates above may rely on each answer being true of the two plans.
+//! The walk goes hop by hop over classes of titles that both plans cover. After each hop it has the classes that a title can be
+//! in, whichever plan each relay held and whatever it had prohibited. If no class is left, the mixture is safe for that number
+//! of hops. If a title of a class has a bad end, or a fifteenth hop, it is carried back, relay by relay. The result is a title
+//! that both plans cover. The crates above may rely on each answer being true of the two plans.
 #![tactic(auto)]
 
 mod answer;

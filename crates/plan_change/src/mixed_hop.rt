@@ -1,3 +1,4 @@
+//! One hop of a mixed route.
 use plan_mixed::Which;
 use plan_model::Hop;
 

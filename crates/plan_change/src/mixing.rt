@@ -27,7 +27,7 @@ fn made(
     step(alloc, held(old, new, turn.which), spot, &turn.marking)
 }
 
-/// The hops from a spot, one for each turn, until a step isn't Sent.
+/// The hops from a spot, one for each turn, until a step is not `Sent`.
 pub(crate) fn mixed(
     alloc: Global,
     old: &Plan,
@@ -53,7 +53,8 @@ pub(crate) fn mixed(
     Ok(hops)
 }
 
-/// The same, each hop with the plan that its relay held.
+/// The mixed route of a spot: the hops from it, one for each turn, until a step is not `Sent`. Each hop has the plan that its
+/// relay held.
 pub fn mixed_hops(
     alloc: Global,
     old: &Plan,

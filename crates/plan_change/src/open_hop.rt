@@ -1,3 +1,4 @@
+//! A hop while titles are put at it.
 ghost use Rattle.std.specs.Prelude.{◌≡◌, []};
 
 use crate::stop::Stop;
@@ -5,7 +6,8 @@ use plan_check::Ranks;
 use sccp_base::List;
 use std::alloc::Global;
 
-/// A hop that titles are still put at: the classes that were met at it, each with rank 0, and the stops that have their titles.
+/// A hop at which titles are still put. It has the classes that were met there, each with rank 0, and the stops with their
+/// titles.
 #[derive(Drop)]
 pub(crate) struct OpenHop {
     pub met: Ranks,

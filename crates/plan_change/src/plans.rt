@@ -1,3 +1,4 @@
+//! The two plans of a mixture.
 ghost use Rattle.std.specs.Prelude.{◌≡◌};
 ghost use Rattle.plan_mixed.specs.Mixed.{held};
 

@@ -15,7 +15,7 @@ use Rattle.plan_check.specs.declared.check_fault.CheckFault.TheVariants.{NoStart
 use Rattle.plan_check.specs.Ranked.{RanksUpTo, LeadsWell, IsRankedDecided, IsRankedOpen, IsRankedClass}
 use Rattle.plan_check.specs.Checks.{LeadsTo, MayLead, NextHasRank, NextIsLower, HasGoodEnds, HasRanks, IsLower, IsClassFault}
 
--- so an undecided class has open digits
+-- an undecided class has open digits
 pub open_more : (plan : Network) (c : Titles) → (Decided plan c → ⊥) → 0 < c.most
 open_more plan c undecided =
     ⊎_elim
@@ -101,7 +101,7 @@ open_ranked plan rank c r class cover node undecided lower = record {
   follows = inl (record { undecided = undecided; more = open_more plan c undecided; parts = lower.2 });
 }
 
--- and one that fails one isn't
+-- what the tests of a decided class show, test by test: each one holds if it passes, and does not hold if it fails
 pub decided_ends : (plan : Network) (c : Titles) → c.cover < length plan.covers → c.node < length plan.nodes → Decided plan c → IsSome (class_row plan c) → (images : List Image) → AreLed plan c images → All (MayLead plan c.cover) images → HasGoodEnds plan c
 decided_ends plan c cover node decided row images is may = record {
   cover = cover;
@@ -147,7 +147,7 @@ ranked_lower plan rank c r h =
     (λ (by : IsRankedDecided plan rank c r). record { low = h.low; high = h.high; parts = λ u. absurd (u by.decided); next = λ d image led. next_is_lower plan rank c.cover r image (by.leads led.0 image led.1 led.2) })
     h.follows
 
--- so no fault but want of memory is told of it
+-- a class that is ranked has no fault except a lack of memory
 pub ranked_faultless : (plan : Network) (rank : Titles → Option ℕ) (c : Titles) (r : ℕ) (fault : CheckFault) → IsRankedClass plan rank c r → IsClassFault plan rank c r fault → fault ≡ OutOfMemory
 ranked_faultless plan rank c r (BadEnd d) h f = absurd (f.1 (ranked_ends plan rank c r h))
 ranked_faultless plan rank c r (NoRank d) h f = absurd (f.2 (ranked_ranks plan rank c r h))

@@ -19,7 +19,7 @@ pub record HasStartOf (plan : Network) (rank : Titles → Option ℕ) (r : ℕ) 
   pub at : slice_get plan.covers number ≡ Some cover
   pub reached : rank (start_of number cover) ≡ Some r
 
--- the starts of so many covers have ranks up to the greatest, which one of them has
+-- the starts of this number of covers have ranks up to the greatest, which one of them has
 pub record AreRanked (plan : Network) (rank : Titles → Option ℕ) (count greatest : ℕ) : Type 0 where
   pub each : (number : ℕ) (cover : Cover) → number < count → slice_get plan.covers number ≡ Some cover → RanksUpTo rank greatest (start_of number cover)
   pub one : ((count ≡ 0) × (greatest ≡ 0)) ⊎ HasStartOf plan rank greatest
@@ -85,7 +85,7 @@ lacks_start plan rank count greatest s h start lacks =
 pub starts_ranked : (plan : Network) (rank : Titles → Option ℕ) (bound : ℕ) → StartsBelow plan rank bound → HasStarts plan rank
 starts_ranked plan rank bound starts number cover at = some_rank (rank (start_of number cover)) (λ r. r ≤ bound) (starts number cover at)
 
--- and there is but one such rank
+-- there is only one greatest rank
 pub same_greatest : (plan : Network) (rank : Titles → Option ℕ) (a b : ℕ) → IsGreatestStart plan rank a → IsGreatestStart plan rank b → a ≡ b
 same_greatest plan rank a b g h =
     let le : a ≤ b = bound (rank (start_of g.number g.cover)) a b g.reached (h.each g.number g.cover g.at) in

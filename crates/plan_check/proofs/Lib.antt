@@ -1,3 +1,4 @@
+-- The lemmas of this crate, one file a subject.
 pub mod Causes
 pub mod Covering
 pub mod Fullness

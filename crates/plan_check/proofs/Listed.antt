@@ -25,7 +25,7 @@ has_rank (e ∷ es) =
       | false ↦ h
     ])
 
--- so many of them, no two the same, and what holds of each class that has a rank
+-- this number of classes of the table, no two the same, and each with what holds of every class that has a rank
 pub listed : (P : Titles → Type 0) (ranks : List (Titles × ℕ)) (count : ℕ) → ((c : Titles) (r : ℕ) → rank_in ranks c ≡ Some r → P c) → IsStrictlySortedBy class_cmp (classes_in ranks) → count ≤ length ranks
     → (cs : List Titles) × (length cs ≡ count) × AllPairs (λ c d. c ≢ d) cs × All P cs
 listed P ranks count each ordered le = (

@@ -25,20 +25,20 @@ own Less e = absurd (cc)
 own Equal e = refl
 own Greater e = absurd (cc)
 
--- a class compares alike with itself
+-- a class compares as equal with itself
 pub own_order : (c : Titles) → class_cmp c c ≡ Equal
 own_order c = own (class_cmp c c) (class_total.antisymm c c)
 
 pub own_class : (c : Titles) → is_eq (class_cmp c c) ≡ true
 own_class c = ap is_eq (own_order c)
 
--- a class that comes before another isn't the same one
+-- a class that is before another is not the same one
 apart : (a b : Titles) → class_cmp a b ≡ Less → is_eq (class_cmp b a) ≡ true → ⊥
 apart a b less same =
     let clash : Less ≡ Equal = sym less ∙ ap (class_cmp a) (same_class b a same) ∙ own_order a in
     absurd (cc)
 
--- the first class of a table comes before the others
+-- the first class of a table is before the others
 first_before : (x : Titles × ℕ) (es : List (Titles × ℕ)) → IsStrictlySortedBy class_cmp (classes_in (x ∷ es)) → All (λ y. class_cmp x.0 y ≡ Less) (classes_in es)
 first_before x es ordered = All-from_recursion (λ y. class_cmp x.0 y ≡ Less) (classes_in es) (sorted_head class_cmp x.0 (classes_in es) ordered)
 
@@ -90,6 +90,6 @@ entry_holds P (x ∷ xs) all c r e =
 pub ranked_all : (plan : Network) (ranks : List (Titles × ℕ)) → All (λ e. IsRankedClass plan (rank_in ranks) e.0 e.1) ranks → IsRanked plan (rank_in ranks)
 ranked_all plan ranks all c r e = entry_holds (λ q n. IsRankedClass plan (rank_in ranks) q n) ranks all c r e
 
--- a list is what was gone over, the item at hand and what is left
+-- a list is the items before the present one, that item, and those that are left
 pub rest_here : {A X : Type 0} (shows : A → X) (all : List X) (xs : List A) (s t u : List X) (r : Option A) (start : s ≡ all) (y : Yields (TakesFirst shows) s xs t) → (x : A) → r ≡ Some x → TakesFirst shows t r u → all ≡ map shows xs ++ shows x ∷ u
 rest_here {A} {X} shows all xs s t u r start y x is step = sym start ∙ rest_so_far shows xs s t y ∙ ap (λ (l : List X). map shows xs ++ l) (rest_more shows t u r x is step)

@@ -1,4 +1,4 @@
--- where the targets so far lead a class
+-- what the targets so far make of a class
 use Rattle.std.specs.Prelude.{ℕ, ◌≡◌, ◌+◌, ◌<◌, ◌≤◌, List, [], ◌∷◌, ◌++◌, length, IsSomeAnd, slice_get}
 use Rattle.std.specs.List.{All, Contains}
 use Rattle.std.proofs.Common.{subst, ⊎_elim, arith}
@@ -13,7 +13,7 @@ use Rattle.plan_classes.proofs.Taking.{one_image}
 use Rattle.plan_check.specs.Checks.{LeadsTo}
 use Rattle.plan_check.proofs.Soundness.{some_of}
 
--- the images of so many targets
+-- the images of this number of targets
 pub record AreImages (plan : Network) (c : Titles) (count : ℕ) (images : List Image) : Type 0 where
   pub each : All (LeadsTo plan c) images
   pub every : (place : ℕ) (image : Image) → place < count → Reaches plan c place → HasImage plan c place image → Contains images image

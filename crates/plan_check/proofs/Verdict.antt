@@ -12,21 +12,12 @@ use Rattle.plan_check.specs.declared.longest.Longest.{Longest}
 use Rattle.plan_check.specs.declared.check_fault.CheckFault.{CheckFault}
 use Rattle.plan_check.specs.declared.check_fault.CheckFault.TheVariants.{NoStart, NoRank, NotLower, BadEnd, NotTight, OutOfMemory}
 use Rattle.plan_check.specs.Ranking.{rank_in}
-use Rattle.plan_check.specs.Ranked.{IsRanked, IsGreatestStart}
+use Rattle.plan_check.specs.Ranked.{IsRanked}
 use Rattle.plan_check.specs.Checks.{IsTableFault, IsCheckFault, Passes}
 use Rattle.plan_check.specs.Verified.{IsVerified, verified}
 use Rattle.plan_check.proofs.Causes.{ranked_faultless}
 use Rattle.plan_check.proofs.Greatest.{starts_ranked, same_greatest}
 use Rattle.plan_check.proofs.Soundness.{ranked_safe}
-
--- a fault of a class, where all starts have ranks
-pub table_fault : (plan : Network) (ranks : List (Titles × ℕ)) (longest : Longest) (bound : ℕ) (fault : CheckFault) → IsGreatestStart plan (rank_in ranks) bound → IsTableFault plan ranks fault → IsCheckFault plan ranks longest fault
-table_fault plan ranks longest bound (NoStart number) start h = absurd h.fails
-table_fault plan ranks longest bound (NoRank c) start h = (starts_ranked plan (rank_in ranks) bound start.each, h)
-table_fault plan ranks longest bound (NotLower c) start h = (starts_ranked plan (rank_in ranks) bound start.each, h)
-table_fault plan ranks longest bound (BadEnd c) start h = (starts_ranked plan (rank_in ranks) bound start.each, h)
-table_fault plan ranks longest bound NotTight start h = absurd h.fails
-table_fault plan ranks longest bound OutOfMemory start h = tt
 
 none-some : {X : Type 0} (o : Option X) → o ≡ None → IsSome o → ⊥
 none-some None e h = cc
@@ -38,7 +29,7 @@ table_faultless plan ranks fault ranked h =
     (ranked h.class h.rank h.first.has)
     h.fails
 
--- where every test passes, no fault but want of memory comes
+-- if every test passes, the only fault is a lack of memory
 pub faultless : (plan : Network) (ranks : List (Titles × ℕ)) (longest : Longest) (fault : CheckFault) → IsCheckFault plan ranks longest fault → (bound : ℕ) → Passes plan ranks longest bound → fault ≡ OutOfMemory
 faultless plan ranks longest (NoStart number) h bound passes = absurd (none-some (rank_in ranks (start_of number h.cover)) h.lacks (starts_ranked plan (rank_in ranks) bound passes.start.each number h.cover h.at))
 faultless plan ranks longest (NoRank c) h bound passes = table_faultless plan ranks (NoRank c) passes.ranked h.1

@@ -1,4 +1,4 @@
--- What a check of ranks tests, and the first fault that it tells.
+-- What a check of ranks tests, and the first fault that it reports.
 use Rattle.std.specs.Prelude.{ℕ, ◌≡◌, ◌<◌, ◌≤◌, List, length, Option, Some, None, IsSome, slice_get}
 use Rattle.std.specs.List.{All}
 use Rattle.std.specs.declared.cmp.Ordering.TheVariants.{Less}
@@ -15,11 +15,11 @@ use Rattle.plan_check.specs.declared.check_fault.CheckFault.TheVariants.{NoStart
 use Rattle.plan_check.specs.Ranking.{rank_in, class_cmp}
 use Rattle.plan_check.specs.Ranked.{Allows, RanksBelow, RanksUpTo, IsRankedClass, IsRanked, IsGreatestStart}
 
--- a target of the class's row that can be the first open one leads the class there
+-- the image is what some target that can be the first open one makes of the class
 abbrev pub LeadsTo : Network → Titles → Image → Type 0
 LeadsTo plan c image = (place : ℕ) × Reaches plan c place × HasImage plan c place image
 
--- titles may go on, or end where the cover allows it
+-- titles may go on, or end at a place that the cover allows
 abbrev pub MayLead : Network → ℕ → Image → Type 0
 MayLead plan cover (Next next) = Unit {0}
 MayLead plan cover (Ends pc ssn) = Allows plan cover pc ssn
@@ -33,15 +33,15 @@ NextHasRank rank (Ends pc ssn) = Unit {0}
 NextHasRank rank NotEquipped = Unit {0}
 NextHasRank rank TooLong = Unit {0}
 
--- it has one below the bound
+-- the class that titles go on to has a rank below the bound
 abbrev pub NextIsLower : (Titles → Option ℕ) → ℕ → Image → Type 0
 NextIsLower rank bound (Next next) = RanksBelow rank bound next
 NextIsLower rank bound (Ends pc ssn) = Unit {0}
 NextIsLower rank bound NotEquipped = Unit {0}
 NextIsLower rank bound TooLong = Unit {0}
 
--- the first test of a class: its cover and node are the plan's and, where it is decided, it has a row and no end that its cover
--- doesn't allow
+-- The first test of a class: its cover and node are the plan's. A decided class also has a row, and no end that its cover does
+-- not allow.
 pub record HasGoodEnds (plan : Network) (c : Titles) : Type 0 where
   pub cover : c.cover < length plan.covers
   pub node : c.node < length plan.nodes
@@ -92,7 +92,7 @@ pub record LacksStart (plan : Network) (rank : Titles → Option ℕ) (number : 
   pub lacks : rank (start_of number cover) ≡ None
   pub before : (earlier : ℕ) (cover : Cover) → earlier < number → slice_get plan.covers earlier ≡ Some cover → IsSome (rank (start_of earlier cover))
 
--- the starts have ranks and all classes are ranked, but the route isn't one of so many hops as the greatest rank of a start
+-- the starts have ranks and all classes are ranked, but the route does not have as many hops as the greatest rank of a start
 pub record LacksRoute (plan : Network) (ranks : List (Titles × ℕ)) (longest : Longest) : Type 0 where
   pub bound : ℕ
   pub start : IsGreatestStart plan (rank_in ranks) bound

@@ -1,4 +1,4 @@
--- What it is for the classes of a plan to be ranked: along each route the rank falls at every step that sends a title on.
+-- Ranked classes of a plan: along each route the rank falls at every step that sends a title on.
 use Rattle.std.specs.Prelude.{ℕ, ◌≡◌, ◌<◌, ◌≤◌, ◌⊎◌, length, Option, Some, IsSome, IsSomeAnd, slice_get}
 use Rattle.std.specs.List.{All, Contains}
 use Rattle.plan_model.specs.declared.cover.Cover.{Cover}
@@ -19,7 +19,7 @@ RanksBelow rank bound c = IsSomeAnd (rank c) (λ r. r < bound)
 abbrev pub RanksUpTo : (Titles → Option ℕ) → ℕ → Titles → Type 0
 RanksUpTo rank bound c = IsSomeAnd (rank c) (λ r. r ≤ bound)
 
--- a target may lead on to lower ranks, and end where the class's cover allows it
+-- a target may lead on to lower ranks, or to an end that the class's cover allows
 abbrev pub LeadsWell : Network → (Titles → Option ℕ) → ℕ → ℕ → Image → Type 0
 LeadsWell plan rank cover bound (Next next) = RanksBelow rank bound next
 LeadsWell plan rank cover bound (Ends pc ssn) = Allows plan cover pc ssn
@@ -38,7 +38,7 @@ pub record IsRankedOpen (plan : Network) (rank : Titles → Option ℕ) (c : Tit
   pub more : 0 < c.most
   pub parts : All (RanksUpTo rank r) (parts_of c)
 
--- a class of the plan with a rank from 1 to 14 that is borne out by what follows it
+-- a class of the plan with a rank from 1 to 14 that agrees with the classes that follow it
 pub record IsRankedClass (plan : Network) (rank : Titles → Option ℕ) (c : Titles) (r : ℕ) : Type 0 where
   pub low : 1 ≤ r
   pub high : r ≤ 14
@@ -47,7 +47,7 @@ pub record IsRankedClass (plan : Network) (rank : Titles → Option ℕ) (c : Ti
   pub cover : c.cover < length plan.covers
   pub follows : IsRankedOpen plan rank c r ⊎ IsRankedDecided plan rank c r
 
--- each class that has a rank is so ranked
+-- each class that has a rank is ranked in this way
 abbrev pub IsRanked : Network → (Titles → Option ℕ) → Type 0
 IsRanked plan rank = (c : Titles) (r : ℕ) → rank c ≡ Some r → IsRankedClass plan rank c r
 

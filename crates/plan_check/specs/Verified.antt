@@ -13,7 +13,7 @@ pub record Verified : Type 0 where
 abbrev pub verified : Network → ℕ → Longest → Verified
 verified plan bound longest = record { plan = plan; bound = bound; longest = longest }
 
--- the plan is safe for the bound, which lies from 1 to 14, and the longest route has so many hops and is in range
+-- the plan is safe for the bound, which is from 1 to 14, and the longest route has as many hops and is in range
 pub record IsVerified (v : Verified) : Type 0 where
   pub plan : IsPlan v.plan
   pub some : 1 ≤ v.bound

@@ -1,11 +1,12 @@
+//! Plans that a check accepted.
 ghost use Rattle.std.specs.Prelude.{◌≡◌};
 
 use crate::longest::Longest;
 use plan_model::Plan;
 use std::marker::Model;
 
-/// A plan that is safe for its bound: each covered title, whatever the relays on its route have prohibited, has an allowed
-/// end or is blocked within so many hops.
+/// A plan that is safe for its bound. Within that number of hops each covered title has an allowed end or is blocked, whatever
+/// the relays on its route have prohibited.
 #[derive(Drop)]
 pub struct Accepted {
     plan: Plan,
@@ -47,7 +48,7 @@ impl Accepted {
         &self.plan
     }
 
-    /// The plan that was checked, which its verdict leaves.
+    /// The plan that was checked, without its verdict.
     pub fn into_plan(self) -> Plan
         ensures { result ≡ self.plan }
     {

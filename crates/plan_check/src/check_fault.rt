@@ -1,21 +1,25 @@
+//! The faults of a table of ranks.
 use plan_classes::Class;
 use sccp_base::OutOfMemory;
 
-/// The first test that a table of ranks fails. The starts of the covers are tested first, then each class of the table in
-/// ascending order for a bad end, for a missing rank and for a rank that isn't lower, and the longest route last.
+/// The first test that a table of ranks fails. The starts of the covers are tested first, then the classes of the table in
+/// ascending order, and the longest route last. A class is tested for a bad end, a missing rank, and a rank that is not
+/// lower.
 #[derive(Clone, Copy, Debug, PartialEq, Eq)]
 pub enum CheckFault {
     /// The start of this cover has no rank.
     NoStart(u16),
-    /// A part of this undecided class, or what a reached target leads this decided one on to, has no rank.
+    /// A class that follows this one has no rank: a part of it if it is undecided, otherwise a next class under a reached
+    /// target.
     NoRank(Class),
-    /// The rank of this class isn't from 1 to 14, is below that of a part where it is undecided, or isn't above that of
-    /// what a reached target leads it on to where it is decided.
+    /// The rank of this class is not from 1 to 14. Or the class is undecided, and a part has a higher rank. Or it is decided,
+    /// and a next class under a reached target has no lower rank.
     NotLower(Class),
-    /// The cover or node of this class isn't the plan's; or it is decided and has no row, or a reached target ends where the
-    /// cover doesn't allow it, ends at the node itself without the subsystem, or makes more than 32 digits.
+    /// The cover or node of this class is not the plan's, or the class is decided and has no row. Or a reached target leads to
+    /// a place that the cover does not allow, or to the node itself, which does not have the subsystem. Or it makes more than
+    /// 32 digits.
     BadEnd(Class),
-    /// The longest route isn't covered, or hasn't as many hops and markings as the greatest rank of a start.
+    /// The longest route is not covered, or its numbers of hops and of markings are not the greatest rank of a start.
     NotTight,
     OutOfMemory,
 }

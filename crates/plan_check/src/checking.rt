@@ -42,7 +42,7 @@ fn is_tight(alloc: Global, plan: &Plan, bound: u8, longest: &Longest) -> Result<
     Ok(hops.as_slice().len() == usize::from(bound))
 }
 
-/// The greatest rank of a start, where every test passes, or the first fault.
+/// The greatest rank of a start if every test passes, or the first fault.
 fn bound_of(alloc: Global, plan: &Plan, ranks: &Ranks, longest: &Longest) -> Result<u8, CheckFault>
     ensures passed { IfOk result (Passes plan.now ranks.now longest.now) }
     ensures fault { IfErr result (IsCheckFault plan.now ranks.now longest.now) }
@@ -56,9 +56,9 @@ fn bound_of(alloc: Global, plan: &Plan, ranks: &Ranks, longest: &Longest) -> Res
     Ok(bound)
 }
 
-/// Accepts a plan where the ranks show it to be safe for the greatest rank of a start, and the longest route shows that no
-/// smaller bound would do. Otherwise the first fault comes, and the plan is handed back: `NoStart` for the first cover whose
-/// start has no rank; then, for the first class of the table that fails, `BadEnd`, `NoRank` or `NotLower`; then `NotTight`.
+/// Accepts a plan if the ranks show it to be safe for the greatest rank of a start. The longest route must show that no smaller
+/// bound is enough. Otherwise the plan is returned with the first fault: `NoStart` for the first cover whose start has no
+/// rank. Then `BadEnd`, `NoRank` or `NotLower` for the first class of the table that fails; `NotTight` is last.
 pub fn check(
     alloc: Global,
     plan: Plan,

@@ -62,8 +62,8 @@ fn is_higher(ranks: &Ranks, rank: u8, images: &[Image]) -> bool
     1 <= rank && rank <= 14 && all_next_are_lower(ranks, rank, images)
 }
 
-/// Tests an undecided class of the plan by its parts. Whether each has a rank is asked only where one fails: a rank is
-/// looked up once where all is well.
+/// Tests an undecided class of the plan by its parts. Whether each part has a rank is asked only if one fails. So each rank is
+/// looked up once if all parts pass.
 fn test_open(
     alloc: Global,
     plan: &Plan,
@@ -108,7 +108,7 @@ fn test_decided(
     }
 }
 
-/// Tests a decided class of the plan by where the targets of its row lead it.
+/// Tests a decided class of the plan by what the targets of its row make of it.
 fn test_row(
     alloc: Global,
     plan: &Plan,
@@ -146,7 +146,7 @@ fn is_of_plan(plan: &Plan, class: &Class) -> bool
         && usize::from(class.node()) < plan.nodes().as_slice().len()
 }
 
-/// Tests whether a class's rank is borne out by what follows it.
+/// Tests whether a class's rank agrees with the classes that follow it.
 fn test_class(
     alloc: Global,
     plan: &Plan,

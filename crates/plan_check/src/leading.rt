@@ -1,4 +1,4 @@
-//! Where the targets of a decided class lead it.
+//! What the targets of a decided class make of it.
 ghost use Rattle.std.specs.Prelude.{◌≡◌, ◌<◌, length, IsTrue, ◌↔◌, IfOk, Some};
 ghost use Rattle.std.specs.List.{All, Contains};
 ghost use Rattle.plan_classes.specs.declared.leads.Image.{Image};
@@ -22,7 +22,7 @@ pub fn allows(plan: &Plan, cover: u16, pc: PointCode, ssn: u8) -> bool
     plan.covers().as_slice()[usize::from(cover)].allows(pc, ssn)
 }
 
-/// Where the targets that can be the first open one lead a class.
+/// What the targets that can be the first open one make of a class.
 pub(crate) fn images(
     alloc: Global,
     plan: &Plan,
@@ -44,7 +44,7 @@ pub(crate) fn images(
     Ok(images)
 }
 
-/// Whether titles may go on there, or end there.
+/// Whether the image is another class, or an end that the cover allows.
 fn may_lead(plan: &Plan, cover: u16, image: &Image) -> bool
     requires { cover < length plan.now.covers }
     ensures { IsTrue result ↔ MayLead plan.now cover image.now }

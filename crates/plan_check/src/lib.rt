@@ -1,8 +1,8 @@
 //! Ranks of classes, and the check that they show a plan to be safe (ITU-T Q.714 section 2).
 //!
-//! A table gives ranks to classes of titles. Where each class's rank is borne out by what follows it, no title is sent on more
-//! often than the rank of its class says, so the plan is safe for the greatest rank of a start, whoever made the table. The
-//! crates above may rely on every `Accepted` plan being safe for its bound, and on the bound being reached.
+//! A table gives ranks to classes of titles. If each class's rank agrees with the classes that follow it, no title is sent on
+//! more often than the rank of its class says. So the plan is safe for the greatest rank of a start, whoever made the table.
+//! The crates above may rely on this: every `Accepted` plan is safe for its bound, and some route has as many hops.
 #![tactic(auto)]
 
 mod accepted;

@@ -1,3 +1,4 @@
+//! The route that shows a bound to be the smallest.
 use plan_model::Spot;
 use sccp_base::{List, Marking};
 

@@ -1,3 +1,4 @@
+//! Tables of ranks.
 ghost use Rattle.std.specs.Prelude.{◌≡◌, ◌↔◌, [], if◌then◌else◌, length, OnOk, OnErr, Option, Some, IsSome, Err, IsTrue};
 ghost use Rattle.std.specs.Ordering.{is_eq};
 ghost use Rattle.plan_classes.specs.Titles.{Titles};
@@ -5,12 +6,10 @@ ghost use Rattle.plan_check.specs.Ranking.{rank_in, class_cmp, IsRanks, IsFullFo
 
 use crate::ranks_fault::RanksFault;
 use plan_classes::Class;
+use plan_model::MOST_CLASSES;
 use std::alloc::Global;
 use std::collections::BTreeMap;
 use std::marker::Model;
-
-/// The most classes that a table may have.
-const LIMIT: usize = 262_144;
 
 /// Ranks of classes, which contracts see as the list of the classes in their order, each with its rank.
 #[derive(Drop)]
@@ -62,8 +61,8 @@ impl Ranks {
         self.get(class).is_some()
     }
 
-    /// Gives a class a rank, in place of the one that it has. `Full` where 262,144 other classes have one. After a fault
-    /// the table is as it was.
+    /// Gives a class a rank, in place of the one that it has. The fault is `Full` if 262,144 other classes have one. After a
+    /// fault the table is as it was.
     pub fn put(&mut self, class: Class, rank: u8) -> Result<(), RanksFault>
         ensures ok { OnOk result ((c : Titles) → rank_in self.new c ≡ (if is_eq (class_cmp class c) then Some rank else rank_in self.old c)) }
         ensures full { (result ≡ Err RanksFault.Full) ↔ IsFullFor self.old class }
@@ -82,7 +81,7 @@ impl Ranks {
         ensures full { IsTrue result ↔ IsFullFor self.now class.now }
         ensures sound { IsRanks self.now }
     {
-        LIMIT <= self.len() && self.get(class).is_none()
+        MOST_CLASSES <= self.len() && self.get(class).is_none()
     }
 
     /// The classes in their order, with their ranks.

@@ -1,3 +1,4 @@
+//! The faults of an entry in a table of ranks.
 use std::alloc::AllocFailed;
 
 /// Why a class got no rank.

@@ -1,7 +1,8 @@
+//! Plans that a check did not accept.
 use crate::check_fault::CheckFault;
 use plan_model::Plan;
 
-/// A plan that wasn't accepted, and why.
+/// A plan that was not accepted, and why.
 #[derive(Drop)]
 pub struct Unchecked {
     pub plan: Plan,

@@ -1,18 +1,13 @@
 -- what it is to be a title of a class
 use Rattle.std.specs.Prelude.{ℕ, ◌≡◌, ◌+◌, ◌<◌, ◌≤◌, nat_eq, true, List, length, drop}
 use Rattle.std.specs.List.{All, starts_with}
-use Rattle.std.proofs.Common.{sym, ◌∙◌, ap, subst, arith, length-append, length-drop}
+use Rattle.std.proofs.Common.{sym, ◌∙◌, ap, subst, arith, length-drop}
 use Rattle.std.proofs.Math.Seq.{drop-append_seam}
 use Rattle.sccp_base.proofs.Prefix.{split-starts_with, starts_with-split}
 use Rattle.plan_classes.specs.Titles.{Titles, IsMember}
 
 pub member_begins : (c : Titles) (digits : List ℕ) → IsMember c digits → starts_with nat_eq digits c.known ≡ true
 member_begins c digits m = starts_with-split digits c.known m.rest m.whole
-
-pub member_count : (c : Titles) (digits : List ℕ) → IsMember c digits → (length c.known + c.least ≤ length digits) × (length digits ≤ length c.known + c.most)
-member_count c digits m =
-    let size : length digits ≡ length c.known + length m.rest = ap length m.whole ∙ length-append c.known m.rest in
-    (omega (arith, size, m.least), omega (arith, size, m.most))
 
 pub member_decimal : (c : Titles) (digits : List ℕ) → IsMember c digits → All (λ d. d < 10) (drop (length c.known) digits)
 member_decimal c digits m = subst (All (λ d. d < 10)) (sym (ap (drop (length c.known)) m.whole ∙ drop-append_seam c.known m.rest)) m.decimal

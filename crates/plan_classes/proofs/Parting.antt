@@ -8,9 +8,6 @@ use Rattle.std.proofs.lemmas.List.Elements.{All-cons, All-head, All-tail}
 use Rattle.std.proofs.lemmas.List.FromFn.{length-map-range_with_len, map-range_with_len_more, get_or-map-range_with_len}
 use Rattle.plan_classes.specs.Titles.{Titles, IsClass, IsMember, closed, extended, parts_of, IsPart, Splits}
 
-digits_of_all : (c : Titles) → List Titles
-digits_of_all c = map (extended c) (range_with_len 0 10)
-
 -- the digit after the known ones is a member's next one
 member_extended : (c : Titles) (d : ℕ) (digits : List ℕ) → d < 10 → 0 < c.most → IsMember (extended c d) digits → IsMember c digits
 member_extended c d digits lt more m =
@@ -139,8 +136,7 @@ splits_parts c is more =
       | false ↦ λ e. splits_open c is more (let ne : 0 < c.least = ⊎_elim (λ (z : 0 < c.least). z) (λ (z : c.least ≤ 0). absurd (let q : (c.least == 0) ≡ true = eq-eqb c.least 0 (omega arith) in cc)) (cases_lt 0 c.least) in ne)
     ] refl
 
--- one more part
--- an element of the parts is one of them
+-- an element of the parts is a part of the class
 pub part_of : (c : Titles) (ps qs : List Titles) (i : ℕ) (p : Titles) → Splits c ps → qs ≡ ps → i < length qs → p ≡ get_or qs i p → IsPart c p
 part_of c ps qs i p splits same lt at = subst (IsPart c) (sym at) (subst (λ (xs : List Titles). IsPart c (get_or xs i p)) (sym same) (splits.each i p (omega (arith, ap length same))))
 

@@ -1,4 +1,4 @@
--- What becomes of the titles of a class where a target is taken.
+-- What becomes of the titles of a class when a target is taken.
 use Rattle.std.specs.Prelude.{ℕ, ◌≡◌, List, Option, Some, slice_get, IsSomeAnd}
 use Rattle.std.specs.Option.{option_map, option_and_then}
 use Rattle.sccp_base.specs.declared.mark.Mark.{Mark}
@@ -11,18 +11,18 @@ use Rattle.plan_classes.specs.declared.leads.Image.TheVariants.{Next, Ends, NotE
 use Rattle.plan_classes.specs.Titles.{Titles, IsMember, IsLongest, spot_of}
 use Rattle.plan_classes.specs.Classes.{class_targets, Opens, HasImage}
 
--- what becomes of a title of the class where the target at this place is taken
+-- what becomes of a title of the class when the target at this place is taken
 abbrev pub brought : Network → Titles → ℕ → List ℕ → Option Step
 brought plan c place digits =
     option_and_then (λ node. option_map (λ t. led plan node (spot_of c digits) place t) (slice_get (class_targets plan c) place)) (slice_get plan.nodes c.node)
 
--- each title of the class is sent on as one of the next class, and each of the next class comes from one
+-- each title of the class is sent on as one of the next class, and each of the next class is made of one
 pub record GoesOnTo (plan : Network) (c : Titles) (place : ℕ) (next : Titles) : Type 0 where
   pub each : (digits : List ℕ) → IsMember c digits → (on : List ℕ) × IsMember next on × (brought plan c place digits ≡ Some (Sent (spot_of next on) place))
   pub every : (on : List ℕ) → IsMember next on → (digits : List ℕ) × IsMember c digits × (brought plan c place digits ≡ Some (Sent (spot_of next on) place))
 
--- what an image says of the titles: they go on to the next class, they all end there, the node hasn't the subsystem for any
--- of them, or the longest ones come to have too many digits
+-- What an image says of the titles. They go on to the next class, or they all end there. Or the node does not have the subsystem
+-- for any of them, or the longest ones get too many digits.
 abbrev pub ImageIsExact : Network → Titles → ℕ → Image → Type 0
 ImageIsExact plan c place (Next next) = GoesOnTo plan c place next
 ImageIsExact plan c place (Ends pc ssn) = (digits : List ℕ) → IsMember c digits → brought plan c place digits ≡ Some (Ended pc ssn place)
@@ -37,6 +37,6 @@ IsInImage plan c place digits = (next : Titles) × HasImage plan c place (Next n
 abbrev pub OpensClass : Network → Titles → ℕ → List Mark → Type 0
 OpensClass plan c place marking = IsSomeAnd (slice_get plan.nodes c.node) (λ node. Opens node c.ssn (class_targets plan c) place marking)
 
--- and so that target is what each title's step takes
+-- that target is what each title's step takes under the marking
 abbrev pub Takes : Network → Titles → ℕ → List Mark → Type 0
 Takes plan c place marking = (digits : List ℕ) → IsMember c digits → brought plan c place digits ≡ Some (step plan (spot_of c digits) marking)

@@ -1,3 +1,4 @@
+-- The definitions of this crate, one file a subject.
 pub mod Titles
 pub mod Classes
 pub mod Leading

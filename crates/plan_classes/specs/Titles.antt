@@ -1,4 +1,4 @@
--- Sets of titles at a node, in symbols.
+-- Sets of titles at a node, given by their known digits and the number of further ones.
 use Rattle.std.specs.Prelude.{ℕ, ◌≡◌, ◌+◌, ◌-◌, ◌<◌, ◌≤◌, ◌==◌, if◌then◌else◌, List, [], ◌∷◌, ◌++◌, length, map}
 use Rattle.std.specs.List.{All, Any, AllPairs, range_with_len}
 use Rattle.sccp_base.specs.Selector.{Numbers}
@@ -23,7 +23,7 @@ pub record IsClass (c : Titles) : Type 0 where
   pub range : c.least ≤ c.most
   pub room : length c.known + c.most ≤ 32
 
--- the digits are the known ones and then so many decimal ones
+-- the digits are the known ones and then `least` to `most` decimal ones
 pub record IsMember (c : Titles) (digits : List ℕ) : Type 0 where
   pub rest : List ℕ
   pub whole : digits ≡ c.known ++ rest
@@ -51,7 +51,7 @@ closed c = record c { least = 0; most = 0 }
 abbrev pub extended : Titles → ℕ → Titles
 extended c digit = record c { known = c.known ++ digit ∷ []; least = c.least - 1; most = c.most - 1 }
 
--- the title with no further digit, where the class has it, and the titles with each next digit
+-- the title with no further digit, if the class has it, and the titles with each next digit
 abbrev pub parts_of : Titles → List Titles
 parts_of c = (if c.least == 0 then closed c ∷ [] else []) ++ map (extended c) (range_with_len 0 10)
 

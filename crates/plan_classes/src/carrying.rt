@@ -14,7 +14,7 @@ use plan_model::Plan;
 use plan_rules::Target;
 use sccp_base::Digits;
 
-/// The digits without those that were put, behind the known ones that were stripped.
+/// The known digits that were stripped, then these digits without those that were put.
 fn carried_back(known: &Digits, strip: u8, put: &Digits, digits: &Digits) -> Digits
     requires strip { strip ≤ length known.now }
     requires put { length put.now ≤ length digits.now }

@@ -1,10 +1,12 @@
+//! Classes: sets of titles at a relay, by their known digits and the number of their further ones.
 ghost use Rattle.std.specs.Prelude.{◌≡◌, ◌+◌, ◌<◌, ◌≤◌, ◌↔◌, length, IsTrue, SomeIff};
 
+use plan_model::Spot;
 use sccp_base::{Digits, Selector};
 use std::marker::Model;
 
-/// The titles at a relay, under a selector and a subsystem number, whose digits are the known ones and then `least` to `most`
-/// further decimal ones, with the place of the cover that they come from: classes of different covers differ. Classes are
+/// The titles at a relay, under a selector and a subsystem number. Their digits are the known ones and then `least` to `most`
+/// further decimal ones. A class has the place of its cover in the plan, so classes of different covers differ. Classes are
 /// ordered by these fields as they are written, digits as lists.
 #[derive(Clone, Copy, Debug, PartialEq, Eq, PartialOrd, Ord)]
 pub struct Class {
@@ -30,9 +32,10 @@ impl Model for Class {
 }
 
 impl Class {
-    ghost use Rattle.plan_classes.specs.Titles.{titles, IsClass, IsMember, closed, extended};
+    ghost use Rattle.plan_classes.specs.Titles.{titles, IsClass, IsMember, spot_of, closed, extended};
 
-    /// `None` where `least` is above `most`, or the number of known digits and `most` add up to more than 32.
+    /// The class with these fields. It is `None` if `least` is above `most`, or if the number of known digits and `most` add up
+    /// to more than 32.
     pub fn new(
         cover: u16,
         node: u8,
@@ -59,7 +62,7 @@ impl Class {
         }
     }
 
-    /// The place of the cover that its titles come from.
+    /// The place of its cover in the plan.
     pub fn cover(&self) -> u16
         ensures value { result ≡ self.now.cover }
         ensures class { IsClass self.now }
@@ -83,7 +86,7 @@ impl Class {
         self.selector
     }
 
-    /// Its titles' subsystem number, 0 where the address has none.
+    /// Its titles' subsystem number, 0 if the address has none.
     pub fn ssn(&self) -> u8
         ensures value { result ≡ self.now.ssn }
         ensures class { IsClass self.now }
@@ -113,6 +116,18 @@ impl Class {
         ensures class { IsClass self.now }
     {
         self.most
+    }
+
+    /// A title of the class as a spot, by its digits.
+    pub fn spot_of(&self, digits: &Digits) -> Spot
+        ensures { result ≡ spot_of self.now digits.now }
+    {
+        Spot {
+            node: self.node,
+            selector: self.selector,
+            ssn: self.ssn,
+            digits: *digits,
+        }
     }
 
     /// Whether these are the digits of one of its titles.

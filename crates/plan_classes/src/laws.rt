@@ -7,7 +7,7 @@ ghost use Rattle.plan_classes.specs.Titles.{Titles};
 ghost use Rattle.plan_classes.specs.Classes.{ReachesAtLeast};
 ghost use Rattle.plan_classes.specs.Order.{class_cmp};
 
-/// A plan that reaches so many classes reaches no fewer.
+/// A plan that reaches at least `more` classes reaches at least each smaller number of them.
 pub fn reaches_fewer()
     ensures { (plan : Network) (more fewer : ℕ) → fewer ≤ more → ReachesAtLeast plan more → ReachesAtLeast plan fewer }
 {}

@@ -1,9 +1,10 @@
 //! Classes of titles: sets of titles at a relay that are followed together.
 //!
-//! A class has some known digits and stands for all titles that go on with so many decimal ones. The crates above may rely on
-//! the parts of a class having exactly its titles, on a decided class having one row, on `reaches` telling whether some
-//! marking leaves a target the first open one, and on the image of a decided class under a target having exactly the titles
-//! that its own are made (ITU-T Q.714 section 2). So a search over classes speaks of every title and every marking.
+//! A class has some known digits. Its titles go on with further decimal ones, whose number is within a range. The crates
+//! above may rely on four facts (ITU-T Q.714 section 2). The parts of a class have exactly its titles. A decided class has
+//! one row, or none. `reaches` says whether some marking leaves a target the first open one. The image of a decided class
+//! under a target has exactly the titles that the target makes of its own. So a search over classes covers every title and
+//! every marking.
 #![tactic(auto)]
 
 mod carrying;

@@ -6,7 +6,7 @@ use crate::class::Class;
 use sccp_base::{List, OutOfMemory};
 use std::alloc::Global;
 
-/// The title with no further digit, where the class has it, and then the titles with each next digit from 0 to 9. Together
+/// The title with no further digit, if the class has it, and then the titles with each next digit from 0 to 9. Together
 /// they are the class's titles, each once, and each part has fewer open digits.
 pub fn parts(alloc: Global, class: &Class) -> Result<List<Class>, OutOfMemory>
     requires { 0 < class.now.most }

@@ -41,7 +41,7 @@ fn class_of(place: u16, cover: &Cover) -> Class
     }
 }
 
-/// The titles of the cover at this place of the plan: its prefix is the known digits. Where the cover's least is below its
+/// The titles of the cover at this place of the plan: its prefix is the known digits. If the cover's least is below its
 /// prefix's length, the class's least is 0.
 pub fn start(plan: &Plan, cover: u16) -> Class
     requires { cover < length plan.now.covers }

@@ -1,2 +1,3 @@
+-- The lemmas of this crate, one file a subject.
 pub mod Meeting
 pub mod Pairing

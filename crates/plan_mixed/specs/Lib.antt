@@ -1,2 +1,3 @@
+-- The definitions of this crate, one file a subject.
 pub mod Pairs
 pub mod Mixed

@@ -1,6 +1,7 @@
 -- The titles that a cover of each of two plans has.
 use Rattle.std.specs.Prelude.{ℕ, ◌≡◌, ◌+◌, ◌-◌, ◌*◌, ◌/◌, ◌%◌, ◌≤◌, ◌⊎◌, IsTrue, nat_eq, nat_lt, if◌then◌else◌, max, min, List, length}
 use Rattle.std.specs.List.{starts_with}
+use Rattle.plan_model.specs.Limits.{most_covers}
 use Rattle.plan_model.specs.declared.cover.Cover.{Cover}
 use Rattle.plan_classes.specs.Titles.{Titles, titles}
 
@@ -15,7 +16,8 @@ least_of_both a b = max (max a.least b.least) (length (longer a.prefix b.prefix)
 abbrev pub most_of_both : Cover → Cover → ℕ
 most_of_both a b = min a.most b.most
 
--- some title has both covers: they have one node, selector and SSN, one prefix begins the other, and some number of digits suits both
+-- Some title has both covers: they have one node, selector and SSN. One prefix begins the other, and some number of digits suits
+-- both.
 pub record Meet (a b : Cover) : Type 0 where
   pub node : a.node ≡ b.node
   pub selector : a.selector ≡ b.selector
@@ -23,16 +25,16 @@ pub record Meet (a b : Cover) : Type 0 where
   pub begins : IsTrue (starts_with nat_eq a.prefix b.prefix) ⊎ IsTrue (starts_with nat_eq b.prefix a.prefix)
   pub fits : least_of_both a b ≤ most_of_both a b
 
--- the number of a pair of covers, one of each plan, told by their places: a plan has at most 256 covers
+-- the number of a pair of covers, one of each plan, which are given by their places: a plan has at most 256 covers
 abbrev pub pair : ℕ → ℕ → ℕ
-pair old new = old * 256 + new
+pair old new = old * most_covers + new
 
 -- the places of a pair's covers
 abbrev pub old_of : ℕ → ℕ
-old_of number = number / 256
+old_of number = number / most_covers
 
 abbrev pub new_of : ℕ → ℕ
-new_of number = number % 256
+new_of number = number % most_covers
 
 -- the titles that both covers have, under a number: the longer prefix, and as many further digits as suit both
 abbrev pub shared : ℕ → Cover → Cover → Titles

@@ -1,8 +1,8 @@
-//! Two plans side by side: the titles that both cover, and the classes of titles that are followed while each relay holds one
-//! or the other (ITU-T Q.714 section 2).
+//! Two plans side by side (ITU-T Q.714 section 2). The crate gives the titles that both cover, and the classes of titles that
+//! are followed while each relay holds one plan or the other.
 //!
-//! A class is decided for both plans where each of them has one row, or none, for all its titles. The crates above may rely on
-//! `shared` having exactly the titles that a cover of each plan has, so a walk from there speaks of every title that both
+//! A class is decided for both plans if each of them has one row, or none, for all its titles. The crates above may rely on
+//! this: `shared` has exactly the titles that a cover of each plan has. So a walk from there covers every title that both
 //! plans cover.
 #![tactic(auto)]
 

@@ -1,6 +1,7 @@
 //! The titles that a cover of each plan has.
 ghost use Rattle.std.specs.Prelude.{◌≡◌, ◌<◌, ◌≤◌, ◌-◌, ◌↔◌, ◌⊎◌, nat_eq, IsTrue, IfSome, IsSomeAnd, None, length, slice_get};
 ghost use Rattle.std.specs.List.{starts_with};
+ghost use Rattle.plan_model.specs.Limits.{most_covers};
 ghost use Rattle.plan_model.specs.declared.spot.Spot.{Spot};
 ghost use Rattle.plan_model.specs.Network.{IsCover};
 ghost use Rattle.plan_model.specs.Covered.{Covers};
@@ -8,31 +9,31 @@ ghost use Rattle.plan_classes.specs.Titles.{HasTitle};
 ghost use Rattle.plan_mixed.specs.Pairs.{Meet, longer, least_of_both, most_of_both, pair, old_of, new_of, shared};
 
 use plan_classes::Class;
-use plan_model::{Cover, Plan};
+use plan_model::{Cover, MOST_COVERS, Plan};
 use sccp_base::Digits;
 
-/// The number of a pair of covers, which are told by their places in the two plans. A plan has at most 256 covers, so no two
-/// pairs have one number.
+/// The number of a pair of covers, which are given by their places in the two plans. A plan has at most 256 covers, so no two
+/// pairs have the same number.
 pub fn pair(old: u16, new: u16) -> u16
-    requires old { old < 256 }
-    requires new { new < 256 }
+    requires old { old < most_covers }
+    requires new { new < most_covers }
     ensures { result ≡ pair old new }
 {
-    old * 256 + new
+    old * MOST_COVERS + new
 }
 
 /// The place of the old plan's cover of a pair.
 pub fn old_of(number: u16) -> u16
     ensures { result ≡ old_of number }
 {
-    number / 256
+    number / MOST_COVERS
 }
 
 /// The place of the new plan's cover of a pair.
 pub fn new_of(number: u16) -> u16
     ensures { result ≡ new_of number }
 {
-    number % 256
+    number % MOST_COVERS
 }
 
 /// The longer of two prefixes.
@@ -103,13 +104,13 @@ fn cover_at(plan: &Plan, place: u16) -> &Cover
     requires { place < length plan.now.covers }
     ensures value { slice_get plan.now.covers place ≡ Some result.now }
     ensures sound { IsCover plan.now.nodes result.now }
-    ensures few { length plan.now.covers ≤ 256 }
+    ensures few { length plan.now.covers ≤ most_covers }
 {
     &plan.covers().as_slice()[usize::from(place)]
 }
 
-/// The titles that the old plan's cover at the first place and the new plan's at the second both have. The class has the pair's
-/// number in place of a cover's. `None` exactly where no title has both. It takes no memory.
+/// The titles that the old plan's cover at place i and the new plan's cover at place j both have. The class has the pair's
+/// number in place of a cover's. The result is `None` exactly if no title has both. It takes no memory.
 pub fn shared(old: &Plan, new: &Plan, i: u16, j: u16) -> Option<Class>
     requires old { i < length old.now.covers }
     requires new { j < length new.now.covers }

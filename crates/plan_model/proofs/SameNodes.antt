@@ -8,7 +8,7 @@ use Rattle.plan_model.specs.declared.node.Node.{Node}
 use Rattle.plan_model.specs.Network.{Network}
 use Rattle.plan_model.specs.SameNodes.{without_rows, same_node, same_nodes}
 
--- relays that are the same are the same one by one
+-- lists with the same images have the same image at each place
 pub one_by_one : {X Y : Type 0} (f : X → Y) (xs ys : List X) (i : ℕ) (x y : X) → i < length xs → x ≡ get_or xs i x → y ≡ get_or ys i y → map f xs ≡ map f ys → f x ≡ f y
 one_by_one f [] ys i x y lt at there same = absurd (omega arith)
 one_by_one f (u ∷ us) [] i x y lt at there same = absurd (cc)
@@ -25,7 +25,7 @@ same_list xs ys e = subst (λ (zs : List ℕ). pointwise nat_eq xs zs ≡ true) 
 all_true : (a b c d : Bool) → a ≡ true → b ≡ true → c ≡ true → d ≡ true → (a && (b && (c && d))) ≡ true
 all_true a b c d h i j k = rw h (rw i (rw j k))
 
--- the test of two relays
+-- relays that are the same pass the test of two relays
 alike_told : (a b : Node) → without_rows a ≡ without_rows b → same_node a b ≡ true
 alike_told a b e =
     all_true (pointwise nat_eq a.name b.name) (a.pc == b.pc) (pointwise nat_eq a.subsystems b.subsystems) (pointwise nat_eq a.concerned b.concerned)
@@ -47,7 +47,7 @@ told_alike a b h =
     let lists = and_parts (pointwise nat_eq a.subsystems b.subsystems) (pointwise nat_eq a.concerned b.concerned) point.1 in
     four_same a.name b.name a.pc b.pc a.subsystems b.subsystems a.concerned b.concerned (same_text a.name b.name (sym name.0)) (eqb-true a.pc b.pc point.0) (same_text a.subsystems b.subsystems (sym lists.0)) (same_text a.concerned b.concerned (sym lists.1))
 
--- and of all of them
+-- lists of relays that are the same pass the test of all of them
 all_told : (xs ys : List Node) → map without_rows xs ≡ map without_rows ys → pointwise same_node xs ys ≡ true
 all_told [] [] e = refl
 all_told [] (y ∷ ys) e = absurd (cc)

@@ -9,8 +9,8 @@ use Rattle.plan_rules.specs.Tables.{strips_too_long, makes_odd, IsRule, IsTable}
 use Rattle.plan_model.specs.declared.node.Node.{Node}
 use Rattle.plan_model.specs.Network.{Network, IsSubsystem, NamesSubsystems, IsNode, LeadsOn, IsPlan}
 
--- its numbers are in range, it strips no more than the prefix of its row, it gives no title of kind 2 an odd number of digits, and a
--- relay is another node
+-- A target's numbers are in range, and a relay is another node. A target strips no more than the prefix of its row, and gives
+-- no title of kind 2 an odd number of digits.
 pub record IsTargetOf (plan : Network) (node : Node) (r : Rule) (t : Target) : Type 0 where
   pub sound : IsTarget t
   pub ssn : IfSome (ssn_of t) IsSubsystem

@@ -1,4 +1,4 @@
--- the spots that covered titles come to
+-- the spots that covered titles reach
 use Rattle.std.specs.Prelude.{ℕ, ◌≡◌, ◌+◌, ◌-◌, ◌<◌, ◌≤◌, ◌%◌, ◌==◌, ◌&&◌, Bool, true, false, List, [], ◌∷◌, ◌++◌, length, drop, Option, Some, None, IfSome, slice_get, refl}
 use Rattle.std.specs.List.{All}
 use Rattle.std.specs.Option.{unwrap_or}
@@ -51,7 +51,7 @@ pub covered_spot : (plan : Network) (s : Spot) → IsPlan plan → Covered plan 
 covered_spot plan s is h =
     covered_by_one plan h.1 s (subst (IsCover plan.nodes) h.3 (is.sound_covers h.0 h.1 h.2)) h.4
 
--- a new selector is one, or the title's own stays
+-- the selector after a target is in range, a new one or the title's own
 pub selector_fits : (o : Option Numbers) (s : Numbers) → IfSome o IsSelector → IsSelector s → IsSelector (unwrap_or o s)
 selector_fits None s h k = k
 selector_fits (Some t) s h k = h
@@ -109,7 +109,7 @@ next_spot plan s next m Overgrown is h facts e = absurd (cc)
 pub sent_spot : (plan : Network) (s next : Spot) (m : List Mark) → IsPlan plan → IsSpotOf plan s → next_of (step plan s m) ≡ Some next → IsSpotOf plan next
 sent_spot plan s next m is h e = next_spot plan s next m (step plan s m) is h (step_facts plan is s m) e
 
--- and so is each spot of a route from one that is
+-- each spot of a route from a spot in range is in range
 pub route_spots : (plan : Network) (s : Spot) (ms : List (List Mark)) → IsPlan plan → IsSpotOf plan s → All (λ (hop : Hop). IsSpotOf plan hop.spot) (route plan s ms)
 route_spots plan s [] is h = All-nil (λ (hop : Hop). IsSpotOf plan hop.spot)
 route_spots plan s (m ∷ ms) is h =

@@ -1,11 +1,11 @@
--- Which titles a plan is to bring to which places.
+-- Which titles a plan must bring to which places.
 use Rattle.std.specs.Prelude.{ℕ, ◌≡◌, ◌<◌, ◌≤◌, IsTrue, nat_eq, length}
 use Rattle.std.specs.List.{All, Any, Contains, starts_with}
 use Rattle.plan_model.specs.declared.cover.Cover.{Cover}
 use Rattle.plan_model.specs.declared.spot.Spot.{Spot}
 use Rattle.plan_model.specs.Network.{Network}
 
--- the cover has the spot: at its node, under its selector and SSN, decimal digits that begin so and are so many
+-- the cover has the spot: its node, selector and SSN, and decimal digits that begin with the prefix and whose number is in range
 pub record Covers (cover : Cover) (spot : Spot) : Type 0 where
   pub node : cover.node ≡ spot.node
   pub selector : cover.selector ≡ spot.selector

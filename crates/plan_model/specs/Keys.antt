@@ -1,4 +1,4 @@
--- The words of a plan text that tell where a fault is.
+-- The keys of a plan text, as reports of faults name them.
 use Rattle.std.specs.Prelude.{List, ℕ, codes}
 use Rattle.plan_model.specs.declared.key.Key.{Key}
 use Rattle.plan_model.specs.declared.key.Key.TheVariants.{Version, Node, Cover, Name, Point, Subsystems, Concerned, Row, Selector, Prefix, First, Backup, Targets, Ssn, Least, Most, Allowed, Unknown}

@@ -1,4 +1,4 @@
--- Where a step sends a title.
+-- The spot to which a step sends a title.
 use Rattle.std.specs.Prelude.{Option, Some, None}
 use Rattle.plan_model.specs.declared.spot.Spot.{Spot}
 use Rattle.plan_model.specs.declared.hop.Step.{Step}

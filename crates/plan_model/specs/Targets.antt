@@ -9,7 +9,8 @@ use Rattle.plan_rules.specs.declared.target.Target.{Target}
 use Rattle.plan_rules.specs.declared.target.Target.TheVariants.{Relay, Final}
 use Rattle.plan_model.specs.declared.node.Node.{Node}
 
--- the marks that close a target: its point, the SCCP there and, for a destination, its subsystem; for a destination at the node itself its subsystem alone
+-- The marks that close a target: its point, the SCCP there and, for a destination, its subsystem. Only its subsystem closes a
+-- destination at the node itself.
 abbrev pub marks : Node → ℕ → Target → List Mark
 marks node ssn (Relay pc strip put selector named) = PointCode pc ∷ Sccp pc ∷ []
 marks node ssn (Final pc named) =
@@ -17,11 +18,11 @@ marks node ssn (Final pc named) =
     then Subsystem pc (unwrap_or named ssn) ∷ []
     else PointCode pc ∷ Sccp pc ∷ Subsystem pc (unwrap_or named ssn) ∷ []
 
--- the first of them that is held: a target is open where none is
+-- the first of them that is held: a target is open if none is
 abbrev pub closing : Node → ℕ → List Mark → Target → Option Mark
 closing node ssn marking target = find (holds marking) (marks node ssn target)
 
--- the first open target, after its place
+-- the place of the first open target, and the target
 abbrev pub first_open : Node → ℕ → List Mark → ℕ → List Target → Option (ℕ × Target)
 first_open node ssn marking place [] = None
 first_open node ssn marking place (t ∷ ts) =

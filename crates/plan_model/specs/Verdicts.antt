@@ -1,4 +1,4 @@
--- What it is for a plan to be safe, for a bound to be reached, and for a route to be bad.
+-- Safe plans, bounds that a route reaches, and bad routes.
 use Rattle.std.specs.Prelude.{ℕ, ◌≡◌, ◌≢◌, ◌≤◌, List, [], ◌∷◌, length, replicate, Option, Some, None, IsSomeAnd, slice_get}
 use Rattle.std.specs.List.{AllPairs, Contains, flat_map}
 use Rattle.sccp_base.specs.declared.mark.Mark.{Mark}
@@ -26,7 +26,7 @@ MayEnd allowed (Sent next target) = ⊥
 MayEnd allowed (NoRow cause) = ⊥
 MayEnd allowed Overgrown = ⊥
 
--- the route of each covered spot ends so within the bound, whatever each relay on it has marked
+-- the route of each covered spot ends as it may within the bound, whatever each relay on it has marked
 abbrev pub Safe : Network → ℕ → Type 0
 Safe plan bound =
     (spot : Spot) (markings : List (List Mark)) → Covered plan spot → length markings ≡ bound →
@@ -50,7 +50,7 @@ EndsBadly plan cover hops (Forbidden pc ssn) = (target : ℕ) × (last hops ≡ 
 EndsBadly plan cover hops (Rowless cause) = last hops ≡ Some (NoRow cause)
 EndsBadly plan cover hops Swollen = last hops ≡ Some Overgrown
 
--- a route that shows that a plan isn't safe
+-- a route that shows that a plan is not safe
 pub record Bad (plan : Network) (cover : ℕ) (spot : Spot) (markings : List (List Mark)) (hops : List Hop) (kind : Kind) : Type 0 where
   pub covered : HasSpot plan cover spot
   pub is_route : hops ≡ route plan spot markings

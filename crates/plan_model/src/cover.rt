@@ -1,10 +1,11 @@
+//! Covers: the titles that a plan must bring to allowed places.
 ghost use Rattle.std.specs.Prelude.{IsTrue, ◌↔◌, Contains};
 
 use crate::spot::Spot;
 use sccp_base::{Digits, List, PointCode, Selector};
 
-/// Titles that a plan is to bring to allowed places: those at a node under a selector and a subsystem number, whose decimal
-/// digits begin with the prefix and number from `least` to `most`.
+/// Titles that a plan must bring to allowed places. They are at one node, under one selector and one subsystem number. Their
+/// decimal digits begin with the prefix, and their number is from `least` to `most`.
 #[derive(Drop)]
 pub struct Cover {
     pub node: u8,
@@ -42,8 +43,8 @@ impl Cover {
             && count <= usize::from(self.most)
     }
 
-    /// Tells what the types of the cover's numbers keep, for a contract that speaks of covers alone. It does nothing when it
-    /// runs.
+    /// States the ranges that the types of the cover's numbers keep, for a contract that names covers only. It does nothing
+    /// when it runs.
     pub(crate) fn vouch(&self)
         ensures { HasNumbers self.now }
     {

@@ -1,9 +1,10 @@
+//! One step of a title's route: what a node does with the title.
 ghost use Rattle.std.specs.Prelude.{◌≡◌};
 
 use crate::spot::Spot;
 use sccp_base::{List, Mark, PointCode};
 
-/// What a node does with a title (Q.714 section 2). A target is the place of the row's target that was taken.
+/// What a node does with a title (Q.714 section 2). A `target` is the place of the taken target in its row.
 #[derive(Drop)]
 pub enum Step {
     /// The title goes on to another relay.
@@ -13,9 +14,10 @@ pub enum Step {
     /// Each target is closed, by one prohibited mark each. The cause is that of the last mark: 5 for a point code, 11 for an
     /// SCCP, 3 for a subsystem.
     Blocked { cause: u8, marks: List<Mark> },
-    /// There is no way on: 0 no row has the selector, 1 no row matches the digits, 4 the node hasn't the subsystem.
+    /// The title cannot go on. Cause 0: no row has the selector; 1: no row matches the digits; 4: the node does not have the
+    /// subsystem.
     NoRow { cause: u8 },
-    /// The digits would be more than 32.
+    /// The new title would have more than 32 digits.
     Overgrown,
 }
 

@@ -1,6 +1,7 @@
+//! The keys of a plan text, as reports of faults name them.
 ghost use Rattle.std.specs.Prelude.{◌≡◌};
 
-/// A word of a plan text that tells where a fault is.
+/// A key of a plan text that names the place of a fault.
 #[derive(Clone, Copy)]
 pub enum Key {
     Version,
@@ -20,7 +21,7 @@ pub enum Key {
     Least,
     Most,
     Allowed,
-    /// A key that a table doesn't have.
+    /// A key that is not one of the table's.
     Unknown,
 }
 

@@ -1,3 +1,4 @@
+//! The kinds of bad routes.
 use sccp_base::PointCode;
 
 /// Why a route is bad.
@@ -7,10 +8,10 @@ pub enum Kind {
     Loop(u8),
     /// The route has a fifteenth hop, and no two hops have the same spot.
     Long,
-    /// It ends at a place that the cover doesn't allow.
+    /// The route ends at a place that the cover does not allow.
     Forbidden(PointCode, u8),
-    /// There is no way on, for this cause.
+    /// The title cannot go on, for this cause of `Step::NoRow`.
     NoRow(u8),
-    /// The digits would be more than 32.
+    /// The new title would have more than 32 digits.
     Overgrown,
 }

@@ -1,11 +1,12 @@
+//! Nodes by name and point code, whether or not their rows are a table yet.
 ghost use Rattle.std.specs.Prelude.{◌≡◌, ℕ, List};
 
 use crate::node::Node;
 use sccp_base::{Name, PointCode};
 
-/// What tells nodes apart, in a plan and in the text of one.
+/// What distinguishes nodes, in a plan and in the text of one.
 pub trait Named {
-    /// The octets of the name, and the point code.
+    /// The octets of the name.
     ghost own_name: { Self → List ℕ };
 
     ghost own_point: { Self → ℕ };

@@ -1,6 +1,8 @@
+//! Places in a plan, for reports of faults.
 use crate::key::Key;
 
-/// Where a plan has a fault: at the top, at a node, at a node's row, or at a cover, counted from 0, and under which key.
+/// The place of a plan's fault, and the key that has it: the top, a node, a node's row, or a cover. Nodes, rows and covers are
+/// counted from 0.
 #[derive(Clone, Copy)]
 pub enum Place {
     Top(Key),

@@ -1,3 +1,4 @@
+//! Plans: the relays of a network, and the covers.
 ghost use Rattle.std.specs.Prelude.{◌≡◌, ◌<◌, IsTrue, ◌↔◌, OnOk, IfOk, IfErr, length, All, Option};
 ghost use Rattle.std.specs.List.{position, Any};
 ghost use Rattle.plan_model.specs.Covered.{Covered, Covers};
@@ -28,7 +29,7 @@ impl Model for Plan {
 }
 
 impl Plan {
-    ghost use Rattle.plan_model.specs.Network.{IsPlan, IsNode, network, has_name, has_point, node_of};
+    ghost use Rattle.plan_model.specs.Network.{IsPlan, IsNode, network, has_name, has_point, node_of, point_of};
     ghost use Rattle.plan_model.specs.Faults.{plan_fault, HasFewDigits};
 
     /// A plan of these nodes and covers, or the first test that they fail: `Limit`, `Repeated`, `UnknownNode`,
@@ -93,6 +94,16 @@ impl Plan {
         }
     }
 
+    /// The point code of the node at a place, or 0 if the plan has no node there.
+    pub fn point_of(&self, node: u8) -> PointCode
+        ensures { result ≡ point_of self.now node }
+    {
+        match self.nodes.as_slice().get(usize::from(node)) {
+            Some(node) => node.pc,
+            None => PointCode::new(0).unwrap(),
+        }
+    }
+
     /// Whether some cover has the spot.
     pub fn covered(&self, spot: &Spot) -> bool
         ensures { IsTrue result ↔ Covered self.now spot.now }
@@ -101,8 +112,8 @@ impl Plan {
     }
 }
 
-/// Whether some cover of the plan has the spot: its node, selector and subsystem number are the spot's, and the spot's
-/// digits are decimal, begin with the cover's prefix and number from its least to its most.
+/// Whether some cover of the plan has the spot. Such a cover has the spot's node, selector and subsystem number. The spot's
+/// digits are decimal, begin with the cover's prefix, and number from its least to its most.
 pub fn covered(plan: &Plan, spot: &Spot) -> bool
     ensures { IsTrue result ↔ Covered plan.now spot.now }
 {

@@ -1,7 +1,8 @@
+//! The faults of a plan.
 use crate::place::Place;
 use plan_rules::RuleFault;
 
-/// What a plan may have too many of: more than 64 nodes, 4,096 rows in all, or 256 covers.
+/// A limit that was passed: more than 64 nodes, 4,096 rows in all, or 256 covers.
 #[derive(Clone, Copy)]
 pub enum Counted {
     Nodes,
@@ -12,11 +13,11 @@ pub enum Counted {
 /// Why a text, or nodes and covers, make no plan.
 #[derive(Clone, Copy)]
 pub enum PlanFault {
-    /// The text isn't TOML.
+    /// The text is not TOML.
     NotToml,
-    /// A key is missing, isn't known, or has a value of another type.
+    /// A key is missing, is not known, or has a value of another type.
     WrongShape(Place),
-    /// A value doesn't read, or is out of its range.
+    /// A value cannot be read, or is out of its range.
     BadValue(Place),
     /// An earlier node has the name, or the point.
     Repeated(Place),
@@ -29,8 +30,8 @@ pub enum PlanFault {
     /// There is no cover.
     NoCover,
     Limit(Counted),
-    /// A cover's selector is of kind 2, its prefix isn't decimal or has more than 15 digits, its least is above its most, or
-    /// its prefix is longer than its most.
+    /// A cover's selector is of kind 2, or its prefix is not decimal or has more than 15 digits. Or its least is above its
+    /// most, or its prefix is longer than its most.
     BadCover(Place),
     OutOfMemory,
 }

@@ -1,3 +1,4 @@
+-- Translation rows and tables, and the row that counts for a title.
 pub mod FirstOf
 pub mod Target
 pub mod Rule

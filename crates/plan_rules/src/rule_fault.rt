@@ -1,14 +1,16 @@
+//! Why rows are not a table.
 use sccp_base::OutOfMemory;
 
-/// Why rows make no table. The numbers are places of rows, from 0.
+/// Why rows are not a table. The numbers are places of rows, from 0.
 #[derive(Clone, Copy)]
 pub enum RuleFault {
     /// The second row has the selector, the subsystem number or none, and the prefix of the first one.
     Twice(usize, usize),
     /// A target strips more digits than the row's prefix has.
     StripTooLong(usize),
-    /// A title of kind 2 could come to have an odd number of digits.
+    /// A title of kind 2 could get an odd number of digits.
     KindTwo(usize),
+    /// Memory ran out.
     OutOfMemory,
 }
 

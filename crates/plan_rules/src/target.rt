@@ -1,12 +1,13 @@
+//! The target of a translation.
 ghost use Rattle.std.specs.Prelude.{◌≡◌, IsTrue, ◌↔◌, ◌≤◌, length};
 
 use sccp_base::{Digits, PointCode, Selector};
 
-/// Where a translation leads (Q.714 section 2).
+/// The point to which a translation leads (Q.714 section 2).
 #[derive(Clone, Copy)]
 pub enum Target {
-    /// To another relay, with the first `strip` digits taken off and `put` in front of the rest. An absent selector or
-    /// subsystem number keeps the message's.
+    /// To another relay: the first `strip` digits are taken off, and `put` is put in front of the rest. Without a selector or
+    /// a subsystem number here, the message keeps its own.
     Relay {
         pc: PointCode,
         strip: u8,
@@ -14,7 +15,7 @@ pub enum Target {
         selector: Option<Selector>,
         ssn: Option<u8>,
     },
-    /// To a destination. An absent subsystem number keeps the message's.
+    /// To a destination. Without a subsystem number here, the message keeps its own.
     Final {
         pc: PointCode,
         ssn: Option<u8>,
@@ -34,7 +35,7 @@ impl Target {
         }
     }
 
-    /// Whether it strips more than so many digits.
+    /// Whether it strips more than this number of digits.
     pub fn strips_more(&self, digits: usize) -> bool
         ensures { result ≡ strips_more digits self.now }
     {

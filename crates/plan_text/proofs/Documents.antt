@@ -7,7 +7,7 @@ use Rattle.std.proofs.lemmas.Str.{IsUtf8-from_is_utf8, is_utf8-from_IsUtf8}
 use Rattle.toml.specs.Parse.{parse_document}
 use Rattle.plan_text.specs.PlanText.{document_of}
 
--- a text that isn't UTF-8 has none
+-- a text that is not UTF-8 has no document
 pub no_document : (text : List ℕ) → ¬ (IsUtf8 text) → document_of text ≡ None
 unfolding document_of
 no_document text not =

@@ -13,7 +13,7 @@ pub list_of-view : (vs : List Value) → list_of (items_view vs) ≡ map view vs
 list_of-view [] = refl
 list_of-view (v ∷ vs) = ap (λ ds. view v ∷ ds) (list_of-view vs)
 
--- what was asked for is an array, with these items
+-- a value that was found to be an array is the array of these items
 pub is_the_array : (d : Data) (items : Items) → Some items ≡ as_array d → d ≡ array items
 is_the_array (string x) items e = absurd cc
 is_the_array (integer x) items e = absurd cc
@@ -23,7 +23,7 @@ is_the_array (datetime x) items e = absurd cc
 is_the_array (array x) items e = cc
 is_the_array (table x) items e = absurd cc
 
--- the elements of an array that was asked for
+-- the elements of a value that was found to be an array
 pub elements : (d : Data) (vs : List Value) → Some (items_view vs) ≡ as_array d → map view vs ≡ elements_of d
 elements d vs e = rw (is_the_array d (items_view vs) e) (sym (list_of-view vs))
 
@@ -39,7 +39,7 @@ pub each_table : (shape : ℕ → Members → Shape) (at : Place) (d : Data) (vs
 each_table shape at d vs xs answer same e told =
     rw (is_the_array d (items_view vs) e, list_of-view vs) (told ∙ ap (λ (values : List Value). elements_shape shape at 0 (map view values)) same)
 
--- what was asked for is a table, with these keys
+-- a value that was found to be a table is the table of these keys
 is_the_table : (d : Data) (keys : Members) → Some keys ≡ as_table d → d ≡ table keys
 is_the_table (string x) keys e = absurd cc
 is_the_table (integer x) keys e = absurd cc

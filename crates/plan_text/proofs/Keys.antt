@@ -1,4 +1,4 @@
--- What a table has under one key, and the keys that it has beside the listed ones.
+-- What a table has under one key, and the keys that it has besides the listed ones.
 use Rattle.std.proofs.Common.{◌≡◌, ℕ, Bool, true, false, not, nat_eq, List, ◌∷◌, map, Option, Some, None, Bor, String, Global, string_bytes, ap, ◌∙◌}
 use Rattle.std.specs.List.{list_any}
 use Rattle.std.specs.Option.{option_map_or}

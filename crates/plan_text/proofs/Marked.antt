@@ -1,22 +1,19 @@
--- a mark for each number that was met
+-- flags for the numbers that were met
 use Rattle.std.specs.Prelude.{ℕ, ◌≡◌, ◌≢◌, ◌+◌, ◌<◌, Bool, true, false, ◌||◌, ◌==◌, List, length, take, Some, None, refl}
-use Rattle.std.specs.List.{All, list_any}
+use Rattle.std.specs.List.{list_any}
 use Rattle.std.proofs.Common.{sym, ◌∙◌, ap, subst, get_or, set, inl, inr, arith}
 use Rattle.std.proofs.lemmas.Bool.{cases_Bool, eqb-true, eqb-false, or_right}
 use Rattle.std.proofs.lemmas.List.{get_or-set_same, get_or-set_other, length-set}
 use Rattle.std.proofs.lemmas.List.Folds.{list_any_more}
 use Rattle.plan_text.specs.Drafts.{repeat_at}
 
--- each mark says whether its number was met
+-- each flag says whether its number was met
 abbrev pub Marks : List Bool → List ℕ → Type 0
 Marks seen met = (k : ℕ) → k < length seen → get_or seen k false ≡ list_any (λ y. y == k) met
 
 or_false : (a : Bool) → (a || false) ≡ a
 or_false true = refl
 or_false false = refl
-
-pub none_met : (seen : List Bool) (xs : List ℕ) → All (λ mark. mark ≡ false) seen → Marks seen (take 0 xs)
-none_met seen xs fresh = λ k lt. fresh k false lt
 
 pub marked : (seen : List Bool) (xs : List ℕ) (i x : ℕ) → i < length xs → get_or xs i 0 ≡ x → x < length seen → Marks seen (take i xs) → Marks (set seen x true) (take (i + 1) xs)
 marked seen xs i x lt at inside marks = λ k below.
@@ -34,7 +31,7 @@ marked seen xs i x lt at inside marks = λ k below.
           get_or-set_other seen x k true false ne ∙ marks k room ∙ sym right
     ]
 
--- a number that was met is a repeat, and another isn't
+-- a number is a repeat exactly if it was met
 pub met : (xs : List ℕ) (i x : ℕ) → list_any (λ y. y == x) (take i xs) ≡ true → repeat_at xs i x ≡ Some i
 met xs i x h = rw h refl
 

@@ -1,4 +1,4 @@
--- How many nodes, rows in all and covers a text has, which is told before any value is read.
+-- How many nodes, rows in all and covers a text has, which is tested before any value is read.
 use Rattle.std.specs.Prelude.{ℕ, List, length, sum_by, codes, Option}
 use Rattle.toml.specs.Data.{Data}
 use Rattle.plan_model.specs.declared.plan_fault.Counted.{Counted}

@@ -16,18 +16,18 @@ use Rattle.plan_text.specs.EachOk.{each_ok}
 use Rattle.plan_text.specs.Words.{within, digits_up_to, place_of}
 use Rattle.plan_text.specs.Targets.{is_named}
 
--- the place of the first node of this name, or the number of nodes where none has it
+-- the place of the first node of this name, or the number of nodes if none has it
 unfoldable pub node_place : List Data → List ℕ → ℕ
 node_place nodes name = unwrap_or (position (is_named name) nodes) (length nodes)
 
--- the number under a key, from 0 to so many
+-- the number under a key, from 0 to `most`
 unfoldable pub number_at : ℕ → List ℕ → Data → Option ℕ
 number_at most key d = option_and_then (within 0 most) (integer_if_there key d)
 
 abbrev pub allowed_at : ℕ → ℕ → Data → Result (ℕ × ℕ) PlanFault
 allowed_at i k d = ok_or (place_of (text_of d)) (BadValue (AtCover i Allowed))
 
--- a cover at its place, or the first key whose value doesn't read
+-- a cover at its place, or the first key whose value cannot be read
 unfoldable pub cover_of : List Data → ℕ → Data → Result Cover PlanFault
 cover_of nodes i d = do
   node ← ok_or (name_of (text_at (codes "node") d)) (BadValue (AtCover i Node))

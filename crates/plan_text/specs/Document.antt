@@ -1,5 +1,5 @@
--- What a document says at a key. Each word here has a value for every document: where a key is absent, or its value is of
--- another type, it is nothing, an empty text or an empty list. The types are tested by themselves, in `Shape`.
+-- What a document says at a key. Each function here has a value for every document. If a key is absent, or its value is of
+-- another type, that is nothing, an empty text or an empty list. `Shape` tests the types.
 use Rattle.std.specs.Prelude.{ℕ, ℤ, Bool, List, [], ◌∷◌, Option, is_some}
 use Rattle.std.specs.Option.{option_and_then, option_map_or}
 use Rattle.toml.specs.Data.{Data, string, array, Items, no_items, item, get, as_str, as_integer}
@@ -18,7 +18,7 @@ abbrev pub elements_of : Data → List Data
 elements_of (array items) = list_of items
 elements_of _ = []
 
--- what stands in a table under a key: something, a text, or the elements of an array
+-- what a table has under a key: something, a text, or the elements of an array
 abbrev pub has_key : List ℕ → Data → Bool
 has_key key value = is_some (get key value)
 

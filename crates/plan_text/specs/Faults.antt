@@ -1,4 +1,4 @@
--- Which fault of a plan text is that memory ran out.
+-- Which fault of a plan text says that memory ran out.
 use Rattle.std.specs.Prelude.{Bool, true, false}
 use Rattle.plan_model.specs.declared.plan_fault.PlanFault.{PlanFault}
 use Rattle.plan_model.specs.declared.plan_fault.PlanFault.TheVariants.{NotToml, WrongShape, BadValue, Repeated, UnknownNode, RelayToSelf, Rule, NoCover, Limit, BadCover, OutOfMemory}

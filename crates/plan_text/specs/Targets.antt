@@ -1,4 +1,4 @@
--- The targets of rows, as a plan text writes them: a relay is told by the name of its node.
+-- The targets of rows, as a plan text writes them: a relay is given by the name of its node.
 use Rattle.std.specs.Prelude.{ℕ, Bool, nat_eq, if◌then◌else◌, List, Option, Some, None, option_map, option_and_then, codes}
 use Rattle.std.specs.Option.{unwrap_or, option_map_or}
 use Rattle.std.specs.List.{find}
@@ -16,7 +16,7 @@ infixl 10 ◌>>=◌
 abbrev ◌>>=◌ : {A B : Type 0} → Option A → (A → Option B) → Option B
 o >>= f = option_and_then f o
 
--- what may be left out: nothing, or what reads
+-- what may be absent: nothing, or a value that can be read
 abbrev pub optional : {A B : Type 0} → (A → Option B) → Option A → Option (Option B)
 optional read None = Some None
 optional read (Some x) = option_map Some (read x)
@@ -27,11 +27,11 @@ is_named name node = pointwise nat_eq (text_at (codes "name") node) name
 unfoldable pub point_at : Data → ℕ
 point_at node = unwrap_or (point_code_of (text_at (codes "point") node)) 0
 
--- the point code of the first node of this name. Where no node has it, which a later test tells, it counts as 0.
+-- The point code of the first node of this name. If no node has it, which a later test finds, it counts as 0.
 unfoldable pub point_of : List Data → List ℕ → ℕ
 point_of nodes name = option_map_or point_at (find (is_named name) nodes) 0
 
--- the digits that a relay takes off: none where they aren't given, and 15 at most
+-- how many digits a relay takes off: none if the key is absent, and 15 at most
 unfoldable pub strip_at : Data → Option ℕ
 strip_at d = option_map_or (within 0 15) (integer_if_there (codes "strip") d) (Some 0)
 

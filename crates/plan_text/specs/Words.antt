@@ -9,7 +9,7 @@ unfoldable pub within : ℕ → ℕ → ℤ → Option ℕ
 within least most (pos n) = if nat_le least n && nat_le n most then Some n else None
 within least most (negsuc n) = None
 
--- up to so many digits
+-- up to this number of digits
 unfoldable pub digits_up_to : ℕ → List ℕ → Option (List ℕ)
 digits_up_to most text = option_and_then (λ digits. if nat_le (length digits) most then Some digits else None) (result_ok (digits_of text))
 

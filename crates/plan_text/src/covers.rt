@@ -2,6 +2,7 @@
 ghost use Rattle.std.specs.Prelude.{◌≡◌, ◌≤◌, ◌<◌, IfOk, IfSome, All, map, length};
 ghost use Rattle.toml.specs.View.{view};
 ghost use Rattle.sccp_base.specs.Answers.{Answers};
+ghost use Rattle.plan_model.specs.Limits.{most_nodes};
 ghost use Rattle.plan_model.specs.Faults.{HasFewDigits};
 ghost use Rattle.plan_text.specs.EachOk.{each_ok};
 ghost use Rattle.plan_text.specs.Faults.{is_memory};
@@ -26,16 +27,16 @@ fn place_named(nodes: &[Value], name: &[u8]) -> Option<usize>
     nodes.iter().position(|node| is_named(node, name))
 }
 
-/// The place of the first node of a name, or the number of nodes where none has it.
+/// The place of the first node of a name, or the number of nodes if none has it.
 #[tactic(auto, unfolding(crate::specs::Covers::node_place))]
 fn node_place(nodes: &[Value], name: &[u8]) -> u8
-    requires { length nodes.now ≤ 64 }
+    requires { length nodes.now ≤ most_nodes }
     ensures { result ≡ node_place (map view nodes.now) name.now }
 {
     place_named(nodes, name).unwrap_or(nodes.len()) as u8
 }
 
-/// The number under a key, from 0 to so many.
+/// The number under a key, from 0 to `most`.
 #[tactic(auto, unfolding(crate::specs::Covers::number_at))]
 fn number_at(most: u8, key: &str, table: &Value) -> Option<u8>
     ensures value { result ≡ number_at most key.now (view table.now) }
@@ -47,7 +48,7 @@ fn number_at(most: u8, key: &str, table: &Value) -> Option<u8>
     }
 }
 
-/// The places that the cover at place i allows, or its fault where one doesn't read.
+/// The places that the cover at place i allows, or its fault if one of them cannot be read.
 fn allowed_of(alloc: Global, i: usize, values: &[Value]) -> Result<List<(PointCode, u8)>, PlanFault>
     ensures { Answers is_memory (λ read. read) result (each_ok (allowed_at i) 0 (map view values.now)) }
 {
@@ -61,10 +62,10 @@ fn allowed_of(alloc: Global, i: usize, values: &[Value]) -> Result<List<(PointCo
     Ok(read)
 }
 
-/// The cover at place i, or the first key whose value doesn't read.
+/// The cover at place i, or the first key whose value cannot be read.
 #[tactic(auto, unfolding(crate::specs::Covers::cover_of))]
 fn cover_of(alloc: Global, nodes: &[Value], i: usize, cover: &Value) -> Result<Cover, PlanFault>
-    requires { length nodes.now ≤ 64 }
+    requires { length nodes.now ≤ most_nodes }
     ensures value { Answers is_memory (λ cover. cover) result (cover_of (map view nodes.now) i (view cover.now)) }
     ensures few { IfOk result HasFewDigits }
 {
@@ -100,13 +101,13 @@ fn cover_of(alloc: Global, nodes: &[Value], i: usize, cover: &Value) -> Result<C
     }
 }
 
-/// All covers in their order, or the first value of them that doesn't read.
+/// All covers in their order, or the first value of them that cannot be read.
 pub(crate) fn covers_of(
     alloc: Global,
     nodes: &[Value],
     covers: &[Value],
 ) -> Result<List<Cover>, PlanFault>
-    requires { length nodes.now ≤ 64 }
+    requires { length nodes.now ≤ most_nodes }
     ensures value { Answers is_memory (λ read. read) result (covers_of (map view nodes.now) (map view covers.now)) }
     ensures few { IfOk result (All HasFewDigits) }
 {

@@ -1,5 +1,5 @@
-//! What a document says at a key. Each answer is there for every document: where a key is absent, or its value is of another
-//! type, it is nothing, an empty text or no elements. Whether the types are right is tested by `wrong_shape`.
+//! What a document says at a key. Each function has an answer for every document. If a key is absent, or its value is of
+//! another type, the answer is nothing, an empty text or no elements. `wrong_shape` tests whether the types are right.
 ghost use Rattle.std.specs.Prelude.{◌≡◌, option_map, option_copied, map};
 ghost use Rattle.toml.specs.Data.{get};
 ghost use Rattle.toml.specs.View.{view};
@@ -7,14 +7,14 @@ ghost use Rattle.plan_text.specs.Document.{has_key, text_of, elements_of, text_a
 
 use toml::Value;
 
-/// What stands under a key of a table.
+/// The value under a key of a table.
 pub fn value_at<'a>(value: &'a Value, key: &str) -> Option<&'a Value>
     ensures { option_map (λ found. view found.now) result ≡ get key.now (view value.now) }
 {
     value.get(key)
 }
 
-/// Whether something stands under a key.
+/// Whether a table has a key.
 pub fn has_key(value: &Value, key: &str) -> bool
     ensures { result ≡ has_key key.now (view value.now) }
 {

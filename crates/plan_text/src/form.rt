@@ -1,3 +1,4 @@
+//! The types that the values of a plan text have, apart from tables.
 ghost use Rattle.std.specs.Prelude.{◌≡◌};
 ghost use Rattle.std.specs.List.{list_all};
 ghost use Rattle.toml.specs.View.{view};

@@ -1,4 +1,4 @@
-//! One key of a table, and the keys that it doesn't have.
+//! One key of a table, and the keys that it may not have.
 ghost use Rattle.std.specs.Prelude.{◌≡◌, not, nat_eq, map, option_map, true, false};
 ghost use Rattle.std.specs.List.{list_any};
 ghost use Rattle.std.specs.Cmp.Lexicographic.{pointwise};
@@ -10,14 +10,14 @@ use crate::form::{Form, has_form};
 use plan_model::Place;
 use toml::{Table, Value};
 
-/// What stands under a key.
+/// The value under a key.
 pub fn found<'a>(table: &'a Table, word: &str) -> Option<&'a Value>
     ensures { option_map (λ value. view value.now) result ≡ get_member word.now (table_view table.now) }
 {
     table.get(word)
 }
 
-/// A key that must be there, with a value of a type.
+/// Tests a key that must be there, with a value of a type. Otherwise the fault is `place`.
 pub fn needs(table: &Table, word: &str, form: Form, place: Place) -> Result<(), Place>
     ensures { result ≡ line_shape (table_view table.now) (line true place word.now (of_form form)) }
 {
@@ -27,7 +27,7 @@ pub fn needs(table: &Table, word: &str, form: Form, place: Place) -> Result<(), 
     }
 }
 
-/// A key that may be absent, with a value of a type.
+/// Tests a key that may be absent, with a value of a type. Otherwise the fault is `place`.
 pub fn allows(table: &Table, word: &str, form: Form, place: Place) -> Result<(), Place>
     ensures { result ≡ line_shape (table_view table.now) (line false place word.now (of_form form)) }
 {
@@ -47,7 +47,7 @@ fn of_form(form: Form, place: Place, value: &Value) -> Result<(), Place>
     }
 }
 
-/// That a table has no keys but these.
+/// Tests that a table has no keys except these. Otherwise the fault is `place`.
 pub fn no_other(table: &Table, words: &[&str], place: Place) -> Result<(), Place>
     ensures { result ≡ right_if (not (has_other (map (λ word. word.now) words.now) (table_view table.now))) place }
 {

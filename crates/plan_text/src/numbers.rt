@@ -1,5 +1,5 @@
-//! The subsystems of a node, and the points that are told of their status: lists without repeats. They may be long, so a
-//! repeat is found by a mark for each number.
+//! The subsystems of a node, and the concerned points that learn their status: lists without repeats. They may be long, so a
+//! repeat is found by a flag for each number.
 ghost use Rattle.std.specs.Prelude.{◌≡◌, ◌≢◌, ◌<◌, false, IfOk, IfErr, IfSome, All, AllPairs, map, length};
 ghost use Rattle.toml.specs.View.{view};
 ghost use Rattle.sccp_base.specs.Answers.{Answers};
@@ -58,7 +58,7 @@ fn read_points(alloc: Global, place: Place, values: &[Value]) -> Result<List<Poi
     Ok(read)
 }
 
-/// So many marks, none of them set.
+/// This number of flags, none of them set.
 fn marks(alloc: Global, count: usize) -> Result<Vec<bool>, PlanFault>
     ensures count { IfOk result (λ marks. length marks.items ≡ count) }
     ensures fresh { IfOk result (λ marks. All (λ mark. mark ≡ false) marks.items) }
@@ -70,7 +70,7 @@ fn marks(alloc: Global, count: usize) -> Result<Vec<bool>, PlanFault>
     }
 }
 
-/// Whether a subsystem is that of an earlier one. There is a mark for each number.
+/// Whether a subsystem number is that of an earlier one. There is a flag for each number.
 #[tactic(auto, unfolding(crate::specs::Drafts::repeats))]
 fn repeats(seen: &mut [bool], ssns: &[u8]) -> bool
     requires count { length seen.old ≡ 256 }
@@ -88,7 +88,7 @@ fn repeats(seen: &mut [bool], ssns: &[u8]) -> bool
     false
 }
 
-/// Whether a point is an earlier one. There is a mark for each point code.
+/// Whether a point is an earlier one. There is a flag for each point code.
 #[tactic(auto, unfolding(crate::specs::Drafts::repeats))]
 fn points_repeat(seen: &mut [bool], points: &[PointCode]) -> bool
     requires count { length seen.old ≡ 16384 }
@@ -106,7 +106,7 @@ fn points_repeat(seen: &mut [bool], points: &[PointCode]) -> bool
     false
 }
 
-/// The subsystems of a node, or its fault where one isn't from 2 to 255 or repeats another.
+/// The subsystems of a node, or its fault if one is not from 2 to 255 or repeats another.
 #[tactic(auto, unfolding(crate::specs::Drafts::subsystems_of))]
 pub(crate) fn subsystems_of(
     alloc: Global,
@@ -125,7 +125,7 @@ pub(crate) fn subsystems_of(
     Ok(read)
 }
 
-/// The points that are told of a node's status, or the fault where one doesn't read or repeats another.
+/// The concerned points of a node, or its fault if one cannot be read or repeats another.
 #[tactic(auto, unfolding(crate::specs::Drafts::concerned_of))]
 pub(crate) fn concerned_of(
     alloc: Global,

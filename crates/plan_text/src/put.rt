@@ -1,3 +1,4 @@
+//! Lists that grow while a text is read.
 ghost use Rattle.std.specs.Prelude.{◌≡◌, [], ◌∷◌, ◌++◌, OnOk, IfErr};
 ghost use Rattle.plan_model.specs.declared.plan_fault.PlanFault.{PlanFault};
 

@@ -1,11 +1,10 @@
 //! The values that the texts and integers of a plan text spell.
 ghost use Rattle.std.specs.Prelude.{◌≡◌, ◌≤◌, IfSome, length};
 ghost use Rattle.plan_text.specs.Words.{within, digits_up_to, place_of};
-ghost use Rattle.sccp_base.specs.Text.{byte_of};
 
-use sccp_base::{Digits, PointCode, cut, decimal};
+use sccp_base::{Digits, PointCode, byte, cut};
 
-/// The integer, where it is from `least` to `most`.
+/// The integer, if it is from `least` to `most`.
 #[tactic(auto, unfolding(crate::specs::Words::within))]
 pub(crate) fn within(least: u8, most: u8, value: i64) -> Option<u8>
     ensures same { result ≡ within least most value }
@@ -18,7 +17,7 @@ pub(crate) fn within(least: u8, most: u8, value: i64) -> Option<u8>
     }
 }
 
-/// The digits that a text spells, where they are at most so many.
+/// The digits that a text spells, if they are at most `most`.
 #[tactic(auto, unfolding(crate::specs::Words::digits_up_to))]
 pub(crate) fn digits_up_to(most: usize, text: &[u8]) -> Option<Digits>
     ensures same { result ≡ digits_up_to most text.now }
@@ -37,22 +36,12 @@ pub(crate) fn place_of(text: &[u8]) -> Option<(PointCode, u8)>
 {
     match cut(text, b'/') {
         Some((point, ssn)) => match PointCode::parse(point) {
-            Some(pc) => match byte_of(ssn) {
+            Some(pc) => match byte(ssn) {
                 Some(ssn) => Some((pc, ssn)),
                 None => None,
             },
             None => None,
         },
         None => None,
-    }
-}
-
-/// A number up to 255 of one to three decimal digits.
-fn byte_of(text: &[u8]) -> Option<u8>
-    ensures { result ≡ byte_of text.now }
-{
-    match decimal(text, 3) {
-        Some(value) if value < 256 => Some(value as u8),
-        _ => None,
     }
 }

@@ -98,12 +98,3 @@ sound_put plan old new class rank depth sound absent puts here reached =
 
 pub own_rank : (old new : List (Titles × ℕ)) (class : Titles) (rank : ℕ) → Puts old new class rank → rank_in new class ≡ Some rank
 own_rank old new class rank puts = puts class ∙ ap (λ (b : Bool). if b then Some rank else rank_in old class) (own_class class)
-
--- a table without classes
-pub sound_none : (plan : Network) (ranks : List (Titles × ℕ)) → ((c : Titles) → rank_in ranks c ≡ None) → IsSound plan ranks
-sound_none plan ranks none =
-    record {
-      ranked = λ c r e. absurd (let n : rank_in ranks c ≡ None = none c in cc);
-      attained = λ c r e two. absurd (let n : rank_in ranks c ≡ None = none c in cc);
-      reached = λ c r e. absurd (let n : rank_in ranks c ≡ None = none c in cc);
-    }

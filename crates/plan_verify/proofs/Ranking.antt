@@ -1,24 +1,23 @@
 -- the rank of a class by what its parts or its targets lead to
-use Rattle.std.specs.Prelude.{ℕ, ◌≡◌, ◌+◌, ◌-◌, ◌≤◌, ◌<◌, List, [], ◌∷◌, ◌++◌, length, take, Option, Some, None, IsSome, IsSomeAnd, slice_get, refl, max, get_or}
-use Rattle.std.specs.List.{All, Any, Contains}
+use Rattle.std.specs.Prelude.{ℕ, ◌≡◌, ◌+◌, ◌-◌, ◌≤◌, ◌<◌, List, [], length, take, Option, Some, None, IsSome, IsSomeAnd, slice_get, max, get_or}
+use Rattle.std.specs.List.{All, Any}
 use Rattle.std.proofs.Common.{sym, ◌∙◌, ap, subst, inl, inr, ⊎_elim, arith, take_all}
 use Rattle.std.proofs.lemmas.Bool.{cases_lt}
 use Rattle.std.proofs.lemmas.List.{get_or-take, length-take}
 use Rattle.std.proofs.lemmas.List.Elements.{All-weaker, All-more}
 use Rattle.plan_model.specs.Network.{Network}
-use Rattle.plan_model.specs.RowFor.{row_of}
 use Rattle.plan_classes.specs.declared.leads.Image.{Image}
 use Rattle.plan_classes.specs.declared.leads.Image.TheVariants.{Next, Ends, NotEquipped, TooLong}
-use Rattle.plan_classes.specs.Titles.{Titles, IsClass, IsMember, IsPart, Splits, spot_of, parts_of}
+use Rattle.plan_classes.specs.Titles.{Titles, IsClass, parts_of}
 use Rattle.plan_classes.specs.Classes.{Decided, Reachable, Reaches, HasImage, IsReached, class_row, class_targets}
 use Rattle.plan_classes.specs.Classes.Reachable.{Part, Onward}
 use Rattle.plan_classes.proofs.Openings.{reached_place}
 use Rattle.plan_classes.proofs.Taking.{one_image}
 use Rattle.plan_check.specs.Ranking.{rank_in}
-use Rattle.plan_check.specs.Ranked.{RanksUpTo, LeadsWell, IsRankedClass}
+use Rattle.plan_check.specs.Ranked.{RanksUpTo, LeadsWell}
 use Rattle.plan_check.proofs.Greatest.{wider}
 use Rattle.plan_check.proofs.Soundness.{some_of}
-use Rattle.plan_verify.specs.Attained.{RanksFrom, LeadsToClass, LeadsHigh, IsAttainedOpen, IsAttainedDecided}
+use Rattle.plan_verify.specs.Attained.{RanksFrom, LeadsHigh, IsAttainedOpen, IsAttainedDecided}
 use Rattle.plan_verify.specs.Searching.{Keeps, IsSound, IsBorneOut, IsLedTo}
 use Rattle.plan_verify.proofs.Keeping.{some_kept, leads_kept, high_kept}
 
@@ -30,7 +29,7 @@ from_wider : (o : Option ℕ) (m n : ℕ) → n ≤ m → IsSomeAnd o (λ s. m �
 from_wider None m n le h = h
 from_wider (Some s) m n le h = omega arith
 
--- one more part is ranked
+-- the parts are ranked with one more of them
 pub parts_ranked : (old new : List (Titles × ℕ)) (ps : List Titles) (i rank other : ℕ) (p : Titles) → i < length ps → p ≡ get_or ps i p → Keeps old new → rank_in new p ≡ Some other → All (RanksUpTo (rank_in old) rank) (take i ps) → All (RanksUpTo (rank_in new) (max rank other)) (take (i + 1) ps)
 parts_ranked old new ps i rank other p lt at keeps here before =
     All-more (RanksUpTo (rank_in new) (max rank other)) ps i p lt
@@ -67,11 +66,6 @@ pub part_reached : (plan : Network) (depth : ℕ) (c : Titles) (ps qs : List Tit
 part_reached plan depth c ps qs i p are same lt at reached apart =
     Part depth c p reached apart (i, omega (arith, ap length (same ∙ are)), sym (at ∙ ap (λ (xs : List Titles). get_or xs i p) (same ∙ are)))
 
--- a part that is among them
-pub part_among : (c p : Titles) (ps qs : List Titles) → Splits c ps → qs ≡ ps → Contains qs p → IsPart c p
-part_among c p ps qs splits same has =
-    subst (IsPart c) has.2 (subst (λ (xs : List Titles). IsPart c (get_or xs has.0 p)) (sym same) (splits.each has.0 p (omega (arith, ap length same, has.1))))
-
 leads_wider : (plan : Network) (ranks : List (Titles × ℕ)) (cover m n : ℕ) (i : Image) → m ≤ n → LeadsWell plan (rank_in ranks) cover m i → LeadsWell plan (rank_in ranks) cover n i
 leads_wider plan ranks cover m n (Next next) le h = below_wider (rank_in ranks next) m n le h
 leads_wider plan ranks cover m n (Ends pc ssn) le h = h
@@ -103,22 +97,13 @@ targets_high plan old new c rank other keeps here before two =
 pub image_reached : (plan : Network) (depth place : ℕ) (c next : Titles) → HasImage plan c place (Next next) → Reaches plan c place → Decided plan c → depth < 14 → Reachable plan depth c → Reachable plan (depth + 1) next
 image_reached plan depth place c next has reached decided lt at = Onward depth c next place at lt decided reached has
 
--- where a target leads to a ranked class, the rank is one more
+-- if a target leads to a ranked class, the rank is one more
 pub led_next_rank : (plan : Network) (ranks : List (Titles × ℕ)) (c next : Titles) (place other : ℕ) → HasImage plan c place (Next next) → Reaches plan c place → rank_in ranks next ≡ Some other → IsLedTo plan (rank_in ranks) c place (other + 1)
 led_next_rank plan ranks c next place other has reached here =
     record {
       well = λ image r h. subst (LeadsWell plan (rank_in ranks) c.cover (other + 1)) (one_image plan c place (Next next) image has h) (subst (λ (o : Option ℕ). IsSomeAnd o (λ s. s < other + 1)) (sym here) (let lt : other < other + 1 = omega arith in lt));
       low = omega arith;
       high = λ two. record { place = place; next = next; leads = (reached, has); high = subst (λ (o : Option ℕ). IsSomeAnd o (λ s. other + 1 - 1 ≤ s)) (sym here) (let le : other + 1 - 1 ≤ other = omega arith in le) };
-    }
-
--- a target that ends at an allowed place
-pub led_end : (plan : Network) (ranks : List (Titles × ℕ)) (c : Titles) (place : ℕ) (image : Image) → HasImage plan c place image → LeadsWell plan (rank_in ranks) c.cover 1 image → IsLedTo plan (rank_in ranks) c place 1
-led_end plan ranks c place image has well =
-    record {
-      well = λ other r h. subst (LeadsWell plan (rank_in ranks) c.cover 1) (one_image plan c place image other has h) well;
-      low = omega arith;
-      high = λ two. absurd (omega (arith, two));
     }
 
 -- a target that is never the first open one
@@ -141,11 +126,7 @@ decided_borne plan ranks c rank n is node cover decided some all low high leads 
       attained = λ two. inr (record { decided = decided; next = attained two });
     }
 
--- a class of at least some rank is one of the plan's
-pub high_class : (plan : Network) (ranks : List (Titles × ℕ)) (c : Titles) (least : ℕ) → IsSound plan ranks → RanksFrom (rank_in ranks) least c → (r : ℕ) × IsRankedClass plan (rank_in ranks) c r
-high_class plan ranks c least sound high = let s = some_of (rank_in ranks c) (λ r. least ≤ r) high in (s.0, sound.ranked c s.0 s.1)
-
--- a part has that rank where the class isn't decided
+-- an undecided class of at least some rank has a part of at least that rank
 pub high_part : (plan : Network) (ranks : List (Titles × ℕ)) (c : Titles) (least : ℕ) (ps : List Titles) → IsSound plan ranks → RanksFrom (rank_in ranks) least c → 2 ≤ least → (Decided plan c → ⊥) → ps ≡ parts_of c → Any (RanksFrom (rank_in ranks) least) ps
 high_part plan ranks c least ps sound high two undecided same =
     let s = some_of (rank_in ranks c) (λ r. least ≤ r) high in
@@ -156,7 +137,7 @@ high_part plan ranks c least ps sound high two undecided same =
     (λ (by : IsAttainedDecided plan (rank_in ranks) c s.0). absurd (undecided by.decided))
     (sound.attained c s.0 s.1 (omega (arith, s.2)))
 
--- and a class that it is led to has one rank less where it is
+-- a decided class of at least some rank leads to one that is at most one rank lower
 pub high_next : (plan : Network) (ranks : List (Titles × ℕ)) (c : Titles) (least : ℕ) → IsSound plan ranks → RanksFrom (rank_in ranks) least c → 2 ≤ least → Decided plan c → LeadsHigh plan (rank_in ranks) c (least - 1)
 high_next plan ranks c least sound high two decided =
     let s = some_of (rank_in ranks c) (λ r. least ≤ r) high in
@@ -166,22 +147,8 @@ high_next plan ranks c least sound high two decided =
     record { place = by.next.place; next = by.next.next; leads = by.next.leads; high = from_wider (rank_in ranks by.next.next) (s.0 - 1) (least - 1) (let le : least ≤ s.0 = s.2 in omega arith) by.next.high })
     (sound.attained c s.0 s.1 (omega (arith, s.2)))
 
--- none so far has that rank, and so none has
+-- if no class up to the end of a list has that rank, none of the list has
 pub none_high : (ranks : List (Titles × ℕ)) (least n : ℕ) (ps : List Titles) → length ps ≤ n → All (λ p. RanksFrom (rank_in ranks) least p → ⊥) (take n ps) → Any (RanksFrom (rank_in ranks) least) ps → ⊥
 none_high ranks least n ps all none some =
     let whole : All (λ p. RanksFrom (rank_in ranks) least p → ⊥) ps = subst (All (λ p. RanksFrom (rank_in ranks) least p → ⊥)) (take_all n ps all) none in
     whole some.0 some.1 some.2 (subst (RanksFrom (rank_in ranks) least) (sym some.3) some.4)
-
-pub none_leads : (plan : Network) (ranks : List (Titles × ℕ)) (c : Titles) (least n : ℕ) → length (class_targets plan c) ≤ n → ((place : ℕ) (next : Titles) → place < n → LeadsToClass plan c place next → RanksFrom (rank_in ranks) least next → ⊥) → LeadsHigh plan (rank_in ranks) c least → ⊥
-none_leads plan ranks c least n all none some = none some.place some.next (omega (arith, reaches_inside plan c some.place some.leads.0)) some.leads some.high
-
--- the one title of a class without open digits
-pub closed_decided : (plan : Network) (c : Titles) → c.most ≡ 0 → Decided plan c
-closed_decided plan c none = λ d e m n. ap (λ (digits : List ℕ). row_of plan (spot_of c digits)) (one d m ∙ sym (one e n))
-  where
-    one : (digits : List ℕ) → IsMember c digits → digits ≡ c.known ++ []
-    one digits m = m.whole ∙ ap (λ (rest : List ℕ). c.known ++ rest) (nothing m.rest (omega (arith, m.most, none)))
-      where
-        nothing : (xs : List ℕ) → length xs ≤ 0 → xs ≡ []
-        nothing [] h = refl
-        nothing (x ∷ xs) h = absurd (omega arith)

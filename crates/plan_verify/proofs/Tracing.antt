@@ -1,5 +1,5 @@
 -- titles with bad or long routes, and how they are carried back
-use Rattle.std.specs.Prelude.{ℕ, ◌≡◌, ◌+◌, ◌≤◌, ◌<◌, ◌⊎◌, List, [], ◌∷◌, length, Option, Some, None, Result, Ok, Err, IfOk, IsSomeAnd, slice_get, refl, if◌then◌else◌}
+use Rattle.std.specs.Prelude.{ℕ, ◌≡◌, ◌+◌, ◌<◌, ◌⊎◌, List, [], ◌∷◌, length, Option, Some, None, Result, Ok, Err, IfOk, IsSomeAnd, slice_get, refl, if◌then◌else◌}
 use Rattle.std.specs.List.{list_any}
 use Rattle.std.specs.Option.{option_and_then}
 use Rattle.std.proofs.Common.{sym, ◌∙◌, ap, subst, inl, inr, ⊎_elim, arith}
@@ -65,7 +65,7 @@ way_one plan c t digits m these under member =
 pub fifteenth : (plan : Network) (c : Titles) (depth : ℕ) (t : Trace) → IsMember c t.digits → t.markings ≡ [] ∷ [] → depth ≡ 14 → IsTrace plan c depth t
 fifteenth plan c depth t member under deep = trace_one plan c depth t t.digits [] refl under member (omega arith) (inr (omega arith))
 
--- without a row there is no way on
+-- without a row a title cannot go on
 no_row_step : (plan : Network) (s : Spot) (m : List Mark) → row_of plan s ≡ None → (cause : ℕ) × (step plan s m ≡ NoRow cause)
 no_row_step plan s m e =
     elim (slice_get plan.nodes s.node) as (λ o. option_and_then (λ node. row_for node s) o ≡ None → (cause : ℕ) × (step_at plan s m o ≡ NoRow cause)) [
@@ -78,7 +78,7 @@ without_row plan c depth t member least under lt none =
     let e = no_row_step plan (spot_of c (sample_of c)) [] none in
     trace_one plan c depth t (sample_of c) [] least under (subst (IsMember c) least member) (omega arith) (inl (subst (IsBadEnd plan c.cover) (sym e.1) tt))
 
--- the title in front is sent on as the one behind
+-- the title in front is sent on as the one that follows
 pub sent_before : (plan : Network) (c : Titles) (place : ℕ) (behind t : Trace) (m : List Mark) → IsMember c t.digits → t.markings ≡ m ∷ behind.markings → Takes plan c place m → ((next : Titles) → HasImage plan c place (Next next) → brought plan c place t.digits ≡ Some (Sent (spot_of next behind.digits) place)) → GoesBefore plan c place behind t
 sent_before plan c place behind t m member front takes leads =
     record {
@@ -92,7 +92,7 @@ sent_before plan c place behind t m member front takes leads =
           );
     }
 
--- a bad route behind a hop is a bad route
+-- a bad route after a hop makes a bad route
 pub trace_before : (plan : Network) (c next : Titles) (place depth : ℕ) (behind t : Trace) → HasImage plan c place (Next next) → next.cover ≡ c.cover → IsTrace plan next (depth + 1) behind → GoesBefore plan c place behind t → IsTrace plan c depth t
 trace_before plan c next place depth behind t has cover trace before =
     record {
@@ -115,15 +115,6 @@ trace_before plan c next place depth behind t has cover trace before =
     follows : (hop : Hop) × (route plan (spot_of c t.digits) t.markings ≡ hop ∷ route plan (spot_of next behind.digits) behind.markings)
     follows = before.follows next has
 
-pub way_before : (plan : Network) (c next : Titles) (place hops more : ℕ) (behind t : Trace) → more ≡ hops + 1 → HasImage plan c place (Next next) → IsWay plan next hops behind → GoesBefore plan c place behind t → IsWay plan c more t
-way_before plan c next place hops more behind t one has way before =
-    let follows = before.follows next has in
-    record {
-      member = before.member;
-      count = omega (arith, before.more, way.count);
-      each = omega (arith, ap length follows.1, way.each);
-    }
-
 -- a part's titles are the class's
 pub trace_of_part : (plan : Network) (c part : Titles) (depth : ℕ) (t : Trace) → IsPart c part → IsTrace plan part depth t → IsTrace plan c depth t
 trace_of_part plan c part depth t is trace =
@@ -137,23 +128,7 @@ trace_of_part plan c part depth t is trace =
     part_spot : (c part : Titles) (digits : List ℕ) → IsPart c part → spot_of part digits ≡ spot_of c digits
     part_spot c part digits is = λ i. record { node = is.node i; selector = is.selector i; ssn = is.ssn i; digits = digits }
 
-pub way_of_part : (plan : Network) (c part : Titles) (hops : ℕ) (t : Trace) → IsPart c part → IsWay plan part hops t → IsWay plan c hops t
-way_of_part plan c part hops t is way =
-    record {
-      member = is.inside t.digits way.member;
-      count = way.count;
-      each = subst (λ (s : Spot). length (route plan s t.markings) ≡ hops) (λ i. record { node = is.node i; selector = is.selector i; ssn = is.ssn i; digits = t.digits }) way.each;
-    }
-
--- a way that has the fifteenth hop is bad
-pub way_bad : (plan : Network) (c : Titles) (depth hops : ℕ) (t : Trace) → depth + hops ≡ 15 → 1 ≤ hops → IsWay plan c hops t → IsTrace plan c depth t
-way_bad plan c depth hops t fifteen some way =
-    record {
-      member = way.member;
-      bad = record { each = way.each ∙ sym way.count; some = omega (arith, way.count); few = omega (arith, way.count); ends = inr (omega (arith, way.count)) };
-    }
-
--- so the spot of a bad route from a start is one that its cover has
+-- a spot of a cover's start is one that the cover has
 pub start_has : (plan : Network) (number : ℕ) (cover : Cover) (digits : List ℕ) → IsPlan plan → slice_get plan.covers number ≡ Some cover → IsMember (start_of number cover) digits → HasSpot plan number (spot_of (start_of number cover) digits)
 start_has plan number cover digits is at m =
     subst (λ (o : Option Cover). IsSomeAnd o (λ c. Covers c (spot_of (start_of number cover) digits))) (sym at) (member_covered plan.nodes number cover digits (cover_at plan number cover is at) m)

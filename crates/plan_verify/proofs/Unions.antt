@@ -1,10 +1,9 @@
--- what a marking holds that was made of others
+-- what a marking that was made of others holds
 use Rattle.std.specs.Prelude.{ℕ, ◌≡◌, ◌+◌, ◌<◌, Bool, true, false, ◌||◌, IsTrue, ◌↔◌, List, [], ◌∷◌, ◌++◌, length, take, get_or, refl}
 use Rattle.std.specs.Cmp.Lexicographic.{pointwise}
 use Rattle.std.proofs.Common.{sym, ◌∙◌, ap, subst}
 use Rattle.std.proofs.lemmas.Bool.{and_parts, false≢true}
 use Rattle.std.proofs.lemmas.Cmp.{lists_equiv}
-use Rattle.std.proofs.lemmas.Grind.{flat_map-append}
 use Rattle.std.proofs.lemmas.List.{take_more}
 use Rattle.std.proofs.lemmas.List.Folds.{list_any-append}
 use Rattle.sccp_base.specs.declared.mark.Mark.{Mark}
@@ -13,7 +12,6 @@ use Rattle.sccp_base.specs.MarkOrder.{same_mark_equiv}
 use Rattle.sccp_base.proofs.MarkPlaces.{same_mark_is}
 use Rattle.plan_model.specs.declared.hop.Step.{Step}
 use Rattle.plan_model.specs.declared.hop.Step.TheVariants.{Blocked}
-use Rattle.plan_model.specs.Verdicts.{union}
 
 or_turn : (a b c : Bool) → (a || (b || c)) ≡ (b || (c || (a || false)))
 or_turn true true c = refl
@@ -40,14 +38,7 @@ held_more marks i x m old lt at =
     ∙ ap (λ (b : Bool). old || b) (sym (list_any-append (λ held. same_mark held m) (take i marks) (x ∷ [])))
     ∙ ap (λ (xs : List Mark). old || holds xs m) (sym (front_more marks i x lt at))
 
--- the marks of one more marking
-pub union_more : (ms : List (List Mark)) (i : ℕ) (x : List Mark) (m : Mark) → i < length ms → x ≡ get_or ms i x → (holds (union (take i ms)) m || holds x m) ≡ holds (union (take (i + 1) ms)) m
-union_more ms i x m lt at =
-    ap (λ (b : Bool). holds (union (take i ms)) m || b) (sym (list_any-append (λ held. same_mark held m) x [] ∙ or_none (holds x m)))
-    ∙ sym (list_any-append (λ held. same_mark held m) (union (take i ms)) (x ++ []))
-    ∙ ap (λ (xs : List Mark). holds xs m) (sym (flat_map-append (λ (marking : List Mark). marking) (take i ms) (x ∷ [])) ∙ ap union (sym (front_more ms i x lt at)))
-
--- lists of marks that compare alike are one
+-- lists of marks that compare as equal are the same list
 pub same_marks : (xs ys : List Mark) → pointwise same_mark xs ys ≡ true → xs ≡ ys
 same_marks [] [] e = refl
 same_marks [] (y ∷ ys) e = absurd (false≢true e)
@@ -59,7 +50,7 @@ same_marks (x ∷ xs) (y ∷ ys) e =
 pub own_marks : (xs : List Mark) → pointwise same_mark xs xs ≡ true
 own_marks xs = (lists_equiv same_mark_equiv).refl xs
 
--- two blocked steps are one where their causes and marks are
+-- two blocked steps are the same if their causes and marks are
 pub same_blocked : (cause code : ℕ) (xs ys : List Mark) (x y : Step) (found : Bool) → x ≡ Blocked cause xs → y ≡ Blocked code ys → cause ≡ code → found ≡ pointwise same_mark xs ys → IsTrue found ↔ (x ≡ y)
 same_blocked cause code xs ys x y found ex ey same told = (
   λ t. ex ∙ ((λ i. Blocked (same i) (same_marks xs ys (sym told ∙ t) i)) ∙ sym ey),

@@ -1,4 +1,4 @@
--- What it is for ranks not to be too high: each rank is that of a part, or one more than that of a class that is led to.
+-- Ranks that are not too high: each rank is that of a part, or one more than that of a next class.
 use Rattle.std.specs.Prelude.{ℕ, ◌≡◌, ◌-◌, ◌≤◌, ◌⊎◌, Option, Some, IsSomeAnd}
 use Rattle.std.specs.List.{Any}
 use Rattle.plan_model.specs.Network.{Network}
@@ -26,7 +26,7 @@ pub record IsAttainedOpen (plan : Network) (rank : Titles → Option ℕ) (c : T
   pub undecided : Decided plan c → ⊥
   pub part : Any (RanksFrom rank r) (parts_of c)
 
--- a decided class is led to one that is at most one rank lower
+-- a target leads a decided class to one that is at most one rank lower
 pub record IsAttainedDecided (plan : Network) (rank : Titles → Option ℕ) (c : Titles) (r : ℕ) : Type 0 where
   pub decided : Decided plan c
   pub next : LeadsHigh plan rank c (r - 1)

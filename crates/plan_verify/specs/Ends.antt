@@ -1,4 +1,4 @@
--- Routes that show that a plan isn't safe, before it is said why.
+-- Routes that show that a plan is not safe, before the reason is given.
 use Rattle.std.specs.Prelude.{ℕ, ◌≡◌, ◌+◌, ◌≤◌, ◌⊎◌, List, length, IsSomeAnd, slice_get}
 use Rattle.std.specs.List.{Contains}
 use Rattle.sccp_base.specs.declared.mark.Mark.{Mark}
@@ -9,7 +9,7 @@ use Rattle.plan_model.specs.Network.{Network}
 use Rattle.plan_model.specs.Routes.{route}
 use Rattle.plan_model.specs.Verdicts.{last}
 
--- a last step that no route of the cover may have: there is no way on, or an end that the cover doesn't allow
+-- a last step that no route of the cover may have: the title cannot go on, or the cover does not allow its end
 abbrev pub IsBadEnd : Network → ℕ → Step → Type 0
 IsBadEnd plan cover (Sent next target) = ⊥
 IsBadEnd plan cover (Ended pc ssn target) = IsSomeAnd (slice_get plan.covers cover) (λ c. Contains c.allowed (pc, ssn) → ⊥)
@@ -17,7 +17,7 @@ IsBadEnd plan cover (Blocked cause marks) = ⊥
 IsBadEnd plan cover (NoRow cause) = Unit {0}
 IsBadEnd plan cover Overgrown = Unit {0}
 
--- behind so many hops the route has a hop under each marking, and ends badly or has the fifteenth hop of the whole
+-- after this number of hops, the route has a hop under each marking, and ends badly or has the fifteenth hop of the whole
 pub record IsBadRoute (plan : Network) (cover depth : ℕ) (spot : Spot) (markings : List (List Mark)) : Type 0 where
   pub each : length (route plan spot markings) ≡ length markings
   pub some : 1 ≤ length markings

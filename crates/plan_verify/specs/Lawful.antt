@@ -1,5 +1,6 @@
 -- What a verdict says of a plan.
 use Rattle.std.specs.Prelude.{ℕ, ◌≤◌}
+use Rattle.plan_model.specs.Limits.{most_classes}
 use Rattle.plan_model.specs.Network.{Network}
 use Rattle.plan_model.specs.Verdicts.{Safe, Tight}
 use Rattle.plan_model.specs.Spots.{IsInRange}
@@ -8,7 +9,7 @@ use Rattle.plan_verify.specs.declared.verdict.Verdict.{Verdict}
 use Rattle.plan_verify.specs.declared.verdict.Verdict.TheVariants.{Accepted, Refused, TooWide}
 use Rattle.plan_verify.specs.Witnesses.{IsWitness}
 
--- the plan that the verdict hands back
+-- the plan that the verdict gives back
 abbrev pub plan_of : Verdict → Network
 plan_of (Accepted accepted) = accepted.plan
 plan_of (Refused plan witness) = plan
@@ -20,13 +21,13 @@ pub record IsSafeFor (plan : Network) (bound : ℕ) : Type 0 where
   pub few : bound ≤ 14
   pub safe : Safe plan bound
 
--- an accepted plan is safe for its bound, which its longest route reaches, and the numbers of that route are in range; a refused one
--- has the bad route that is shown; and one that is too wide reaches at least 262,144 classes of titles
+-- An accepted plan is safe for its bound, which its longest route reaches, and the numbers of that route are in range. A refused
+-- plan has the bad route that is shown. A plan that is too wide reaches at least 262,144 classes of titles.
 abbrev pub IsLawful : Network → Verdict → Type 0
 IsLawful plan (Accepted accepted) =
     IsSafeFor plan accepted.bound × Tight plan accepted.bound accepted.longest.spot accepted.longest.markings × IsInRange plan accepted.longest.spot accepted.longest.markings
 IsLawful plan (Refused same witness) = IsWitness plan witness
-IsLawful plan (TooWide same) = ReachesAtLeast plan 262144
+IsLawful plan (TooWide same) = ReachesAtLeast plan most_classes
 
 abbrev pub IsAccepted : Verdict → Type 0
 IsAccepted (Accepted accepted) = Unit {0}

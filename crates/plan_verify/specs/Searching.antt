@@ -1,5 +1,6 @@
 -- What the search keeps of its table, and what it finds.
 use Rattle.std.specs.Prelude.{ℕ, ◌≡◌, ◌+◌, ◌-◌, ◌<◌, ◌≤◌, List, length, Option, Some, IsSomeAnd, slice_get}
+use Rattle.plan_model.specs.Limits.{most_classes}
 use Rattle.plan_model.specs.Network.{Network}
 use Rattle.plan_classes.specs.declared.leads.Image.{Image}
 use Rattle.plan_classes.specs.Titles.{Titles}
@@ -26,29 +27,29 @@ pub record IsSound (plan : Network) (ranks : List (Titles × ℕ)) : Type 0 wher
 
 -- a class that may be explored at a depth
 pub record MayExplore (plan : Network) (c : Titles) (depth : ℕ) : Type 0 where
-  -- it stands at a node of the plan
+  -- it is at a node of the plan
   pub node : c.node < length plan.nodes
   -- its titles are those of a cover
   pub cover : c.cover < length plan.covers
-  -- so many rewritings lead to it
+  -- this number of rewritings leads to it
   pub reached : Reachable plan depth c
 
--- what is found of a class at a depth: its rank stands in the table, or one of its titles has a bad route
+-- what is found of a class at a depth: its rank in the table, a title of it with a bad route, or too many classes
 abbrev pub IsFound : Network → Titles → ℕ → List (Titles × ℕ) → Found → Type 0
 IsFound plan c depth ranks (Rank r) = (rank_in ranks c ≡ Some r) × (depth + r ≤ 14)
 IsFound plan c depth ranks (Bad trace) = IsTrace plan c depth trace
-IsFound plan c depth ranks Wide = ReachesAtLeast plan 262144
+IsFound plan c depth ranks Wide = ReachesAtLeast plan most_classes
 
--- a rank that what follows the class bears out
+-- a rank that agrees with the classes that follow, and is not too high
 pub record IsBorneOut (plan : Network) (rank : Titles → Option ℕ) (c : Titles) (r : ℕ) : Type 0 where
   pub ranked : IsRankedClass plan rank c r
   pub attained : 2 ≤ r → IsAttainedClass plan rank c r
 
--- what is found of its parts, or of where its targets lead
+-- what is found of a class's parts, or of what its targets make of it
 abbrev pub IsFollowed : Network → Titles → ℕ → List (Titles × ℕ) → Found → Type 0
 IsFollowed plan c depth ranks (Rank r) = IsBorneOut plan (rank_in ranks) c r × (depth + r ≤ 14)
 IsFollowed plan c depth ranks (Bad trace) = IsTrace plan c depth trace
-IsFollowed plan c depth ranks Wide = ReachesAtLeast plan 262144
+IsFollowed plan c depth ranks Wide = ReachesAtLeast plan most_classes
 
 -- a rank above what one target leads to, and no higher than it must be
 pub record IsLedTo (plan : Network) (rank : Titles → Option ℕ) (c : Titles) (place r : ℕ) : Type 0 where
@@ -56,18 +57,18 @@ pub record IsLedTo (plan : Network) (rank : Titles → Option ℕ) (c : Titles) 
   pub low : 1 ≤ r
   pub high : 2 ≤ r → LeadsHigh plan rank c (r - 1)
 
--- what is found of where one target leads
+-- what is found of what one target makes of a class
 abbrev pub IsLed : Network → Titles → ℕ → ℕ → List (Titles × ℕ) → Found → Type 0
 IsLed plan c depth place ranks (Rank r) = IsLedTo plan (rank_in ranks) c place r × (depth + r ≤ 14)
 IsLed plan c depth place ranks (Bad trace) = IsTrace plan c depth trace
-IsLed plan c depth place ranks Wide = ReachesAtLeast plan 262144
+IsLed plan c depth place ranks Wide = ReachesAtLeast plan most_classes
 
 -- the start of this cover has this rank
 abbrev pub HasStart : Network → List (Titles × ℕ) → Greatest → Type 0
 HasStart plan ranks greatest = IsSomeAnd (slice_get plan.covers greatest.cover) (λ cover. rank_in ranks (start_of greatest.cover cover) ≡ Some greatest.rank)
 
--- what is found of all starts: ranks of which that one is the greatest, a bad route from a cover's start, or too many classes
+-- what is found of all starts: ranks, of which this one is the greatest, a bad route from a cover's start, or too many classes
 abbrev pub IsOutcome : Network → List (Titles × ℕ) → Outcome → Type 0
 IsOutcome plan ranks (Ranked greatest) = StartsBelow plan (rank_in ranks) greatest.rank × HasStart plan ranks greatest
 IsOutcome plan ranks (Refuted number trace) = IsSomeAnd (slice_get plan.covers number) (λ cover. IsTrace plan (start_of number cover) 0 trace)
-IsOutcome plan ranks TooMany = ReachesAtLeast plan 262144
+IsOutcome plan ranks TooMany = ReachesAtLeast plan most_classes

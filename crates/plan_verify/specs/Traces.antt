@@ -9,18 +9,18 @@ use Rattle.plan_classes.specs.Classes.{HasImage}
 use Rattle.plan_verify.specs.declared.trace.Trace.{Trace}
 use Rattle.plan_verify.specs.Ends.{IsBadRoute}
 
--- a title of the class whose route is bad behind so many hops
+-- a title of the class whose route is bad after this number of hops
 pub record IsTrace (plan : Network) (c : Titles) (depth : ℕ) (t : Trace) : Type 0 where
   pub member : IsMember c t.digits
   pub bad : IsBadRoute plan c.cover depth (spot_of c t.digits) t.markings
 
--- a title of the class whose route has so many hops, one under each marking
+-- a title of the class whose route has this number of hops, one under each marking
 pub record IsWay (plan : Network) (c : Titles) (hops : ℕ) (t : Trace) : Type 0 where
   pub member : IsMember c t.digits
   pub count : length t.markings ≡ hops
   pub each : length (route plan (spot_of c t.digits) t.markings) ≡ hops
 
--- a title of the class whose first hop is sent on by the target as the other trace's title, and the rest is that one's route
+-- a title of the class which the target sends on as the other trace's title: after the first hop its route is that one's
 pub record GoesBefore (plan : Network) (c : Titles) (place : ℕ) (behind t : Trace) : Type 0 where
   pub member : IsMember c t.digits
   pub more : length t.markings ≡ length behind.markings + 1

@@ -13,7 +13,7 @@ use plan_model::Plan;
 use sccp_base::OutOfMemory;
 use std::alloc::Global;
 
-/// A title of the class whose route has so many hops, where the class has at least that rank.
+/// A title of the class whose route has this number of hops. The class has at least that rank.
 pub(crate) fn descend(
     alloc: Global,
     plan: &Plan,

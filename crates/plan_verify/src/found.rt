@@ -1,3 +1,4 @@
+//! What the search finds of one class.
 use crate::trace::Trace;
 
 /// What the search found of a class.

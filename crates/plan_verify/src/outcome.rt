@@ -1,3 +1,4 @@
+//! What the search finds of all covers.
 use crate::trace::Trace;
 
 /// The cover whose start has the greatest rank, and that rank.

@@ -47,7 +47,7 @@ fn add(marking: &mut Marking, marks: &[Mark]) -> Result<(), OutOfMemory>
     Ok(())
 }
 
-/// So many copies of a marking.
+/// This number of copies of a marking.
 fn copies(alloc: Global, marking: &Marking, count: usize) -> Result<List<Marking>, OutOfMemory>
     ensures { IfOk result (λ copies. copies ≡ replicate count marking.now) }
 {

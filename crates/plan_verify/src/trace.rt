@@ -1,12 +1,13 @@
+//! Titles with the markings of their routes, and how they are carried back.
 ghost use Rattle.std.specs.Prelude.{◌≡◌, ◌<◌, [], ◌∷◌, IfOk, List, length};
 ghost use Rattle.sccp_base.specs.declared.mark.Mark.{Mark};
-ghost use Rattle.plan_classes.specs.Titles.{IsMember, spot_of};
+ghost use Rattle.plan_classes.specs.Titles.{IsMember};
 ghost use Rattle.plan_classes.specs.Classes.{Decided, Reaches, sample_of};
 ghost use Rattle.plan_classes.specs.Leading.{IsInImage, Takes};
 ghost use Rattle.plan_verify.specs.Traces.{GoesBefore};
 
 use plan_classes::{Class, carry_back, opening, sample};
-use plan_model::{Plan, Spot};
+use plan_model::Plan;
 use sccp_base::{Digits, List, Marking, OutOfMemory};
 use std::alloc::Global;
 
@@ -27,7 +28,7 @@ fn one_hop(alloc: Global, digits: Digits, marking: Marking) -> Result<Trace, Out
     Ok(Trace { digits, markings })
 }
 
-/// The least title of a class where nothing is prohibited.
+/// The least title of a class, while nothing is prohibited.
 pub(crate) fn least_title(alloc: Global, class: &Class) -> Result<Trace, OutOfMemory>
     ensures digits { IfOk result (λ t. t.digits ≡ sample_of class.now) }
     ensures member { IfOk result (λ t. IsMember class.now t.digits) }
@@ -76,23 +77,11 @@ pub(crate) fn carry(
     })
 }
 
-/// The markings behind one more.
+/// One marking, then these markings.
 fn in_front(marking: Marking, markings: List<Marking>) -> Result<List<Marking>, OutOfMemory>
     ensures { IfOk result (λ all. all ≡ marking ∷ markings) }
 {
     let mut all = markings.into_vec();
     all.insert(0, marking)?;
     Ok(List::from_vec(all))
-}
-
-/// A title of a class as a spot.
-pub(crate) fn spot_of(class: &Class, digits: &Digits) -> Spot
-    ensures { result ≡ spot_of class.now digits.now }
-{
-    Spot {
-        node: class.node(),
-        selector: class.selector(),
-        ssn: class.ssn(),
-        digits: *digits,
-    }
 }

@@ -1,4 +1,4 @@
-//! The verdict on a plan.
+//! The check of a plan, from the search to the verdict.
 ghost use Rattle.std.specs.Prelude.{◌≡◌, ◌<◌, IfOk, IsSomeAnd, slice_get};
 ghost use Rattle.plan_model.specs.Network.{IsPlan};
 ghost use Rattle.plan_model.specs.Verdicts.{Tight};
@@ -13,7 +13,7 @@ ghost use Rattle.plan_verify.specs.Witnesses.{IsWitness};
 use crate::descending::descend;
 use crate::outcome::{Greatest, Outcome};
 use crate::starts::explore_starts;
-use crate::trace::{Trace, spot_of};
+use crate::trace::Trace;
 use crate::verdict::Verdict;
 use crate::witness::Witness;
 use plan_check::{CheckFault, Longest, Ranks, check};
@@ -22,9 +22,9 @@ use plan_model::Plan;
 use sccp_base::OutOfMemory;
 use std::alloc::Global;
 
-/// The verdict on a plan. `Accepted` where each covered title, whatever the relays on its route have prohibited, is blocked
-/// or has an allowed end within fourteen hops; `Refused` where one has a bad route; `TooWide` where so many titles are to be
-/// told apart that the search gave up, which comes only where the plan reaches at least 262,144 classes of them.
+/// The verdict on a plan. It is `Accepted` if each covered title is blocked or has an allowed end within fourteen hops,
+/// whatever the relays on its route have prohibited. It is `Refused` if some covered title has a bad route. It is `TooWide`
+/// if the search gave up, which happens only if the plan reaches at least 262,144 classes of titles.
 pub fn verify(alloc: Global, plan: Plan) -> Result<Verdict, OutOfMemory>
     ensures same { IfOk result (λ verdict. plan_of verdict ≡ plan) }
     ensures lawful { IfOk result (IsLawful plan) }
@@ -80,7 +80,7 @@ fn refute(alloc: Global, plan: &Plan, number: u16, trace: Trace) -> Result<Witne
     ensures { IfOk result (IsWitness plan.now) }
 {
     let Trace { digits, markings } = trace;
-    let spot = spot_of(&start(plan, number), &digits);
+    let spot = start(plan, number).spot_of(&digits);
     Witness::of_route(alloc, plan, number, &spot, markings)
 }
 
@@ -107,7 +107,7 @@ fn accept(
     }
 }
 
-/// The same with the longest route, which is handed in.
+/// The plan with that bound and the longest route.
 fn accept_with(
     alloc: Global,
     plan: Plan,
@@ -150,7 +150,7 @@ fn longest(
     let class = start(plan, greatest.cover);
     let Trace { digits, markings } = descend(alloc, plan, ranks, &class, greatest.rank)?;
     Ok(Longest {
-        spot: spot_of(&class, &digits),
+        spot: class.spot_of(&digits),
         markings,
     })
 }

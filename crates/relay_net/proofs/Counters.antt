@@ -1,4 +1,4 @@
--- where a message is cut off
+-- when a message is cut off
 use Rattle.std.specs.Prelude.{◌≡◌, ℕ, ◌-◌, ◌<◌, ◌≤◌, ◌==◌, ◌⊎◌, Bool, true, false, not, nat_le, List, [], ◌∷◌, length, Option, Some, None, is_some, option_map, refl, if◌then◌else◌, Result, Ok, Err}
 use Rattle.std.specs.List.{list_any}
 use Rattle.std.proofs.Common.{zero, suc, sym, ◌∙◌, ap, subst, inl, inr, ⊎_elim, arith}
@@ -13,6 +13,7 @@ use Rattle.sccp_message.specs.declared.message.Message.TheVariants.{Xudt, Xudts,
 use Rattle.sccp_message.specs.declared.fault.DecodeFault.{DecodeFault}
 use Rattle.sccp_message.specs.Reading.{reading}
 use Rattle.sccp_message.specs.Written.{message_octets}
+use Rattle.sccp_message.specs.Unitdata.{called_of, hops_of}
 use Rattle.plan_model.specs.declared.spot.Spot.{Spot}
 use Rattle.plan_model.specs.declared.hop.Step.{Step}
 use Rattle.plan_model.specs.declared.hop.Step.TheVariants as steps
@@ -21,7 +22,7 @@ use Rattle.plan_model.specs.Steps.{step}
 use Rattle.plan_model.proofs.Leading.{Facts, step_facts}
 use Rattle.sccp_scrc.specs.declared.arrival.Arrival.{Arrival}
 use Rattle.sccp_scrc.specs.declared.arrival.Arrival.TheVariants as arrivals
-use Rattle.sccp_scrc.specs.Unitdata.{called_of, hops_of, redirected, write_fault, octets_of}
+use Rattle.sccp_scrc.specs.Unitdata.{redirected, write_fault, octets_of}
 use Rattle.sccp_scrc.specs.Rewriting.{one_less, to_relay, rewritten, spot_of}
 use Rattle.sccp_scrc.specs.Returning.{returned}
 use Rattle.sccp_scrc.specs.Arriving.{point_of, subsystems_of, at_subsystem, leaving, after_step, translated, is_last_hop, at_title, by_called, of_message, arrival}
@@ -33,7 +34,7 @@ use Rattle.relay_net.specs.declared.end.End.TheVariants.{Cut}
 use Rattle.relay_net.specs.Journeys.{Trip, held_at, onward, travel, most_arrivals, trip_of, end_of, journey}
 use Rattle.relay_net.specs.Headline.{IsCutOff}
 
--- there is a last arrival, and it isn't relayed
+-- there is a last arrival, and it is not relayed
 abbrev Stops : Option Arrival → Type 0
 Stops None = ⊥
 Stops (Some (arrivals.Relayed pc octets)) = ⊥

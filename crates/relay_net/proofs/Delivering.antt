@@ -1,4 +1,5 @@
--- What the end of a journey leaves to be done can be done: a message for a subsystem of the last node was read, so it is sound.
+-- What the end of a journey leaves to be done can be done. A message for a subsystem of the last node was read, so it is
+-- sound.
 use Rattle.std.specs.Prelude.{◌≡◌, ℕ, zero, suc, ◌<◌, ◌==◌, Bool, true, false, not, List, [], ◌∷◌, length, Option, Some, None, Result, Ok, Err, if◌then◌else◌}
 use Rattle.std.specs.List.{list_any}
 use Rattle.std.specs.Option.{option_map}
@@ -11,6 +12,7 @@ use Rattle.sccp_message.specs.declared.message.Message.{Message}
 use Rattle.sccp_message.specs.declared.fault.DecodeFault.{DecodeFault}
 use Rattle.sccp_message.specs.Reading.{reading}
 use Rattle.sccp_message.specs.Written.{Sound}
+use Rattle.sccp_message.specs.Unitdata.{called_of, hops_of}
 use Rattle.sccp_message.proofs.Laws.{message_takes}
 use Rattle.sccp_message.proofs.Made.{reads_sound}
 use Rattle.sccp_manage.specs.declared.event.Event.TheVariants.{Knock}
@@ -21,7 +23,7 @@ use Rattle.plan_model.specs.Network.{Network, IsPlan, node_of}
 use Rattle.plan_model.specs.Steps.{step}
 use Rattle.sccp_scrc.specs.declared.arrival.Arrival.{Arrival}
 use Rattle.sccp_scrc.specs.declared.arrival.Arrival.TheVariants as arrivals
-use Rattle.sccp_scrc.specs.Unitdata.{called_of, hops_of, octets_of}
+use Rattle.sccp_scrc.specs.Unitdata.{octets_of}
 use Rattle.sccp_scrc.specs.Rewriting.{address_after, one_less, rewritten, spot_of}
 use Rattle.sccp_scrc.specs.Returning.{returned}
 use Rattle.sccp_scrc.specs.Arriving.{point_of, subsystems_of, at_subsystem, leaving, after_step, translated, is_last_hop, at_title, by_called, of_message, arrival}

@@ -10,6 +10,7 @@ use Rattle.sccp_address.proofs.Kept.{AreOctets}
 use Rattle.sccp_message.specs.declared.message.Message.{Message}
 use Rattle.sccp_message.specs.Reading.{reading}
 use Rattle.sccp_message.specs.Written.{message_octets}
+use Rattle.sccp_message.specs.Unitdata.{hops_of}
 use Rattle.plan_model.specs.declared.spot.Spot.{Spot}
 use Rattle.plan_model.specs.declared.hop.Step.{Step}
 use Rattle.plan_model.specs.declared.hop.Step.TheVariants as steps
@@ -22,7 +23,7 @@ use Rattle.plan_model.proofs.Leading.{Facts, step_facts}
 use Rattle.plan_model.proofs.Within.{Within, not_within, within_next, within_end}
 use Rattle.sccp_scrc.specs.declared.arrival.Arrival.{Arrival}
 use Rattle.sccp_scrc.specs.declared.arrival.Arrival.TheVariants as arrivals
-use Rattle.sccp_scrc.specs.Unitdata.{hops_of, redirected, octets_of}
+use Rattle.sccp_scrc.specs.Unitdata.{redirected, octets_of}
 use Rattle.sccp_scrc.specs.Rewriting.{one_less, to_relay, to_place, rewritten}
 use Rattle.sccp_scrc.specs.Returning.{service_for}
 use Rattle.sccp_scrc.specs.Unchanged.{SameData, IsFor}
@@ -45,7 +46,7 @@ Claim plan states allowed first n left =
     (m : Message) (a : Address) (s : Spot) (origin : ℕ) (b : List ℕ) → reading b ≡ Ok m → Carries m a s → Within plan allowed n s → IfSome (hops_of m) (λ h. n < h) → SameData first m →
     Went plan states allowed n first s (travel plan states left s.node origin b)
 
--- the same data behind a change of the called address
+-- the same data after a change of the called address
 redirected_data : (first m : Message) (x : Address) → SameData first m → SameData first (redirected x one_less m)
 redirected_data first m x d = record {
   called = x;

@@ -1,3 +1,4 @@
+-- The lemmas of this crate, one file a subject.
 pub mod Going
 pub mod Counters
 pub mod Turns

@@ -1,16 +1,15 @@
--- a message that is passed from relay to relay, beside its octets
+-- a message that is passed from relay to relay, compared with its octets
 use Rattle.std.specs.Prelude.{◌≡◌, ℕ, ◌-◌, ◌<◌, List, [], ◌∷◌, ◌++◌, Option, Some, None, Result, Ok, Err, IfOk, IfSome, length, refl}
 use Rattle.std.proofs.Common.{zero, suc, sym, ◌∙◌, ap, subst, append_assoc}
 use Rattle.sccp_base.specs.declared.mark.Mark.{Mark}
 use Rattle.sccp_message.specs.declared.message.Message.{Message}
-use Rattle.sccp_message.specs.declared.fault.DecodeFault.{DecodeFault}
 use Rattle.sccp_message.specs.Reading.{reading}
 use Rattle.sccp_message.specs.Written.{message_octets}
+use Rattle.sccp_message.specs.Unitdata.{called_of}
 use Rattle.plan_model.specs.Network.{Network, IsPlan, node_of}
 use Rattle.sccp_scrc.specs.declared.arrival.Arrival.{Arrival}
 use Rattle.sccp_scrc.specs.declared.arrival.Arrival.TheVariants.{Relayed}
 use Rattle.sccp_scrc.specs.declared.arrival.Arrival.TheVariants as arrivals
-use Rattle.sccp_scrc.specs.Unitdata.{called_of}
 use Rattle.sccp_scrc.specs.Arriving.{arrival, by_called, of_message, point_of}
 use Rattle.sccp_scrc.specs.Passing.{sent_on, IsPassed, ReadsAgain}
 use Rattle.sccp_scrc.proofs.Redirected.{reads_again}
@@ -18,7 +17,7 @@ use Rattle.sccp_scrc.proofs.Meaning.{Means, means}
 use Rattle.sccp_scrc.proofs.Onward.{sent_reads}
 use Rattle.relay_net.specs.declared.riding.Rest.{Rest}
 use Rattle.relay_net.specs.Relays.{RelaysWithin}
-use Rattle.relay_net.specs.Journeys.{Trip, trip, after, held_at, onward, travel, most_arrivals, trip_of}
+use Rattle.relay_net.specs.Journeys.{Trip, after, held_at, onward, travel, most_arrivals, trip_of}
 use Rattle.relay_net.specs.Riding.{GoesOn}
 use Rattle.relay_net.proofs.Turns.{relayed_turn}
 
@@ -36,7 +35,7 @@ pub passed_at : {E : Type 0} (r : Result (Option ℕ) E) (plan : Network) (node 
     IfOk r (λ pc. IsPassed (λ origin. by_called plan node held origin m (called_of m)) (sent_on plan node held m) m new pc)
 passed_at r plan node marking held m new e h = subst (λ (x : List Mark). IfOk r (λ pc. IsPassed (λ origin. by_called plan node x origin m (called_of m)) (sent_on plan node x m) m new pc)) e h
 
--- ---- where it goes
+-- ---- the next node
 
 within_means : (plan : Network) (node : ℕ) (marking : List Mark) (b : List ℕ) (x : Arrival) → Means plan node marking b x → RelaysWithin plan x
 within_means plan node marking b (Relayed pc sent) h = h.relay
@@ -86,7 +85,7 @@ longer old pushed new before t rest node a e h = record {
   nodes = ap (λ (x : Trip). old ++ x.path) e ∙ (sym (append_assoc old (node ∷ []) t.path) ∙ (ap (λ (xs : List ℕ). xs ++ t.path) (sym a) ∙ h.nodes));
 }
 
--- where it is passed on
+-- if it is passed on
 pub rides : {E : Type 0} (r : Result Rest E) (plan : Network) (states : List (List Mark)) (left node origin : ℕ) (m new final : Message) (o : Option ℕ) (pc next from : ℕ) (old pushed path : List ℕ) → 0 < left → ReadsAgain m →
     IsPassed (λ origin. by_called plan node (held_at states node) origin m (called_of m)) (sent_on plan node (held_at states node) m) m new o → o ≡ Some pc → next ≡ node_of plan.nodes pc → from ≡ point_of plan node → pushed ≡ old ++ node ∷ [] →
     IfOk r (λ rest. GoesOn pushed (travel plan states (left - 1) next from (message_octets new)) path (travel plan states rest.left rest.node rest.origin (message_octets final))) →
@@ -96,7 +95,7 @@ rides (Ok rest) plan states left node origin m new final o pc next from old push
     let k = subst (IsPassed (λ origin. by_called plan node (held_at states node) origin m (called_of m)) (sent_on plan node (held_at states node) m) m new) is h in
     longer old pushed path _ _ _ node a (on_turn plan states left node origin m new pc next from lt again k n f) goes
 
--- where it stays
+-- if it stays
 pub halts : (plan : Network) (states : List (List Mark)) (left node origin : ℕ) (m new : Message) (o : Option ℕ) (path : List ℕ) →
     IsPassed (λ origin. by_called plan node (held_at states node) origin m (called_of m)) (sent_on plan node (held_at states node) m) m new o → o ≡ None →
     GoesOn path (travel plan states left node origin (message_octets m)) path (travel plan states left node origin (message_octets new))
@@ -116,6 +115,3 @@ pub read_trip : (plan : Network) (states : List (List Mark)) (left entry origin 
 read_trip plan states left entry origin b m again reads count =
     same_trip plan states left entry origin (message_octets m) b (reads_again m again.message again.sound ∙ sym reads)
     ∙ ap (λ n. travel plan states n entry origin b) (count ∙ ap most_arrivals (sym reads))
-
-pub unread_trip : (plan : Network) (states : List (List Mark)) (entry origin : ℕ) (b : List ℕ) (f : DecodeFault) → reading b ≡ Err f → travel plan states 14 entry origin b ≡ trip_of plan states entry origin b
-unread_trip plan states entry origin b f reads = ap (λ n. travel plan states n entry origin b) (ap most_arrivals (sym reads))

@@ -13,7 +13,7 @@ use Rattle.relay_net.specs.declared.happening.Happening.TheVariants as happening
 use Rattle.relay_net.specs.declared.outcome.Outcome.{Outcome}
 use Rattle.relay_net.specs.States.{State, AreInPlace, Applied, after_delivered, applied, applied_at, applied_to, first_state, first_states_from, happened}
 
--- ---- at the beginning
+-- ---- at the start
 
 first_in_place : (from : ℕ) (nodes : List Node) (place : ℕ) (s : State) → slice_get (first_states_from from nodes) place ≡ Some s → s.node ≡ from + place
 first_in_place from [] place s e = absurd cc

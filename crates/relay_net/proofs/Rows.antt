@@ -20,7 +20,7 @@ at_the_second plan a b c what = refl
 at_none : (plan : Network) (a b : State) (what : Happening) → (applied plan (a ∷ b ∷ []) 2 what).states ≡ a ∷ b ∷ []
 at_none plan a b what = refl
 
--- a message is delivered at its last node, or where it came to if it came no further
+-- a message is delivered at its last node, which is the entry node if it went no further
 delivered_last : (b : List ℕ) (m : Message) → due_after (incoming 2 77 b) (2 ∷ 5 ∷ []) (Local 8 m) ≡ Some (due 5 (Delivered m))
 delivered_last b m = refl
 
@@ -28,7 +28,7 @@ delivered_last b m = refl
 abbrev udt : List ℕ
 udt = 0x09 ∷ 0x00 ∷ 0x03 ∷ 0x05 ∷ 0x07 ∷ 0x02 ∷ 0x42 ∷ 0x08 ∷ 0x02 ∷ 0x42 ∷ 0x06 ∷ 0x01 ∷ 0xAA ∷ []
 
--- The origin is told by the node that the message came to; of another cause it isn't told.
+-- The node at which the message arrived informs the origin; for another cause it does not.
 told_by_the_entry : (marks : List Mark) → due_after (incoming 2 77 udt) (2 ∷ []) (Returned 3 marks) ≡ Some (due 2 (Managed (Knock 77 8)))
 unfolding message_in parts_by address_of
 told_by_the_entry marks = refl

@@ -1,4 +1,4 @@
--- Where a relayed message goes: to a node of the plan.
+-- A relayed message goes to a node of the plan.
 use Rattle.std.specs.Prelude.{◌<◌, length}
 use Rattle.plan_model.specs.Network.{Network, node_of}
 use Rattle.sccp_scrc.specs.declared.arrival.Arrival.{Arrival}

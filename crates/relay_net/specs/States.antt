@@ -23,14 +23,15 @@ use Rattle.relay_net.specs.declared.happening.Happening.TheVariants as happening
 use Rattle.relay_net.specs.declared.outcome.Outcome.{Outcome}
 use Rattle.relay_net.specs.declared.outcome.Outcome.TheVariants as outcomes
 
--- what a node keeps: its place in the plan, its management, its connection sections, and the messages of which segments have come
+-- What a node keeps: its place in the plan, its management, its connection sections, and the messages of which segments have
+-- arrived.
 pub record State : Type 0 where
   pub node : ℕ
   pub manager : Management
   pub sections : List Section
   pub runs : List Run
 
--- at the beginning nothing is prohibited, connected or under way
+-- at the start nothing is prohibited, connected or under way
 abbrev pub first_state : ℕ → Node → State
 first_state place node =
     record { node = place; manager = record { own = node.pc; subsystems = node.subsystems; concerned = node.concerned; marking = [] }; sections = []; runs = [] }
@@ -55,26 +56,26 @@ AreInPlace states = (place : ℕ) (s : State) → slice_get states place ≡ Som
 
 -- ---- what happens at one node
 
--- a message that comes to the coupling has short parts, and one that is delivered is sound; a message that was read is both
+-- A message for the coupling has short parts, and one that is delivered is sound. A message that was read is both.
 abbrev pub CanHappen : Happening → Type 0
 CanHappen (happenings.Managed event) = Unit {0}
 CanHappen (happenings.Connected origin message) = HasShortParts message
 CanHappen (happenings.Delivered message) = Sound message
 
--- a node afterwards, and what comes of it, in order
+-- a node afterwards, and the outcomes of what happened, in order
 pub record Happened : Type 0 where
   pub state : State
   pub outcomes : List Outcome
 
--- management alone changes, by the row of the event
+-- only management changes, by the row of the event
 abbrev pub after_managed : State → Event → Happened
 after_managed s event = record { state = record s { manager = managed s.manager event }; outcomes = map outcomes.Sent (row s.manager event).sends }
 
--- the sections alone change
+-- only the sections change
 abbrev pub after_coupled : State → coupling.Outcome → Happened
 after_coupled s o = record { state = record s { sections = o.sections }; outcomes = map outcomes.Sent (map written_sent o.sent) }
 
--- the messages that are put together alone change
+-- only the messages that are put together from segments change
 abbrev pub pool_outcome : Result Taken PoolFault → Outcome
 pool_outcome (Ok taken) = outcomes.Segment taken
 pool_outcome (Err fault) = outcomes.PoolFull
@@ -82,11 +83,12 @@ pool_outcome (Err fault) = outcomes.PoolFull
 abbrev pub after_pooled : State → pooling.Outcome → Happened
 after_pooled s o = record { state = record s { runs = o.runs }; outcomes = pool_outcome o.answer ∷ [] }
 
--- a message that is no segment leaves all as it is
+-- a message that is not a segment leaves all as it is
 abbrev pub after_delivered : State → Option Arrival → Happened
 after_delivered s None = record { state = s; outcomes = [] }
 after_delivered s (Some a) = after_pooled s (pooling.took s.runs a.key a.segment)
 
+-- what happens at a node at a place of the plan
 abbrev pub happened : Network → ℕ → State → Happening → Happened
 happened plan node s (happenings.Managed event) = after_managed s event
 happened plan node s (happenings.Connected origin message) = after_coupled s (coupled s.sections (event_of plan node (marking_of s) origin message))
@@ -108,6 +110,6 @@ abbrev pub applied_at : Network → List State → ℕ → Happening → Option 
 applied_at plan states node what None = nothing_at states
 applied_at plan states node what (Some s) = applied_to states node (happened plan node s what)
 
--- the named node's state alone changes
+-- only the named node's state changes
 abbrev pub applied : Network → List State → ℕ → Happening → Applied
 applied plan states node what = applied_at plan states node what (slice_get states node)

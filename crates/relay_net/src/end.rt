@@ -1,3 +1,4 @@
+//! The ends of a journey.
 use sccp_base::{Boxed, List, Mark, Octets, PointCode};
 use sccp_message::{DecodeFault, Message};
 
@@ -15,7 +16,7 @@ pub enum End {
         ssn: u8,
         message: Boxed<Message>,
     },
-    /// It can't be delivered, for this return cause, with one mark for each closed target.
+    /// It cannot be delivered, for this return cause, with one mark for each closed target.
     Returned {
         cause: u8,
         marks: List<Mark>,
@@ -24,7 +25,7 @@ pub enum End {
     Connection(Boxed<Message>),
     /// It is for SCCP management.
     Management(Boxed<Message>),
-    /// The octets are no message.
+    /// The octets are not a message.
     Undecodable(DecodeFault),
     /// Without a hop counter it would need a fifteenth translation.
     Cut,

@@ -2,7 +2,7 @@
 ghost use Rattle.std.specs.Prelude.{◌≡◌, IfOk};
 ghost use Rattle.std.specs.Option.{option_and_then};
 ghost use Rattle.sccp_message.specs.Reading.{reading};
-ghost use Rattle.sccp_scrc.specs.Unitdata.{called_of};
+ghost use Rattle.sccp_message.specs.Unitdata.{called_of};
 ghost use Rattle.relay_net.specs.Batches.{ssn_if_routed, ssn_in};
 ghost use Rattle.relay_net.specs.Journeys.{last_node};
 
@@ -11,7 +11,7 @@ use sccp_base::OutOfMemory;
 use sccp_message::{DecodeFault, Message, decode};
 use std::alloc::Global;
 
-/// The last of some nodes, or the first one where there is none.
+/// The last of some nodes, or the first node given if there are none.
 pub(crate) fn last_node(first: u8, path: &[u8]) -> u8
     ensures { result ≡ last_node first path.now }
 {
@@ -33,18 +33,13 @@ fn ssn_if_routed(address: &Address) -> Option<u8>
 fn ssn_of(message: &Message) -> Option<u8>
     ensures { result ≡ option_and_then ssn_if_routed (called_of message.now) }
 {
-    match message {
-        Message::Udt { called, .. }
-        | Message::Udts { called, .. }
-        | Message::Xudt { called, .. }
-        | Message::Xudts { called, .. }
-        | Message::Ludt { called, .. }
-        | Message::Ludts { called, .. } => ssn_if_routed(called),
-        _ => None,
+    match message.called() {
+        Some(address) => ssn_if_routed(address),
+        None => None,
     }
 }
 
-/// The subsystem number by which octets are routed, where they are such a message.
+/// The subsystem number on which octets are routed, if they are a connectionless message that routes on it.
 pub(crate) fn ssn_in(alloc: Global, octets: &[u8]) -> Result<Option<u8>, OutOfMemory>
     ensures { IfOk result (λ ssn. ssn ≡ ssn_in (reading octets.now)) }
 {

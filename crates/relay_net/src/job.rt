@@ -1,7 +1,8 @@
+//! A message of a batch that is to be routed.
 use sccp_base::{Octets, PointCode};
 
-/// A message that is to be routed, with its place among those of its batch: the node that it comes to, the point that it
-/// comes from, and its octets.
+/// A message that is to be routed, with its place among those of its batch. It has the node at which it arrives, the point
+/// from which it arrives, and its octets.
 #[derive(Drop)]
 pub struct Job {
     pub index: u32,

@@ -1,3 +1,4 @@
+//! The law of covered messages, over every plan and message.
 ghost use Rattle.std.specs.Prelude.{ℕ, ◌≤◌, List};
 ghost use Rattle.sccp_base.specs.declared.mark.Mark.{Mark};
 ghost use Rattle.sccp_message.specs.declared.message.Message.{Message};

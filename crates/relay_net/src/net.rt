@@ -1,3 +1,4 @@
+//! The states of all nodes of a plan, and what happens at one of them.
 ghost use Rattle.std.specs.Prelude.{◌≡◌, ◌<◌, length, IfOk, OnOk, OnErr};
 ghost use Rattle.std.specs.Prelude.{◌==◌, if◌then◌else◌, None, Some};
 ghost use Rattle.std.specs.Option.{option_map};
@@ -60,8 +61,9 @@ impl Net {
         self.states.as_slice()
     }
 
-    /// What happens at the node at a place of the plan: its state afterwards, and what comes of it, in order. All other nodes,
-    /// and the other parts of this one's state, stay as they are. Where memory is wanting all stays, and nothing came of it.
+    /// Carries out what happens at the node at a place of the plan, and answers its outcomes, in order. All other nodes, and
+    /// the other parts of this one's state, stay as they are. If memory runs out, nothing changes, and there are no
+    /// outcomes.
     pub fn apply(
         &mut self,
         plan: &Plan,
@@ -79,12 +81,12 @@ impl Net {
         self.states[usize::from(node)].happen(alloc, plan, what)
     }
 
-    /// What the end of a journey leaves to be done is done, for a message that came from the point `origin` to the node at
-    /// the place `entry`.
+    /// Does what the end of a journey leaves to be done. The message arrived from the point `origin` at the node at the
+    /// place `entry`.
     ///
     /// A message for a subsystem of the last node is delivered there. One that routes on SSN and was returned with cause 3,
-    /// subsystem failure, was for a prohibited subsystem of the entry node, whose management tells the origin so. Nothing
-    /// else is done, and nothing for the end of a service message. Where memory is wanting all stays.
+    /// subsystem failure, was for a prohibited subsystem of the entry node. That node's management informs the origin.
+    /// Nothing else is done, and nothing for the end of a service message. If memory runs out, nothing changes.
     pub fn apply_after(
         &mut self,
         plan: &Plan,
@@ -109,7 +111,7 @@ impl Net {
         }
     }
 
-    // A message that stays with its owner is delivered at a node.
+    // Delivers a message that stays with its owner at a node.
     fn deliver(&mut self, node: u8, message: &Message) -> Result<List<Outcome>, OutOfMemory>
         requires node { node < length self.old }
         requires message { Sound message.now }
@@ -121,7 +123,7 @@ impl Net {
         self.states[usize::from(node)].receive(alloc, message)
     }
 
-    // The origin of a message that routes on SSN is told that its subsystem is prohibited.
+    // Informs the origin of a message that routes on SSN that its subsystem is prohibited.
     fn knock(
         &mut self,
         plan: &Plan,

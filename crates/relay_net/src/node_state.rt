@@ -1,3 +1,4 @@
+//! The state of one node, and what happens at it.
 ghost use Rattle.std.specs.Prelude.{◌≡◌, ◌<◌, ◌≤◌, length, IfOk, OnOk, OnErr};
 ghost use Rattle.sccp_message.specs.Written.{Sound};
 ghost use Rattle.sccp_manage.specs.Managing.{row};
@@ -28,7 +29,7 @@ pub struct NodeState {
     manager: Manager,
     exchange: Exchange,
     pool: Pool,
-    // How many concerned points there are, which are told of each change of a subsystem.
+    // The number of concerned points, which are informed of each change of a subsystem.
     concerned: usize,
 }
 
@@ -69,7 +70,8 @@ impl NodeState {
         self.manager.marking()
     }
 
-    /// What happens at the node, by its part that is concerned. Where memory is wanting nothing changes.
+    /// Carries out what happens at the node, by the part of its state that is concerned. If memory runs out, nothing
+    /// changes.
     pub(crate) fn happen(
         &mut self,
         alloc: Global,
@@ -93,7 +95,7 @@ impl NodeState {
         }
     }
 
-    // All memory is there before the state changes.
+    // Carries out an event at management. All memory is there before the state changes.
     fn manage(&mut self, alloc: Global, event: Event) -> Result<List<Outcome>, OutOfMemory>
         ensures state { OnOk result (self.new ≡ (after_managed self.old event).state) }
         ensures outcomes { IfOk result (λ outcomes. outcomes ≡ (after_managed self.old event).outcomes) }
@@ -104,7 +106,7 @@ impl NodeState {
         Ok(as_outcomes(room, sent))
     }
 
-    // So many messages at most are sent at an event: to each concerned point, about each mark, or one.
+    // The most messages that are sent at an event: one to each concerned point, one about each mark, or one.
     fn most_sent(&self, event: &Event) -> usize
         ensures { length (row self.now.manager event.now).sends ≤ result }
     {
@@ -116,7 +118,7 @@ impl NodeState {
         }
     }
 
-    // A connection message that is delivered here goes to the exchange of coupled connections, which may answer it.
+    // A connection-oriented message that is delivered here goes to the exchange of coupled connections, which may answer it.
     fn couple(
         &mut self,
         alloc: Global,
@@ -130,7 +132,7 @@ impl NodeState {
         ensures outcomes { IfOk result (λ outcomes. outcomes ≡ (after_coupled self.old (coupled self.old.sections (event_of plan.now self.old.node (marking_of self.old) origin message.now))).outcomes) }
         ensures err { OnErr result (self.new ≡ self.old) }
     {
-        // A message is answered by two at most.
+        // At most two messages answer a message.
         let room = Vec::with_capacity(alloc, 2)?;
         let sent = self
             .exchange
@@ -138,7 +140,8 @@ impl NodeState {
         Ok(as_outcomes(room, sent))
     }
 
-    // A connectionless message that is delivered here: a segment is put with those of its message, anything else is left to its user.
+    // A connectionless message that is delivered here. A segment is put with those of its message; anything else is left to
+    // its user.
     fn deliver(&mut self, alloc: Global, message: Message) -> Result<List<Outcome>, OutOfMemory>
         requires { Sound message }
         ensures state { OnOk result (self.new ≡ (after_delivered self.old (arrival_of message)).state) }
@@ -168,7 +171,7 @@ impl NodeState {
         }
     }
 
-    // A segment is put into the pool.
+    // Puts a segment into the pool.
     fn put(
         &mut self,
         alloc: Global,

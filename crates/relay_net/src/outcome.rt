@@ -1,7 +1,8 @@
+//! The outcomes of what happens at a node.
 use sccp_manage::Sent;
 use sccp_segment::Taken;
 
-/// What comes of what happens at a node.
+/// An outcome of what happens at a node.
 #[derive(Drop)]
 pub enum Outcome {
     /// A message is to be sent.

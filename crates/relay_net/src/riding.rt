@@ -1,8 +1,8 @@
-//! The way of a message from relay to relay, which is changed in place and written only where it leaves them.
+//! The way of a message from relay to relay. It is changed in place and written only when it leaves them.
 ghost use Rattle.std.specs.Prelude.{◌≡◌, ◌<◌, ◌++◌, length, map, IfOk, IfSome};
 ghost use Rattle.sccp_message.specs.Written.{message_octets};
+ghost use Rattle.sccp_message.specs.Unitdata.{called_of};
 ghost use Rattle.plan_model.specs.Network.{node_of};
-ghost use Rattle.sccp_scrc.specs.Unitdata.{called_of};
 ghost use Rattle.sccp_scrc.specs.Arriving.{by_called, arrival};
 ghost use Rattle.sccp_scrc.specs.Passing.{sent_on, IsPassed, ReadsAgain};
 ghost use Rattle.relay_net.specs.Journeys.{held_at, travel};
@@ -10,14 +10,15 @@ ghost use Rattle.relay_net.specs.Relays.{RelaysWithin};
 ghost use Rattle.relay_net.specs.Riding.{GoesOn};
 
 use crate::holds_marking::HoldsMarking;
-use crate::travelling::{point_of, travel};
+use crate::travelling::travel;
 use plan_model::Plan;
 use sccp_base::{List, Marking, OutOfMemory, PointCode};
 use sccp_message::Message;
 use sccp_scrc::{Arrival, arrive_message, pass_on};
 use std::alloc::Global;
 
-/// Where a message stands on its way: so many arrivals at most, the first at this node, from this origin.
+/// The state of a message on its way: the number of arrivals that are left, the first of them at this node, from this
+/// origin.
 #[derive(Drop)]
 pub(crate) struct Rest {
     pub(crate) left: u8,
@@ -33,8 +34,8 @@ fn marking_at<S: HoldsMarking>(states: &[S], node: u8) -> &Marking
     states[usize::from(node)].marking()
 }
 
-/// The next point of a message that reads again where it is written, under the marking that the node holds: a node's. The
-/// message stays one that reads again.
+/// The next point of a message that reads again once it is written, under the marking that the node holds. It is that of a
+/// node. The message stays one that reads again.
 fn pass<S: HoldsMarking>(
     alloc: Global,
     plan: &Plan,
@@ -55,7 +56,7 @@ fn pass<S: HoldsMarking>(
     pass_on(alloc, plan, node, marking, message)
 }
 
-/// As far as the message is passed on, its nodes behind the path.
+/// Passes the message on as far as it goes in place, and appends its nodes to the path.
 fn ride<S: HoldsMarking>(
     alloc: Global,
     plan: &Plan,
@@ -81,14 +82,14 @@ fn ride<S: HoldsMarking>(
         Some(pc) => {
             path.push(node)?;
             let next = plan.relay_at(pc);
-            let from = point_of(plan, node);
+            let from = plan.point_of(node);
             ride(alloc, plan, states, left - 1, next, from, message, path)
         }
         None => Ok(Rest { left, node, origin }),
     }
 }
 
-/// What becomes of the message at a node, under the marking that it holds: what becomes of its octets.
+/// What becomes of the message at a node, under the marking that the node holds: the same as of its octets.
 fn stop_message<S: HoldsMarking>(
     alloc: Global,
     plan: &Plan,
@@ -108,7 +109,7 @@ fn stop_message<S: HoldsMarking>(
     arrive_message(alloc, plan, node, marking, origin, message)
 }
 
-/// From here on what is relayed goes on by its octets.
+/// The rest of a trip. From here on what is relayed goes on by its octets.
 fn end_ride<S: HoldsMarking>(
     alloc: Global,
     plan: &Plan,
@@ -133,7 +134,7 @@ fn end_ride<S: HoldsMarking>(
         Ok(()) => match stop_message(alloc, plan, states, node, origin, message)? {
             Arrival::Relayed { pc, octets } => {
                 let next = plan.relay_at(pc);
-                let from = point_of(plan, node);
+                let from = plan.point_of(node);
                 travel(
                     alloc,
                     plan,
@@ -154,7 +155,7 @@ fn end_ride<S: HoldsMarking>(
     }
 }
 
-/// So many arrivals of the message at most, after the nodes of the path; the last arrival, or none where it is cut off.
+/// The last arrival of the message, none if it is cut off; `left` arrivals at most. Its nodes are appended to the path.
 pub(crate) fn travel_unwritten<S: HoldsMarking>(
     alloc: Global,
     plan: &Plan,

@@ -1,3 +1,4 @@
+//! Messages to be sent, as outcomes.
 ghost use Rattle.std.specs.Prelude.{◌≡◌, ◌≤◌, [], map, length};
 ghost use Rattle.std.specs.Vec.{vec_len, vec_capacity};
 

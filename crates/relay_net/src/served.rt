@@ -1,6 +1,7 @@
+//! The answer for one message of a batch.
 use crate::travelled::Journey;
 
-/// A message that was routed, with the number of the plan under which it was.
+/// A message that was routed, with the number of the plan under which it was routed.
 #[derive(Drop)]
 pub struct Served {
     pub number: u32,

@@ -1,8 +1,9 @@
+//! The journey of a message.
 use crate::back::Back;
 use crate::end::End;
 use sccp_base::{Boxed, List};
 
-/// The nodes that a message comes to, in order, with its end at the last of them and, where it is returned, the service
+/// The nodes at which a message arrives, in order, with its end at the last of them and, if it is returned, the service
 /// message.
 #[derive(Drop)]
 pub struct Journey {

@@ -1,14 +1,16 @@
+//! The journey of a message, by its octets.
 ghost use Rattle.std.specs.Prelude.{◌≡◌, ◌<◌, ◌++◌, length, map, Some, Ok, IfOk};
 ghost use Rattle.plan_model.specs.declared.spot.Spot.{Spot};
 ghost use Rattle.plan_model.specs.Network.{node_of};
 ghost use Rattle.sccp_message.specs.declared.message.Message.{Message};
-ghost use Rattle.sccp_scrc.specs.Arriving.{arrival, point_of};
+ghost use Rattle.sccp_scrc.specs.Arriving.{arrival};
 ghost use Rattle.relay_net.specs.Journeys.{held_at, travel, most_arrivals, trip_of, end_at, end_of, service_in, last_node, back_by, back_of, journey};
 ghost use Rattle.relay_net.specs.Headline.{IsCoveredMessage, GoesWell, IsCutOff};
 ghost use Rattle.relay_net.specs.Relays.{RelaysWithin};
 
 use crate::back::Back;
 use crate::end::End;
+use crate::ends::last_node;
 use crate::holds_marking::HoldsMarking;
 use crate::riding::travel_unwritten;
 use crate::travelled::Journey;
@@ -19,7 +21,7 @@ use sccp_message::{DecodeFault, Message, decode};
 use sccp_scrc::{Arrival, Service, Way, arrive};
 use std::alloc::Global;
 
-/// What becomes of the octets at a node, under the marking that it holds.
+/// What becomes of the octets at a node, under the marking that the node holds.
 fn stop<S: HoldsMarking>(
     alloc: Global,
     plan: &Plan,
@@ -43,14 +45,7 @@ fn stop<S: HoldsMarking>(
     )
 }
 
-pub(crate) fn point_of(plan: &Plan, node: u8) -> PointCode
-    requires { node < length plan.now.nodes }
-    ensures { result ≡ point_of plan.now node }
-{
-    plan.nodes().as_slice()[usize::from(node)].pc
-}
-
-/// So many arrivals at most, after the nodes of the path; the last arrival, or none where the message is cut off.
+/// The last arrival of octets, none if they are cut off; `left` arrivals at most. Their nodes are appended to the path.
 pub(crate) fn travel<S: HoldsMarking>(
     alloc: Global,
     plan: &Plan,
@@ -73,7 +68,7 @@ pub(crate) fn travel<S: HoldsMarking>(
     match stop(alloc, plan, states, node, origin, octets)? {
         Arrival::Relayed { pc, octets } => {
             let next = plan.relay_at(pc);
-            let from = point_of(plan, node);
+            let from = plan.point_of(node);
             travel(
                 alloc,
                 plan,
@@ -89,21 +84,15 @@ pub(crate) fn travel<S: HoldsMarking>(
     }
 }
 
-/// How many arrivals the message has at most: one with a hop counter isn't relayed at its fifteenth (Q.713 section 3.18).
+/// The most arrivals of a message. One with a hop counter is not relayed at its fifteenth (Q.713 section 3.18).
 fn most_arrivals_of(message: &Message) -> u8
     ensures { result ≡ most_arrivals (Ok message.now) }
 {
-    match message {
-        Message::Xudt { .. }
-        | Message::Xudts { .. }
-        | Message::Ludt { .. }
-        | Message::Ludts { .. } => 15,
-        _ => 14,
-    }
+    if message.hops().is_some() { 15 } else { 14 }
 }
 
-/// The nodes that octets come to, behind the path, and the last arrival, or none where the message is cut off. The message is
-/// read here alone.
+/// The last arrival of octets, none if the message is cut off. Its nodes are appended to the path. Only here is the message
+/// read.
 fn follow<S: HoldsMarking>(
     alloc: Global,
     plan: &Plan,
@@ -128,7 +117,7 @@ fn follow<S: HoldsMarking>(
     }
 }
 
-/// The nodes that octets come to, in order, and the last arrival, or none where the message is cut off.
+/// The nodes at which octets arrive, in order, and the last arrival, none if the message is cut off.
 fn trip<S: HoldsMarking>(
     alloc: Global,
     plan: &Plan,
@@ -229,7 +218,7 @@ fn back_by<S: HoldsMarking>(
             plan,
             states,
             node,
-            point_of(plan, node),
+            plan.point_of(node),
             octets.as_slice(),
         )?;
         let (end, _) = ended(alloc, last)?;
@@ -248,6 +237,7 @@ fn back_by<S: HoldsMarking>(
     })
 }
 
+/// The way back of the service message, if there is one.
 fn back<S: HoldsMarking>(
     alloc: Global,
     plan: &Plan,
@@ -268,17 +258,6 @@ fn back<S: HoldsMarking>(
     }
 }
 
-/// The last of some nodes.
-fn last_node(path: &[u8]) -> u8
-    ensures { result ≡ last_node 0 path.now }
-{
-    let mut last = 0;
-    for node in path {
-        last = *node;
-    }
-    last
-}
-
 /// The whole journey.
 fn whole<S: HoldsMarking>(
     alloc: Global,
@@ -293,17 +272,17 @@ fn whole<S: HoldsMarking>(
     ensures { IfOk result (λ j. j ≡ journey plan.now (map S.held states.now) entry origin octets.now) }
 {
     let (path, last) = trip(alloc, plan, states, entry, origin, octets)?;
-    let node = last_node(path.as_slice());
+    let node = last_node(0, path.as_slice());
     let (end, service) = ended(alloc, last)?;
     let back = back(alloc, plan, states, node, service)?;
     Ok(Journey { path, end, back })
 }
 
-/// The journey of octets that come from the point `origin` to the node at the place `entry` of an accepted plan, where each
-/// node holds the marking of its state (Q.714 section 2).
+/// The journey of octets that arrive from the point `origin` at the node at the place `entry` of an accepted plan. Each node
+/// holds the marking of its state (Q.714 section 2).
 ///
 /// What is relayed arrives at the relay with its point code; any other arrival is the end. A message without a hop counter
-/// is cut off where its fourteenth arrival is relayed.
+/// is cut off if its fourteenth arrival is relayed.
 pub fn journey<S: HoldsMarking>(
     alloc: Global,
     accepted: &Accepted,

@@ -1,7 +1,7 @@
-//! Texts of plans that the tests of several crates read.
+//! Texts of plans that the tests of several crates read. Each is a whole plan file.
 #![tactic(auto)]
 
-/// A relay that sends titles of 49 to 2-0-1, and to 2-0-2 where that is closed.
+/// A relay that sends titles of 49 to 2-0-1, and to 2-0-2 if 2-0-1 is closed.
 pub const BACKED: &str = r#"version = 1
 [[node]]
 name = "a"
@@ -22,7 +22,7 @@ most = 12
 allowed = ["2-0-1/6", "2-0-2/6"]
 "#;
 
-/// The same, where 2-0-2 isn't allowed.
+/// A relay with the same two targets, of which the cover does not allow 2-0-2.
 pub const BACKUP_FORBIDDEN: &str = r#"version = 1
 [[node]]
 name = "a"
@@ -42,7 +42,7 @@ most = 12
 allowed = ["2-0-1/6"]
 "#;
 
-/// A relay that sends titles of 49 to 2-0-1 alone.
+/// A relay that sends titles of 49 to 2-0-1, which is the only target.
 pub const ONE_TARGET: &str = r#"version = 1
 [[node]]
 name = "a"
@@ -63,7 +63,7 @@ most = 12
 allowed = ["2-0-1/6", "2-0-2/6"]
 "#;
 
-/// A relay that has a row for some of the covered titles alone.
+/// A relay that has a row for only some of the covered titles.
 pub const ROW_OF_SOME: &str = r#"version = 1
 [[node]]
 name = "a"
@@ -82,7 +82,7 @@ most = 12
 allowed = ["2-0-1/6"]
 "#;
 
-/// Two relays, of which the first puts a 0 in place of 49 and changes the nature of address to 3.
+/// Two relays, of which the first replaces 49 by 0 and changes the nature of address to 3.
 pub const ROAMING: &str = r#"version = 1
 [[node]]
 name = "a"
@@ -126,7 +126,7 @@ most = 4
 allowed = []
 "#;
 
-/// A relay with rows of which each prefix but the last begins another, written in no order.
+/// A relay with nested prefixes, in no order: most of them begin another one.
 pub const NESTED_PREFIXES: &str = r#"version = 2
 [[node]]
 name = "a"

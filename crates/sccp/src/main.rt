@@ -1,5 +1,5 @@
 //! The program: it passes its words to `run`, over the real files and the standard output, and ends with the number of the
-//! status that comes back.
+//! status that `run` answers.
 //!
 //! What it writes and how it ends is the contract of `run`.
 #![tactic(auto)]

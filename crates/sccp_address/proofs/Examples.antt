@@ -10,7 +10,7 @@ use Rattle.sccp_address.specs.Written.{written}
 abbrev of_three : Address
 of_three = record { national = false; by_ssn = false; pc = None; ssn = Some 6; title = Global (numbers 4 0 1 4) (4 ∷ 9 ∷ 1 ∷ []) }
 
--- an odd number of digits, behind which the filler is F
+-- an odd number of digits, and then the filler F
 pub odd_digits : address_of (0x12 ∷ 0x06 ∷ 0x00 ∷ 0x11 ∷ 0x04 ∷ 0x94 ∷ 0xF1 ∷ []) ≡ Ok of_three
 unfolding address_of
 odd_digits = refl

@@ -1,3 +1,4 @@
+-- Facts about addresses, for the proofs of this crate and of others.
 pub mod Steps
 pub mod Titles
 pub mod Laws

@@ -1,4 +1,4 @@
--- A step that fails, and one that gives a value, before what follows it.
+-- A step that fails, or that gives a value, and then what follows it.
 use Rattle.std.proofs.Common.{◌≡◌, Bool, true, false, Result, Ok, Err, ap, ◌∙◌}
 use Rattle.std.specs.Prelude.{⊤}
 use Rattle.std.specs.Bool.{MatchBool}

@@ -1,4 +1,4 @@
--- A title that is read is one, and one that is one is read.
+-- What is read as a title is one, and octets that are a title are read as it.
 use Rattle.std.proofs.Common.{◌≡◌, ◌≢◌, ℕ, zero, suc, ◌<◌, ◌≤◌, Bool, true, false, cond, leb, eqb, ◌&&◌, List, [], ◌∷◌, ◌++◌, length, Result, Ok, refl, sym, ap, subst, ◌∙◌, arith, inl, inr}
 use Rattle.std.specs.Prelude.{IsTrue}
 use Rattle.std.proofs.lemmas.Bool.{leb-true, leb-false, le-leb, lt-leb, eqb-true, eqb-false, ne_eqb}
@@ -24,7 +24,7 @@ some_of : (odd : Bool) (n : ℕ) → (odd && eqb n 0) ≡ false → IsTrue odd �
 some_of true n e h = let ne = eqb-false n 0 e in omega arith
 some_of false n e h = absurd cc
 
--- ---- what is read is a title
+-- What is read is a title.
 
 global_takes : (s : Numbers) (odd : Bool) (packed heading octets : List ℕ) (t : Title) → octets ≡ heading ++ packed → IsHeading heading s odd → global_or_raw s odd packed octets ≡ Ok t → TitleIs s.kind octets t
 global_takes s odd packed heading octets t parts says e =
@@ -84,7 +84,7 @@ title_takes (suc (suc (suc (suc (suc k))))) octets t e =
     let le : 5 ≤ kind = omega arith in
     subst (TitleIs kind octets) (done_is (Raw kind octets) t (sym (kind_again kind octets le) ∙ e)) (refl, refl, inl le)
 
--- ---- what is a title is read
+-- What is a title is read.
 
 heading_again : (heading packed : List ℕ) (s : Numbers) (odd : Bool) → IsHeading heading s odd → title_at s.kind (heading ++ packed) ≡ global_or_raw s odd packed (heading ++ packed)
 heading_again [] packed s odd says = absurd says

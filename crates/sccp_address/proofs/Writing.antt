@@ -1,4 +1,4 @@
--- What is written of an address is that address.
+-- What is written for an address is read as that address.
 use Rattle.std.proofs.Common.{◌≡◌, ℕ, ◌+◌, ◌-◌, ◌*◌, ◌/◌, ◌%◌, ◌^◌, ◌<◌, ◌≤◌, Bool, true, false, cond, eqb, List, [], ◌∷◌, ◌++◌, length, Option, Some, None, Ok, refl, sym, ap, subst, arith, inl, inr}
 use Rattle.std.specs.Prelude.{is_some, IfSome}
 use Rattle.std.specs.List.{AllByRecursion}
@@ -16,7 +16,7 @@ use Rattle.sccp_address.specs.Addresses.{IsHeading, TitleIs, AddressIs}
 use Rattle.sccp_address.proofs.Laws.{address_again}
 use Rattle.sccp_address.specs.Written.{flag, point_code_octets, heading, title_octets, title_kind, indicator_of, written, IsTitle, IsAddress}
 
--- ---- the indicator
+-- The indicator.
 
 flag_small : (b : Bool) → flag b ≤ 1
 flag_small true = omega arith
@@ -36,12 +36,12 @@ record Parts (i p s k r n : ℕ) : Type 0 where
 indicator_parts : (p s k r n : ℕ) → p ≤ 1 → s ≤ 1 → k < 16 → r ≤ 1 → n ≤ 1 → Parts (p + 2 * s + 4 * (k % 16) + 64 * r + 128 * n) p s k r n
 indicator_parts p s k r n hp hs hk hr hn = record { pc = omega arith; ssn = omega arith; kind = omega arith; route = omega arith; national = omega arith }
 
--- ---- digits
+-- Digits.
 
 unpacked_pair : (d e : ℕ) → d < 16 → ((d + 16 * e) % 16 ≡ d) × ((d + 16 * e) / 16 ≡ e)
 unpacked_pair d e lt = (omega arith, omega arith)
 
--- two at a time, the digits and what is behind them
+-- two at a time, the digits and what follows them
 pub front_of : (ds : List ℕ) → AllByRecursion (λ d. d < 16) ds → (rest : List ℕ) × (halves (packed ds) ≡ ds ++ rest) × (2 * length (packed ds) ≡ length ds + cond (eqb (length ds % 2) 1) 1 0)
 front_of [] h = ([], refl, refl)
 front_of (d ∷ []) h = (d / 16 ∷ [], ap (λ (x : ℕ). x ∷ (d / 16 ∷ [])) (omega (arith, h.0)), refl)
@@ -63,7 +63,7 @@ some_octet [] h = absurd cc
 some_octet (d ∷ []) h = omega arith
 some_octet (d ∷ e ∷ ds) h = omega arith
 
--- ---- headings
+-- Headings.
 
 selector_is : (s : Numbers) (k t p n : ℕ) → s.kind ≡ k → s.translation ≡ t → s.plan ≡ p → s.nature ≡ n → s ≡ numbers k t p n
 selector_is s k t p n e1 e2 e3 e4 = rw (← e1, ← e2, ← e3, ← e4) refl
@@ -107,7 +107,7 @@ heading_says s odd h even =
 kind_small : (s : Numbers) → IsSelector s → s.kind < 16
 kind_small s h = elim h.used [ inl w ↦ omega (arith, w.0) | inr (inl w) ↦ omega (arith, w.0) | inr (inr (inl w)) ↦ omega (arith, w.0) | inr (inr (inr w)) ↦ omega arith ]
 
--- ---- titles and addresses
+-- Titles and addresses.
 
 title_again : (t : Title) → IsTitle t → (title_kind t < 16) × TitleIs (title_kind t) (title_octets t) t
 title_again Absent h = (omega arith, (refl, refl))
@@ -170,6 +170,6 @@ written_is a h =
       title_is = rw i.kind t.1;
     }
 
--- what is written of an address is read as that address
+-- what is written for an address is read as that address
 pub address_of-written : (a : Address) → IsAddress a → address_of (written a) ≡ Ok a
 address_of-written a is = address_again (written a) a (written_is a is)

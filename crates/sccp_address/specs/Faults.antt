@@ -1,10 +1,10 @@
--- What a call answers that may refuse octets as an address.
+-- What is answered by a call that may refuse octets as an address.
 use Rattle.std.specs.Prelude.{Bool, true, false, Result}
 use Rattle.sccp_base.specs.Answers.{Answers}
 use Rattle.sccp_address.specs.declared.fault.AddressFault.{AddressFault}
 use Rattle.sccp_address.specs.declared.fault.AddressFault.TheVariants.{Empty, Short, Extra, OddWithoutDigits, OutOfMemory}
 
--- want of memory is the one fault that no cause is given for
+-- want of memory is the only fault whose cause is not given
 abbrev pub is_memory : AddressFault → Bool
 is_memory OutOfMemory = true
 is_memory Empty = false

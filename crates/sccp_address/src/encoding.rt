@@ -1,3 +1,4 @@
+//! Writing an address as octets (Q.713 section 3.4).
 ghost use Rattle.std.specs.Prelude.{◌≡◌, ◌<◌, ◌≤◌, ◌+◌, ◌*◌, ◌++◌, length, slice_index, IfOk, OnOk};
 ghost use Rattle.std.specs.List.{All};
 ghost use Rattle.std.specs.Option.{option_to_list};
@@ -9,6 +10,7 @@ use crate::address::{Address, Title};
 use sccp_base::{Octets, OutOfMemory, PointCode, Selector};
 use std::alloc::{AllocError, Global};
 
+// A flag as a bit.
 fn flag_of(set: bool) -> u8
     ensures value { result ≡ flag set }
     ensures most { result ≤ 1 }
@@ -16,6 +18,7 @@ fn flag_of(set: bool) -> u8
     if set { 1 } else { 0 }
 }
 
+// The indicator's number for the title, in its bits 3 to 6.
 fn kind_of(title: &Title) -> u8
     ensures { result ≡ title_kind title.now }
 {
@@ -26,6 +29,7 @@ fn kind_of(title: &Title) -> u8
     }
 }
 
+// The address indicator (Q.713 section 3.4.1).
 fn indicator(address: &Address) -> u8
     ensures { result ≡ indicator_of address.now }
 {
@@ -36,6 +40,7 @@ fn indicator(address: &Address) -> u8
         + 128 * flag_of(address.national)
 }
 
+// Adds the octets of a point code, the low one first.
 fn push_point_code(octets: &mut Vec<u8>, pc: Option<PointCode>) -> Result<(), AllocError>
     ensures { OnOk result (octets.new.items ≡ octets.old.items ++ point_code_octets pc) }
 {
@@ -48,6 +53,7 @@ fn push_point_code(octets: &mut Vec<u8>, pc: Option<PointCode>) -> Result<(), Al
     }
 }
 
+// Adds the octet of a subsystem number.
 fn push_ssn(octets: &mut Vec<u8>, ssn: Option<u8>) -> Result<(), AllocError>
     ensures { OnOk result (octets.new.items ≡ octets.old.items ++ option_to_list ssn) }
 {
@@ -58,7 +64,7 @@ fn push_ssn(octets: &mut Vec<u8>, ssn: Option<u8>) -> Result<(), AllocError>
     Ok(())
 }
 
-// What stands before the digits.
+// Adds the octets of a title before its digits, by the kind of the title.
 fn push_heading(octets: &mut Vec<u8>, selector: &Selector, odd: bool) -> Result<(), AllocError>
     ensures { OnOk result (octets.new.items ≡ octets.old.items ++ heading selector.now odd) }
 {
@@ -73,7 +79,7 @@ fn push_heading(octets: &mut Vec<u8>, selector: &Selector, odd: bool) -> Result<
     Ok(())
 }
 
-// The octet of the i-th pair of digits, the first digit in the low half, with the filler 0 behind an odd number.
+// The octet of the i-th pair of digits, the first digit in the low half. If the pair has one only, the high half is 0.
 fn octet_at(digits: &[u8], i: usize) -> u8
     requires halves { All (λ d. d < 16) digits.now }
     requires inside { 2 * i < length digits.now }
@@ -86,6 +92,7 @@ fn octet_at(digits: &[u8], i: usize) -> u8
     }
 }
 
+// Adds the octets of the digits.
 fn push_digits(octets: &mut Vec<u8>, digits: &[u8]) -> Result<(), AllocError>
     requires { All (λ d. d < 16) digits.now }
     ensures { OnOk result (octets.new.items ≡ octets.old.items ++ packed digits.now) }
@@ -96,6 +103,7 @@ fn push_digits(octets: &mut Vec<u8>, digits: &[u8]) -> Result<(), AllocError>
     Ok(())
 }
 
+// Adds the octets of a title.
 fn push_title(octets: &mut Vec<u8>, title: &Title) -> Result<(), AllocError>
     ensures { OnOk result (octets.new.items ≡ octets.old.items ++ title_octets title.now) }
 {
@@ -110,11 +118,11 @@ fn push_title(octets: &mut Vec<u8>, title: &Title) -> Result<(), AllocError>
     Ok(())
 }
 
-// Room for all but a title that is kept as its octets.
+// Room for each address but one whose title is kept as its octets.
 const MOST: usize = 1 + 2 + 1 + 3 + 16;
 
-/// The octets of an address (Q.713 section 3.4): spare bits and the filler are 0, and the encoding scheme of a title with
-/// digits is 1 for an odd number of them and 2 for an even one. A title that was kept as its octets is written as it was read.
+/// Writes an address as octets (Q.713 section 3.4). Spare bits and the filler are 0. The encoding scheme of a title with
+/// digits is 1 for an odd number of them and 2 for an even one. A title kept as its octets is written as it was read.
 pub fn write(alloc: Global, address: &Address) -> Result<Octets, OutOfMemory>
     ensures exact { IfOk result (λ octets. octets ≡ written address.now) }
     ensures again { IsAddress address.now → IfOk result (λ octets. AddressIs octets address.now) }

@@ -1,3 +1,4 @@
+//! Why octets are not an address.
 ghost use Rattle.std.specs.Prelude.{◌≡◌};
 ghost use Rattle.sccp_address.specs.declared.fault.AddressFault.TheVariants as faults;
 
@@ -5,13 +6,13 @@ use sccp_base::OutOfMemory;
 use std::alloc::AllocError;
 use thiserror::Error;
 
-/// Why octets aren't an address: the first fault from left to right.
+/// Why octets are not an address: the first fault from left to right.
 #[derive(Clone, Copy, Debug, Error)]
 pub enum AddressFault {
     /// There is no octet, so no indicator (Q.713 section 3.4.1).
     #[error("empty")]
     Empty,
-    /// A field that the indicator announces, or what stands before the digits of a title, doesn't fit.
+    /// A field that the indicator announces is missing, or an octet before the digits of a title.
     #[error("short")]
     Short,
     /// The indicator announces no title, and octets are left.
@@ -20,6 +21,7 @@ pub enum AddressFault {
     /// The number of digits is said to be odd, and there is no octet of digits.
     #[error("odd without digits")]
     OddWithoutDigits,
+    /// Memory ran out.
     #[error("out of memory")]
     OutOfMemory,
 }

@@ -1,9 +1,9 @@
-//! Called and calling addresses as values and as octets (ITU-T Q.713 sections 3.4 and 3.5): the indicator, the point
-//! code, the subsystem number and the global title with its four kinds of heading and its digits.
+//! Called and calling addresses as values and as octets (ITU-T Q.713 sections 3.4 and 3.5). An address has an indicator,
+//! and may have a point code, a subsystem number and a global title. A title has four kinds of heading, and digits.
 //!
-//! `read` gives the address that octets are, or the first fault from left to right, and `write` gives the octets of an
-//! address. The layer above may rely on this: an address is read exactly where the octets are one, then that one alone;
-//! and what is written of an address that `read` gave, or that was made with `Title::global`, is read as that address.
+//! `read` gives the address that octets are, or the first fault from left to right. `write` gives the octets of an
+//! address. The layer above may rely on two facts. `read` gives an address exactly if the octets are one, and then only
+//! that one. What `write` gives for an address from `read`, or with a title from `Title::global`, is read as that address.
 #![tactic(auto)]
 
 mod address;

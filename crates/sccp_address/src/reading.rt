@@ -1,3 +1,4 @@
+//! Reading an address from octets (Q.713 section 3.4).
 ghost use Rattle.std.specs.Prelude.{◌≡◌, ◌≤◌, ◌+◌, ◌<◌, ◌&&◌, ◌==◌, if◌then◌else◌, IfOk, Ok};
 ghost use Rattle.sccp_base.specs.Answers.{◌>>=◌ as bind};
 ghost use Rattle.sccp_base.specs.Bits.{bit, bits};
@@ -13,7 +14,7 @@ use crate::fault::AddressFault;
 use sccp_base::{Digits, Octets, PointCode, Selector};
 use std::alloc::Global;
 
-// Whether a bit is set; bit 1 is the lowest.
+// Whether a bit of an octet is set. Bit 1 is the lowest.
 fn is_set(octet: u8, place: u32) -> bool
     requires low { 1 ≤ place }
     requires high { place ≤ 8 }
@@ -22,7 +23,7 @@ fn is_set(octet: u8, place: u32) -> bool
     (octet >> (place - 1)) & 1 == 1
 }
 
-// A field of so many octets, and what stands behind it.
+// A field of `len` octets, and what follows it. `Short` if fewer octets are left.
 fn field_of(len: usize, octets: &[u8]) -> Result<(&[u8], &[u8]), AddressFault>
     ensures { Gives (λ x. (x.0.now, x.1.now)) result (field_at len octets.now) }
 {
@@ -32,7 +33,7 @@ fn field_of(len: usize, octets: &[u8]) -> Result<(&[u8], &[u8]), AddressFault>
     Ok(octets.split_at(len))
 }
 
-// The two top bits are spare.
+// The point code of a field of two octets, the low octet first. The two top bits are spare.
 fn pc_of(octets: &[u8]) -> Option<PointCode>
     ensures { result ≡ point_code octets.now }
 {
@@ -42,7 +43,7 @@ fn pc_of(octets: &[u8]) -> Option<PointCode>
     }
 }
 
-// A title that is kept as its octets.
+// A title that is kept as its octets, with its kind.
 fn raw(alloc: Global, kind: u8, octets: &[u8]) -> Result<Title, AddressFault>
     ensures { Gives (λ t. t) result (Ok (Title.Raw kind octets.now)) }
 {
@@ -50,7 +51,7 @@ fn raw(alloc: Global, kind: u8, octets: &[u8]) -> Result<Title, AddressFault>
     Ok(Title::Raw { kind, octets })
 }
 
-// A title with digits; one with more than fit is kept as its octets.
+// A title with digits. If it has more than 32, it is kept as its octets.
 fn global(
     alloc: Global,
     selector: Selector,
@@ -69,7 +70,7 @@ fn global(
     }
 }
 
-// A title whose encoding scheme says whether the number of its digits is odd.
+// A title whose encoding scheme says whether the number of its digits is odd. Under another scheme it is kept as its octets.
 fn schemed(
     alloc: Global,
     scheme: u8,
@@ -86,7 +87,7 @@ fn schemed(
     }
 }
 
-// Nothing may be left where no title is announced.
+// No title. `Extra` if octets are left.
 fn none_of(octets: &[u8]) -> Result<Title, AddressFault>
     ensures { Gives (λ t. t) result (none_at octets.now) }
 {
@@ -96,35 +97,35 @@ fn none_of(octets: &[u8]) -> Result<Title, AddressFault>
     }
 }
 
-// The encoding scheme is the low half of its octet.
+// The encoding scheme, which is the low half of its octet.
 fn scheme_of(plan: u8) -> u8
     ensures { result ≡ bits plan 1 4 }
 {
     plan & 0x0F
 }
 
-// The selector of kind 1, by the octet of the nature of address.
+// The selector of kind 1, from the octet of the nature of address.
 fn nature_selector(nature: u8) -> Selector
     ensures { result ≡ numbers 1 0 0 (bits nature 1 7) }
 {
     Selector::new(1, 0, 0, nature & 0x7F).unwrap()
 }
 
-// The selector of kind 2.
+// The selector of kind 2, from the translation type.
 fn translation_selector(translation: u8) -> Selector
     ensures { result ≡ numbers 2 translation 0 0 }
 {
     Selector::new(2, translation, 0, 0).unwrap()
 }
 
-// The selector of kind 3, by the octets of the translation type and of the numbering plan.
+// The selector of kind 3, from the octets of the translation type and of the numbering plan.
 fn plan_selector(translation: u8, plan: u8) -> Selector
     ensures { result ≡ numbers 3 translation (bits plan 5 8) 0 }
 {
     Selector::new(3, translation, plan >> 4, 0).unwrap()
 }
 
-// The selector of kind 4, by the three octets before the digits.
+// The selector of kind 4, from the three octets before the digits.
 fn full_selector(translation: u8, plan: u8, nature: u8) -> Selector
     ensures { result ≡ numbers 4 translation (bits plan 5 8) (bits nature 1 7) }
 {
@@ -175,7 +176,7 @@ fn full_of(alloc: Global, octets: &[u8]) -> Result<Title, AddressFault>
     schemed(alloc, scheme_of(*plan), selector, digits, octets)
 }
 
-// The title of a kind, whose octets are all that are left.
+// The title of a kind. Its octets are all those that are left.
 fn title_of(alloc: Global, kind: u8, octets: &[u8]) -> Result<Title, AddressFault>
     ensures { Gives (λ t. t) result (title_at kind octets.now) }
 {
@@ -189,7 +190,7 @@ fn title_of(alloc: Global, kind: u8, octets: &[u8]) -> Result<Title, AddressFaul
     }
 }
 
-// The field of the subsystem number, which the indicator may announce, and what stands behind it.
+// The field of the subsystem number, which is empty unless the indicator announces it, and what follows it.
 fn ssn_field(indicator: u8, octets: &[u8]) -> Result<(&[u8], &[u8]), AddressFault>
     ensures { Gives (λ x. (x.0.now, x.1.now)) result (field_at (if bit indicator 2 then 1 else 0) octets.now) }
 {
@@ -200,14 +201,14 @@ fn ssn_field(indicator: u8, octets: &[u8]) -> Result<(&[u8], &[u8]), AddressFaul
     }
 }
 
-// The kind of title that the indicator announces.
+// The kind of title that the indicator announces, in its bits 3 to 6.
 fn kind_of(indicator: u8) -> u8
     ensures { result ≡ bits indicator 3 6 }
 {
     (indicator >> 2) & 0x0F
 }
 
-// The subsystem number that a field has.
+// The subsystem number in its field.
 fn ssn_of(octets: &[u8]) -> Option<u8>
     ensures { result ≡ first_of octets.now }
 {
@@ -217,7 +218,7 @@ fn ssn_of(octets: &[u8]) -> Option<u8>
     }
 }
 
-// The address behind its indicator and its point code.
+// The address, from its indicator, its point code field and the octets after them.
 fn behind_pc(
     alloc: Global,
     indicator: u8,
@@ -237,7 +238,7 @@ fn behind_pc(
     })
 }
 
-// The address, by the one definition of what reading gives; `read` says the same by what the octets are.
+// The address by the one definition of what reading gives. `read` promises the same by what the octets are.
 #[tactic(auto, unfolding(crate::specs::Reading::address_of))]
 fn address(alloc: Global, octets: &[u8]) -> Result<Address, AddressFault>
     ensures { Gives (λ a. a) result (address_of octets.now) }
@@ -249,11 +250,11 @@ fn address(alloc: Global, octets: &[u8]) -> Result<Address, AddressFault>
     behind_pc(alloc, *indicator, pc, rest)
 }
 
-/// The address that the octets are, all of them (Q.713 section 3.4). Spare bits and the filler are ignored.
+/// Reads an address, which is all of the octets (Q.713 section 3.4). Spare bits and the filler are ignored.
 ///
-/// The first fault from left to right: `Empty` without an indicator; `Short` where a field that it announces, or what
-/// stands before the digits of the title, isn't there; `Extra` where octets are left and no title is announced;
-/// `OddWithoutDigits` where the number of digits is said to be odd and no octet has digits.
+/// The first fault from left to right is given. `Empty`: there is no indicator. `Short`: a field that the indicator
+/// announces is missing, or an octet before the digits of the title. `Extra`: octets are left, and no title is announced.
+/// `OddWithoutDigits`: the number of digits is said to be odd, and no octet has digits.
 pub fn read(alloc: Global, octets: &[u8]) -> Result<Address, AddressFault>
     ensures found { IfOk result (λ a. AddressIs octets.now a) }
     ensures kept { IfOk result (λ a. IsAddress a) }

@@ -1,4 +1,4 @@
--- an element among those of a list, by recursion, and what a filter and a search make of it
+-- An element among those of a list, by recursion, and what a filter and a search give for it.
 use Rattle.std.specs.Prelude.{ℕ, ◌≡◌, ◌<◌, ◌+◌, ◌⊎◌, Bool, true, false, cond, List, [], ◌∷◌, length, Some, None, refl, not, nat_lt, slice_get, ◌≤◌}
 use Rattle.std.specs.List.{All, filter, find, list_all, list_any, AllPairs, position, position_or_len, prefix_len}
 use Rattle.std.proofs.Common.{zero, sym, ◌∙◌, ap, subst, inl, inr, ⊎_elim, arith, get_or, suc}
@@ -56,7 +56,7 @@ find-Some p x (y ∷ ys) h =
       | false ↦ λ e k. let r = find-Some p x ys k in (inr r.0, r.1)
     ] refl h
 
--- nothing passes where the search finds nothing
+-- if the search finds nothing, nothing passes
 pub find-None : {X : Type 0} (p : X → Bool) (x : X) (xs : List X) → find p xs ≡ None → Among x xs → p x ≡ false
 find-None p x [] h m = absurd m
 find-None p x (y ∷ ys) h m =
@@ -76,7 +76,7 @@ place_of_Among x [] m = absurd m
 place_of_Among x (y ∷ ys) m =
     ⊎_elim (λ q. (0, omega arith, λ d. q)) (λ r. let k = place_of_Among x ys r in (suc k.0, omega (arith, k.1), λ d. k.2 d)) m
 
--- where no two elements of a list are related, two related elements of it are one
+-- if no two elements of a list are related, two related elements of it are one
 pub same_of_pairs : {X : Type 0} (R : X → X → Type 0) (x y : X) (xs : List X) → ((a b : X) → R a b → R b a) → AllPairs (λ a b. R a b → ⊥) xs → Among x xs → Among y xs → R x y → x ≡ y
 same_of_pairs {X} R x y xs flip apart m n r =
     let k = place_of_Among x xs m in
@@ -101,7 +101,7 @@ prefix_whole p x (y ∷ ys) h m =
       | false ↦ λ e k. absurd (omega arith)
     ] refl h
 
--- nothing passes where there is no first place that passes
+-- if there is no first place that passes, nothing passes
 pub position-None : {X : Type 0} (p : X → Bool) (x : X) (xs : List X) → position p xs ≡ None → Among x xs → p x ≡ false
 position-None p x xs h m =
     not-true (p x) (prefix_whole (λ y. not (p y)) x xs

@@ -1,4 +1,4 @@
--- what a list holds after an insert, and how its elements stand to each other
+-- What a list holds after an insert, and how its elements are related.
 use Rattle.std.specs.Prelude.{◌≡◌, ℕ, ◌+◌, ◌<◌, ◌≤◌, ◌⊎◌, List, [], ◌∷◌, length, refl, take, drop}
 use Rattle.std.specs.List.{AllPairs, AllWithin, insert}
 use Rattle.std.proofs.Common.{zero, suc, sym, ◌∙◌, ap, subst, arith, get_or, ⊎_elim, inl, inr, length-append, ◌-◌}
@@ -31,11 +31,12 @@ at_insert xs x place k d inside =
     (cases_lt place k))
     (cases_lt k place)
 
--- what stands in the place of two elements is related as they are
+-- what is equal to two elements is related as they are
 pub related : {X : Type 0} (R : X → X → Type 0) (a b x y : X) → a ≡ x → b ≡ y → R x y → R a b
 related R a b x y p q h = subst (λ m. R m b) (sym p) (subst (λ m. R x m) (sym q) h)
 
--- where each element is related to those behind it, an element joins at a place that parts those which come before it from those which come after
+-- If each element is related to those after it, this still holds after an insert. The place must part the elements that are
+-- related to the new one from those to which the new one is related.
 pub pairs_insert : {X : Type 0} (R : X → X → Type 0) (xs : List X) (x : X) (place : ℕ) → AllPairs R xs → place ≤ length xs → AllWithin (λ y. R y x) xs 0 place → AllWithin (λ y. R x y) xs place (length xs) → AllPairs R (insert xs place x)
 pairs_insert R xs x place pairs inside below above i j d lt bound =
     let size : length (insert xs place x) ≡ length xs + 1 = omega (arith, length-append (take place xs) (x ∷ drop place xs), length-take place xs, length-drop place xs, inside) in

@@ -1,3 +1,4 @@
+-- Facts about the values that every layer names, for the proofs of this crate and of others.
 pub mod AllOk
 pub mod Among
 pub mod Cases

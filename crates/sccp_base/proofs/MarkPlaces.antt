@@ -1,4 +1,4 @@
--- Places of marks among ascending marks, and what an edit there leaves.
+-- Places of marks among ascending marks, and what an edit leaves there.
 use Rattle.std.specs.Prelude.{◌≡◌, ℕ, ◌+◌, ◌<◌, ◌≤◌, Bool, true, false, not, ◌&&◌, ◌||◌, List, ◌∷◌, length, refl, Result, Ok, Err, take, drop}
 use Rattle.std.specs.List.{All, insert, remove}
 use Rattle.std.specs.List.Sorted.{IsBinarySearchResult, IsNonDecreasingBy, IsSearchInRange}
@@ -19,7 +19,7 @@ use Rattle.sccp_base.specs.declared.mark.Mark.TheVariants.{PointCode, Sccp, Subs
 use Rattle.sccp_base.specs.Marks.{mark_cmp, same_mark, holds, IsAscending, IsMark, IsMarking, IsAt, BelongsAt, IsPlaceOf}
 use Rattle.sccp_base.specs.MarkOrder.{mark_cmp_total, same_mark_agrees}
 
--- ---- marks that are the same, and marks that are apart
+-- Marks that are the same, and marks that are apart.
 
 pub same_mark_is : (a b : Mark) → same_mark a b ≡ true → a ≡ b
 same_mark_is (PointCode a) (PointCode b) h = ap PointCode (eqb-true a b h)
@@ -50,7 +50,7 @@ turned a b e = mark_cmp_total.antisymm b a ∙ ap ordering_reverse e
 pub turned_back : (a b : Mark) → mark_cmp a b ≡ Less → mark_cmp b a ≡ Greater
 turned_back a b e = mark_cmp_total.antisymm b a ∙ ap ordering_reverse e
 
--- ---- the search
+-- The search.
 
 index_falls : (x y mark : Mark) (r : Ordering) → mark_cmp x y ≡ Less → mark_cmp y mark ≡ r → ordering_index (mark_cmp x mark) ≤ ordering_index r
 index_falls x y mark Less below e = rw (mark_cmp_total.trans x y mark below e) (omega arith)
@@ -78,7 +78,7 @@ is_place marks mark (Err place) ascending inside found =
     let parted = found (never_falls marks mark ascending) in
     record { inside = inside; below = parted.0; above = parted.1 }
 
--- ---- a mark more
+-- A mark more.
 
 pub ascending_insert : (marks : List Mark) (mark : Mark) (place : ℕ) → IsAscending marks → BelongsAt marks mark place → IsAscending (insert marks place mark)
 ascending_insert marks mark place ascending at =
@@ -105,7 +105,7 @@ holds-insert marks mark other place =
     ∙ turn_or (holds (take place marks) other) (same_mark mark other) (holds (drop place marks) other)
     ∙ ap (λ (b : Bool). same_mark mark other || b) (sym (list_any-append (λ held. same_mark held other) (take place marks) (drop place marks)) ∙ ap (λ (ms : List Mark). holds ms other) (take-append-drop place marks))
 
--- ---- a mark less
+-- A mark less.
 
 pub ascending_remove : (marks : List Mark) (place : ℕ) → place < length marks → IsAscending marks → IsAscending (remove marks place)
 ascending_remove marks place inside ascending i j d lt bound =
@@ -162,7 +162,7 @@ holds-remove marks mark other place ascending at =
           ∙ sym (parted marks mark other place at)
     ] refl
 
--- ---- what the search says of a mark
+-- What the search says about a mark.
 
 pub holds-at : (marks : List Mark) (mark : Mark) (place : ℕ) → IsAt marks mark place → holds marks mark ≡ true
 holds-at marks mark place at =
@@ -183,7 +183,7 @@ held_more marks mark other h =
       | false ↦ λ e. refl
     ] refl
 
--- a mark that isn't held
+-- a mark that is not held
 pub held_less : (marks : List Mark) (mark other : Mark) → holds marks mark ≡ false → holds marks other ≡ (not (same_mark mark other) && holds marks other)
 held_less marks mark other h =
     elim (same_mark mark other) as (λ b. same_mark mark other ≡ b → holds marks other ≡ (not b && holds marks other)) [

@@ -1,4 +1,4 @@
--- A text is a name exactly where the tests of a name say so.
+-- A text is a name exactly if the tests of a name say so.
 use Rattle.std.specs.Prelude.{ℕ, ◌≡◌, ◌&&◌, nat_le, Bool, true, List, length, Option, Some, None, refl}
 use Rattle.std.specs.List.{list_all}
 use Rattle.std.specs.Option.{SomeIff}

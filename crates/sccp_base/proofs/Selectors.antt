@@ -1,4 +1,4 @@
--- selectors are told to be the same exactly where they are one
+-- The test for the same selector passes exactly if the two are one.
 use Rattle.std.specs.Prelude.{◌≡◌, true, ◌&&◌, ◌==◌, refl}
 use Rattle.std.proofs.lemmas.Bool.{and_parts, and_from, eq-eqb, eqb-true}
 use Rattle.sccp_base.specs.Selector.{Numbers, same_selector}

@@ -1,4 +1,4 @@
--- Digits as text.
+-- Digits of a global title, read from a text.
 use Rattle.std.specs.Prelude.{ℕ, ◌+◌, ◌-◌, ◌&&◌, nat_lt, nat_le, if◌then◌else◌, List, length, slice_index, Option, Some, None, Result, Err}
 use Rattle.std.specs.Option.{ok_or}
 use Rattle.std.specs.List.{range_with_len}
@@ -14,6 +14,7 @@ hex_digit c =
     else if nat_le 97 c && nat_le c 102 then Some (c - 97 + 10)
     else None
 
+-- the digit at a place of the text, or the fault with that place
 abbrev pub digit_at : List ℕ → ℕ → Result ℕ DigitsFault
 digit_at text place = ok_or (hex_digit (slice_index text place)) (NotDigit place)
 

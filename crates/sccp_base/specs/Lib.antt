@@ -1,3 +1,4 @@
+-- The values that every layer names, and the forms of their texts and octets.
 pub mod Answers
 pub mod Bcd
 pub mod Bits

@@ -8,9 +8,11 @@ use Rattle.sccp_base.specs.declared.mark.Mark.{Mark}
 use Rattle.sccp_base.specs.declared.mark.Mark.TheVariants.{PointCode, Sccp, Subsystem}
 use Rattle.sccp_base.specs.Marks.{point_of, place_at_point, mark_cmp, same_mark}
 
+-- the order of marks is total
 pub mark_cmp_total : IsTotalOrder mark_cmp
 mark_cmp_total = then_total (on_total point_of nat_cmp_total) (on_total place_at_point nat_cmp_total)
 
+-- two marks are the same if the order ties them
 pub same_mark_agrees : (a b : Mark) → same_mark a b ≡ eq_by_cmp mark_cmp a b
 same_mark_agrees (PointCode a) (PointCode b) = grind (arith, nat_tests)
 same_mark_agrees (Sccp a) (Sccp b) = grind (arith, nat_tests)
@@ -22,6 +24,7 @@ same_mark_agrees (Sccp a) (Subsystem b t) = grind (arith, nat_tests)
 same_mark_agrees (Subsystem a s) (PointCode b) = grind (arith, nat_tests)
 same_mark_agrees (Subsystem a s) (Sccp b) = grind (arith, nat_tests)
 
+-- to be the same mark is an equivalence
 pub same_mark_equiv : IsEquivalence same_mark
 same_mark_equiv =
     let ties = eq_by_cmp_equiv mark_cmp_total in

@@ -7,12 +7,13 @@ use Rattle.std.specs.declared.cmp.Ordering.TheVariants.{Less, Greater}
 use Rattle.sccp_base.specs.declared.mark.Mark.{Mark}
 use Rattle.sccp_base.specs.declared.mark.Mark.TheVariants.{PointCode, Sccp, Subsystem}
 
+-- the point code of a mark
 abbrev pub point_of : Mark → ℕ
 point_of (PointCode point) = point
 point_of (Sccp point) = point
 point_of (Subsystem point ssn) = point
 
--- at one point the signalling point comes first, then its SCCP, then its subsystems by their numbers
+-- at one point the signalling point is first, then its SCCP, then its subsystems by their numbers
 abbrev pub place_at_point : Mark → ℕ
 place_at_point (PointCode point) = 0
 place_at_point (Sccp point) = 1
@@ -22,6 +23,7 @@ place_at_point (Subsystem point ssn) = 2 + ssn
 abbrev pub mark_cmp : Mark → Mark → Ordering
 mark_cmp = then_cmp (on point_of nat_cmp) (on place_at_point nat_cmp)
 
+-- the two marks have the same variant and the same numbers
 abbrev pub same_mark : Mark → Mark → Bool
 same_mark (PointCode a) (PointCode b) = a == b
 same_mark (Sccp a) (Sccp b) = a == b
@@ -37,7 +39,7 @@ same_mark (Subsystem a s) (Sccp b) = false
 abbrev pub holds : List Mark → Mark → Bool
 holds marking mark = list_any (λ held. same_mark held mark) marking
 
--- each mark is below those behind it
+-- each mark is below those after it
 abbrev pub IsAscending : List Mark → Type 0
 IsAscending marks = AllPairs (λ a b. mark_cmp a b ≡ Less) marks
 
@@ -47,7 +49,7 @@ IsMark (PointCode point) = point < 16384
 IsMark (Sccp point) = point < 16384
 IsMark (Subsystem point ssn) = (point < 16384) × (ssn < 256)
 
--- such a list is what a marking can be: marks of real points, each below those behind it
+-- what a marking can be: marks of real points, each below those after it
 pub record IsMarking (marks : List Mark) : Type 0 where
   pub ascending : IsAscending marks
   pub real : All IsMark marks
@@ -57,12 +59,13 @@ pub record IsAt (marks : List Mark) (mark : Mark) (place : ℕ) : Type 0 where
   pub inside : place < length marks
   pub same : (d : Mark) → slice_index_or marks place d ≡ mark
 
--- the mark isn't there, and that place parts the marks below it from those above it
+-- the mark is missing, and that place parts the marks below it from those above it
 pub record BelongsAt (marks : List Mark) (mark : Mark) (place : ℕ) : Type 0 where
   pub inside : place ≤ length marks
   pub below : AllWithin (λ other. mark_cmp other mark ≡ Less) marks 0 place
   pub above : AllWithin (λ other. mark_cmp other mark ≡ Greater) marks place (length marks)
 
+-- the answer of a search: the mark's place, or the place at which it may be inserted
 abbrev pub IsPlaceOf : List Mark → Mark → Result ℕ ℕ → Type 0
 IsPlaceOf marks mark (Ok place) = IsAt marks mark place
 IsPlaceOf marks mark (Err place) = BelongsAt marks mark place

@@ -1,10 +1,11 @@
+//! A value in memory of its own.
 ghost use Rattle.std.specs.Prelude.{◌≡◌, IfOk};
 
 use crate::out_of_memory::OutOfMemory;
 use std::alloc::Global;
 use std::marker::Model;
 
-/// A value in memory of its own, so that what holds it stays small where it is moved. Contracts see it as the value.
+/// A value in memory of its own, so that its holder stays small when it is moved. Contracts see it as the value.
 #[derive(Drop)]
 pub struct Boxed<T> {
     inner: Box<T>,
@@ -17,7 +18,7 @@ impl<T> Model for Boxed<T> {
 }
 
 impl<T> Boxed<T> {
-    /// Puts a value into memory of its own. Where memory is wanting it is given up.
+    /// Puts a value into memory of its own. If memory runs out, the value is given up.
     pub fn new(alloc: Global, value: T) -> Result<Self, OutOfMemory>
     where
         T: Drop,
@@ -28,12 +29,14 @@ impl<T> Boxed<T> {
         })
     }
 
+    /// The value, to be read.
     pub fn get(&self) -> &T
         ensures { result.now ≡ self.now }
     {
         &self.inner
     }
 
+    /// Takes the value out of its memory.
     pub fn into_inner(self) -> T
         ensures { result ≡ self }
     {

@@ -1,4 +1,5 @@
-ghost use Rattle.std.specs.Prelude.{◌≡◌, ℕ, ◌<◌, ◌≤◌, ◌+◌, List, [], ◌∷◌, ◌++◌, length, IsTrue, ◌↔◌, slice_get, Some, drop, SomeIff, replicate};
+//! Digits of a global title: their order, and how they are read and written as text and as octets.
+ghost use Rattle.std.specs.Prelude.{◌≡◌, ℕ, ◌<◌, ◌≤◌, ◌+◌, List, [], ◌∷◌, ◌++◌, length, IsTrue, ◌↔◌, Some, drop, SomeIff, replicate};
 ghost use Rattle.std.specs.List.{starts_with, All};
 ghost use Rattle.std.specs.Prelude.{nat_eq, nat_le, ◌*◌, if◌then◌else◌, IfOk, IfSome, slice_index};
 ghost use Rattle.sccp_base.specs.Bcd.{halves, unpacked, packed};
@@ -16,7 +17,7 @@ use std::cmp::Ordering;
 use std::marker::Model;
 
 /// Up to 32 digits of a global title, each a half-octet, which contracts see as their list (Q.713 section 3.4.2.3).
-/// Digits are ordered as lists, digit by digit, a beginning before what it begins.
+/// Digits are ordered as lists, digit by digit; a list is below each longer one that it begins.
 #[derive(Clone, Copy, Debug)]
 pub struct Digits {
     halves: [u8; 32],
@@ -40,13 +41,14 @@ impl Model for Digits {
 }
 
 impl Digits {
+    /// No digits.
     pub const EMPTY: Digits = Digits {
         halves: [0; 32],
         len: 0,
     };
 
-    /// The half-octets, the low half of each octet first, without the last half where their number is `odd`.
-    /// `TooMany` where they are more than 32.
+    /// Reads the half-octets as digits, the low half of each octet first (Q.713 section 3.4.2.3). If the number of digits
+    /// is `odd`, the last half is left out. `TooMany` if there are more than 32 digits.
     pub fn unpack(octets: &[u8], odd: bool) -> Result<Digits, DigitsFault>
         requires { IsTrue odd → 0 < length octets.now }
         ensures { let digits = unpacked octets.now odd in
@@ -63,8 +65,8 @@ impl Digits {
         Ok(digits)
     }
 
-    /// Reads up to 32 hexadecimal digits of either case. `TooMany` where the text has more octets, else `NotDigit` with the
-    /// place of the first octet that is no such digit.
+    /// Reads up to 32 hexadecimal digits of either case. `TooMany` if the text has more octets, otherwise `NotDigit` with
+    /// the place of the first octet that is no such digit.
     pub fn parse(text: &[u8]) -> Result<Digits, DigitsFault>
         ensures { result ≡ digits_of text.now }
     {
@@ -81,7 +83,7 @@ impl Digits {
         Ok(digits)
     }
 
-    /// The digits as octets, the first digit of a pair in the low half, with the filler 0 behind an odd number.
+    /// Writes the digits as octets, the first digit of a pair in the low half; after an odd number of them follows the filler 0.
     pub fn pack(&self, alloc: Global) -> Result<Octets, OutOfMemory>
         ensures { IfOk result (λ octets. octets ≡ packed self.now) }
     {
@@ -94,6 +96,7 @@ impl Digits {
         Ok(Octets::from_vec(octets))
     }
 
+    /// How many digits there are, up to 32.
     pub fn len(&self) -> usize
         ensures value { result ≡ length self.now }
         ensures limit { result ≤ 32 }
@@ -101,6 +104,7 @@ impl Digits {
         usize::from(self.len)
     }
 
+    /// The digits in order, each from 0 to 15.
     pub fn as_slice(&self) -> &[u8]
         ensures value { result.now ≡ self.now }
         ensures halves { All (λ d. d < 16) result.now }
@@ -108,20 +112,15 @@ impl Digits {
         &self.halves[..usize::from(self.len)]
     }
 
-    pub fn at(&self, place: usize) -> u8
-        requires { place < length self.now }
-        ensures { slice_get self.now place ≡ Some result }
-    {
-        self.halves[place]
-    }
-
+    /// Whether each digit is below 10.
     pub fn is_decimal(&self) -> bool
         ensures { IsTrue result ↔ All (λ d. d < 10) self.now }
     {
         self.as_slice().iter().all(|digit| *digit < 10)
     }
 
-    /// These digits without the first ones and after others, where they aren't too many.
+    /// Drops the first `strip` digits, or all if there are fewer, and puts the digits `put` before the rest. `None` if the
+    /// result has more than 32.
     pub fn rewritten(&self, strip: u8, put: &Digits) -> Option<Digits>
         ensures { SomeIff result (length (put.now ++ drop strip self.now) ≤ 32) (put.now ++ drop strip self.now) }
     {
@@ -129,7 +128,7 @@ impl Digits {
         Digits::joined(put.as_slice(), rest)
     }
 
-    /// Two runs of digits, one after the other, where they aren't too many.
+    /// Two lists of digits, one after the other, each digit from 0 to 15. `None` if the result has more than 32.
     pub fn joined(front: &[u8], back: &[u8]) -> Option<Digits>
         requires front { All (λ d. d < 16) front.now }
         requires back { All (λ d. d < 16) back.now }
@@ -144,7 +143,7 @@ impl Digits {
         Some(joined)
     }
 
-    /// Whether the digits from a place on are decimal.
+    /// Whether the digits from a place on are decimal, that is, below 10.
     pub fn is_decimal_from(&self, place: usize) -> bool
         requires { place ≤ length self.now }
         ensures { IsTrue result ↔ All (λ d. d < 10) (drop place self.now) }
@@ -152,14 +151,14 @@ impl Digits {
         are_decimal(&self.as_slice()[place..])
     }
 
-    /// How many digits there are.
+    /// How many digits there are, as an octet.
     pub fn count(&self) -> u8
         ensures { result ≡ length self.now }
     {
         self.len
     }
 
-    /// These digits and so many zeros.
+    /// These digits, and after them `count` zeros.
     pub fn with_zeros(&self, count: u8) -> Digits
         requires { length self.now + count ≤ 32 }
         ensures { result ≡ self.now ++ replicate count 0 }
@@ -171,7 +170,7 @@ impl Digits {
         longer
     }
 
-    /// These digits and one more.
+    /// These digits, and after them one more.
     pub fn with(&self, half: u8) -> Digits
         requires half { half < 16 }
         requires room { length self.now < 32 }
@@ -182,6 +181,7 @@ impl Digits {
         longer
     }
 
+    /// Adds a digit at the end.
     fn push(&mut self, half: u8)
         requires half { half < 16 }
         requires room { length self.old < 32 }
@@ -191,6 +191,7 @@ impl Digits {
         self.len += 1;
     }
 
+    /// Adds several digits at the end.
     fn extend(&mut self, halves: &[u8])
         requires halves { All (λ d. d < 16) halves.now }
         requires room { length self.old + length halves.now ≤ 32 }
@@ -201,6 +202,7 @@ impl Digits {
         }
     }
 
+    /// Whether the prefix begins these digits. Each list begins itself, and the empty one begins each.
     pub fn starts_with(&self, prefix: &Digits) -> bool
         ensures { result ≡ starts_with nat_eq self.now prefix.now }
     {
@@ -246,7 +248,7 @@ impl Ord for Digits {
     }
 }
 
-/// Whether the second list begins the first. It is compared digit by digit, since most prefixes differ in one of the first.
+/// Whether the second list begins the first. It compares digit by digit, since most prefixes differ in one of the first.
 fn begins(digits: &[u8], prefix: &[u8]) -> bool
     ensures { result ≡ starts_with nat_eq digits.now prefix.now }
 {
@@ -262,6 +264,7 @@ fn begins(digits: &[u8], prefix: &[u8]) -> bool
     true
 }
 
+/// Whether each half-octet is below 10.
 fn are_decimal(halves: &[u8]) -> bool
     ensures { IsTrue result ↔ All (λ d. d < 10) halves.now }
 {
@@ -282,7 +285,7 @@ fn half_at(octets: &[u8], place: usize) -> u8
     }
 }
 
-/// The octet of the i-th pair of digits.
+/// The octet of the i-th pair of digits. If the pair has one digit only, the high half is the filler 0.
 fn octet_at(digits: &[u8], i: usize) -> u8
     requires halves { All (λ d. d < 16) digits.now }
     requires inside { 2 * i < length digits.now }
@@ -295,7 +298,7 @@ fn octet_at(digits: &[u8], i: usize) -> u8
     }
 }
 
-/// The value of a hexadecimal digit of either case.
+/// The value of a hexadecimal digit of either case. `None` for another octet.
 fn hex_digit(octet: u8) -> Option<u8>
     ensures value { result ≡ hex_digit octet }
     ensures half { IfSome result (λ half. half < 16) }

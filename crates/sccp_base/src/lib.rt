@@ -1,10 +1,10 @@
-//! Values that every layer of SCCP names: octets and lists, point codes, local references, digits of a global title,
-//! selectors of a translation, node names, and the marks that say what is prohibited (ITU-T Q.713 sections 3.2 to 3.5
-//! and 3.9, Q.714 section 5).
+//! Values that every layer of SCCP names (ITU-T Q.713 sections 3.2 to 3.5 and 3.9, Q.714 section 5). They are octets and
+//! lists, point codes, local references, digits of a global title, selectors of a translation, and node names. Marks say
+//! what is prohibited.
 //!
-//! Contracts see each value as what it stands for: a number, a list of digits, a list of octets. The layers above may
-//! rely on digits being the half-octets of their octets, on a marking being an ascending list of marks, and on the
-//! readers of text accepting exactly their forms.
+//! Contracts see each value as what it means: a number, a list of digits, a list of octets. The layers above may rely
+//! on three facts. Digits are the half-octets of their octets. A marking is an ascending list of marks. Each reader of
+//! a text accepts exactly its forms.
 #![tactic(auto)]
 
 mod boxed;
@@ -35,4 +35,4 @@ pub use point_code::PointCode;
 pub use reference::Reference;
 pub use selector::Selector;
 pub use seven::Seven;
-pub use text::{cut, decimal};
+pub use text::{byte, cut, decimal};

@@ -1,3 +1,4 @@
+//! A growing list of any items.
 ghost use Rattle.std.specs.Prelude.{◌≡◌, [], ◌∷◌, ◌++◌, length, take, drop, OnOk, OnErr};
 ghost use Rattle.std.specs.Borrow.{Lends, sem, Array};
 ghost use Rattle.sccp_base.specs.contracts.list.List.{the_row};
@@ -30,7 +31,7 @@ impl<T> List<T> {
         }
     }
 
-    /// Puts an item at the end. Where memory is wanting the list stays as it was, and the item is given up.
+    /// Puts an item at the end. If memory runs out, the list stays as it was, and the item is given up.
     pub fn push(&mut self, item: T) -> Result<(), OutOfMemory>
     where
         T: Drop,
@@ -41,25 +42,28 @@ impl<T> List<T> {
         Ok(())
     }
 
+    /// The list of these items, in the same memory.
     pub fn from_vec(items: Vec<T>) -> Self
         ensures { result ≡ items.items }
     {
         List { items }
     }
 
+    /// Gives the items back as a vector, in the same memory.
     pub fn into_vec(self) -> Vec<T>
         ensures { result.items ≡ self }
     {
         self.items
     }
 
+    /// The items in order.
     pub fn as_slice(&self) -> &[T]
         ensures { result.now ≡ self.now }
     {
         self.items.as_slice()
     }
 
-    /// The items to be written over; their number stays.
+    /// The items, to be written over. Their number stays.
     pub fn as_mut_slice(&mut self) -> &mut [T]
         ensures* writes_back { sem 𝓛 (Lends (the_row T.row) (Array T.row 0) self.entry result (λ w. take (length self.entry.now) (w ++ drop (length w) self.entry.now))) }
         ensures value { result.now ≡ self.old }

@@ -1,3 +1,4 @@
+//! What may be prohibited or allowed, and its order.
 ghost use Rattle.std.specs.Cmp.{partial_equiv_from_equiv, partial_order_from_agreeing_total};
 ghost use Rattle.std.specs.Ordering.{as_partial_cmp};
 ghost use Rattle.sccp_base.specs.Marks.{mark_cmp, same_mark};
@@ -29,7 +30,7 @@ impl Mark {
         }
     }
 
-    /// Tells what the types of a mark's parts keep, for a contract that speaks of marks alone. It does nothing when it runs.
+    /// Shows what the types of a mark's parts keep, for a contract that names marks only. It does nothing when it runs.
     pub(crate) fn vouch(&self)
         ensures { IsMark self.now }
     {
@@ -44,7 +45,7 @@ impl Mark {
         }
     }
 
-    /// The place among the marks of its point.
+    /// The place of the mark among the marks of its point.
     fn place_at_point(&self) -> u16
         ensures { result ≡ place_at_point self.now }
     {

@@ -1,3 +1,4 @@
+//! What is prohibited, as a set of marks.
 ghost use Rattle.std.specs.Prelude.{◌≡◌, [], ◌||◌, ◌&&◌, not, OnOk, OnErr, IfOk};
 ghost use Rattle.std.specs.List.{All};
 ghost use Rattle.sccp_base.specs.declared.mark.Mark.{Mark};
@@ -52,7 +53,7 @@ impl Marking {
         place_of(&self.marks, &mark).is_ok()
     }
 
-    /// Prohibits a mark, and leaves the others as they were. Where memory is wanting nothing changes.
+    /// Prohibits a mark, and leaves the others as they were. If memory runs out, nothing changes.
     pub fn prohibit(&mut self, mark: Mark) -> Result<(), OutOfMemory>
         ensures ok { OnOk result ((other : Mark) → holds self.new other ≡ (same_mark mark other || holds self.old other)) }
         ensures err { OnErr result (self.new ≡ self.old) }
@@ -73,7 +74,7 @@ impl Marking {
         }
     }
 
-    /// Tells of each marking what its type keeps, for a contract that speaks of a list of them. It changes nothing.
+    /// Shows for each marking what its type keeps, for a contract that names a list of them. It changes nothing.
     pub fn vouch(markings: &[Marking])
         ensures { All IsMarking markings.now }
     {
@@ -92,7 +93,7 @@ impl Marking {
     }
 }
 
-/// Where the mark is among ascending marks, or else where it would be.
+/// Finds a mark among ascending marks: its place, or as `Err` the place at which it may be inserted.
 fn place_of(marks: &[Mark], mark: &Mark) -> Result<usize, usize>
     requires { IsAscending marks.now }
     ensures { IsPlaceOf marks.now mark.now result }

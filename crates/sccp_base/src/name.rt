@@ -1,3 +1,4 @@
+//! Names of nodes.
 ghost use Rattle.std.specs.Prelude.{◌≡◌, ◌<◌};
 ghost use Rattle.std.specs.Option.{SomeIff};
 ghost use Rattle.sccp_base.specs.Names.{IsName, is_name_octet, name_of};
@@ -5,7 +6,7 @@ ghost use Rattle.sccp_base.specs.Names.{IsName, is_name_octet, name_of};
 use std::marker::Model;
 
 /// The name of a node: 1 to 16 octets, each an ASCII letter, a digit, `_` or `-`. Contracts see it as the list of its
-/// octets. It stands in a fixed array, so it is copied without memory.
+/// octets. It is kept in a fixed array, so a copy takes no memory.
 #[derive(Clone, Copy)]
 pub struct Name {
     octets: [u8; 16],
@@ -29,7 +30,7 @@ impl Model for Name {
 }
 
 impl Name {
-    /// `None` where the text isn't 1 to 16 such octets.
+    /// Reads a name. `None` if the text has no octets, more than 16, or one that a name may not have.
     pub fn parse(text: &[u8]) -> Option<Name>
         ensures name { SomeIff result (IsName text.now) text.now }
         ensures read { result ≡ name_of text.now }
@@ -46,7 +47,7 @@ impl Name {
     }
 }
 
-/// The name in its array.
+/// The name in its array, with 0 after its octets. `None` for another text.
 fn laid_out(text: &[u8]) -> Option<Name>
     ensures { SomeIff result (IsName text.now) text.now }
 {

@@ -1,3 +1,4 @@
+//! A growing list of octets.
 ghost use Rattle.std.specs.Prelude.{◌≡◌, [], ◌∷◌, ◌++◌, length, take, drop, OnOk, OnErr, IfOk};
 ghost use Rattle.std.specs.Borrow.{Lends, sem, Array, u8 as byte};
 ghost use Rattle.sccp_base.specs.contracts.octets.Octets.{the_row};
@@ -30,7 +31,7 @@ impl Octets {
         }
     }
 
-    /// Puts an octet at the end. Where memory is wanting the octets stay as they were.
+    /// Puts an octet at the end. If memory runs out, the octets stay as they were.
     pub fn push(&mut self, item: u8) -> Result<(), OutOfMemory>
         ensures ok { OnOk result (self.new ≡ self.old ++ item ∷ []) }
         ensures err { OnErr result (self.new ≡ self.old) }
@@ -39,25 +40,28 @@ impl Octets {
         Ok(())
     }
 
+    /// These octets, in the same memory.
     pub fn from_vec(items: Vec<u8>) -> Self
         ensures { result ≡ items.items }
     {
         Octets { items }
     }
 
+    /// Gives the octets back as a vector, in the same memory.
     pub fn into_vec(self) -> Vec<u8>
         ensures { result.items ≡ self }
     {
         self.items
     }
 
+    /// The octets in order.
     pub fn as_slice(&self) -> &[u8]
         ensures { result.now ≡ self.now }
     {
         self.items.as_slice()
     }
 
-    /// The octets to be written over; their number stays.
+    /// The octets, to be written over. Their number stays.
     pub fn as_mut_slice(&mut self) -> &mut [u8]
         ensures* writes_back { sem 𝓛 (Lends the_row (Array byte 0) self.entry result (λ w. take (length self.entry.now) (w ++ drop (length w) self.entry.now))) }
         ensures value { result.now ≡ self.old }

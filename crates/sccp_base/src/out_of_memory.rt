@@ -1,6 +1,7 @@
+//! What is reported when memory runs out.
 use std::alloc::{AllocError, AllocFailed};
 
-/// Memory ran out. This is the one answer that no contract ties to a cause.
+/// Memory ran out. Of all answers, only this one has no cause that a contract names.
 #[derive(Clone, Copy, Debug)]
 pub struct OutOfMemory;
 

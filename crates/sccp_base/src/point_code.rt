@@ -1,3 +1,4 @@
+//! Point codes, and how one is read from a text.
 ghost use Rattle.std.specs.Prelude.{◌≡◌, ◌<◌};
 ghost use Rattle.std.specs.Option.{SomeIff};
 ghost use Rattle.sccp_base.specs.Text.{point_code_of, point_code_by};
@@ -24,7 +25,7 @@ impl Model for PointCode {
 }
 
 impl PointCode {
-    /// `None` above 16383.
+    /// The point code of a number. `None` above 16383.
     pub fn new(value: u16) -> Option<PointCode>
         ensures { SomeIff result (value < 16384) value }
     {
@@ -35,6 +36,7 @@ impl PointCode {
         }
     }
 
+    /// The number, from 0 to 16383.
     pub fn value(&self) -> u16
         ensures same { result ≡ self.now }
         ensures below { self.now < 16384 }
@@ -42,8 +44,8 @@ impl PointCode {
         self.value
     }
 
-    /// Reads one to five decimal digits of a value up to 16383, or zone, area and point as `z-a-p`, each of one to three
-    /// decimal digits, up to 7, 255 and 7: the top 3, the middle 8 and the low 3 bits. `None` for another text.
+    /// Reads one to five decimal digits of a value up to 16383, or zone, area and point as `z-a-p`. Each of these has one to
+    /// three decimal digits, up to 7, 255 and 7: the top 3, the middle 8 and the low 3 bits. `None` for another text.
     pub fn parse(text: &[u8]) -> Option<PointCode>
         ensures { result ≡ point_code_of text.now }
     {
@@ -59,7 +61,7 @@ impl PointCode {
         }
     }
 
-    /// The point code of a zone, an area and a point.
+    /// The point code of a zone, an area and a point. `None` if one of them is no such number.
     fn of_parts(zone: &[u8], area: &[u8], point: &[u8]) -> Option<PointCode>
         ensures { result ≡ point_code_by zone.now area.now point.now }
     {

@@ -1,9 +1,10 @@
+//! Local references.
 ghost use Rattle.std.specs.Prelude.{◌≡◌, ◌<◌, ◌^◌};
 ghost use Rattle.std.specs.Option.{SomeIff};
 
 use std::marker::Model;
 
-/// The 24 bits of a local reference.
+/// A local reference: a number of 24 bits (Q.713 sections 3.2 and 3.3).
 #[derive(Clone, Copy, PartialEq, Eq)]
 pub struct Reference {
     value: u32,
@@ -22,7 +23,7 @@ impl Model for Reference {
 }
 
 impl Reference {
-    /// `None` from 2 to the power of 24 on.
+    /// The reference of a number. `None` from 2 to the power of 24 on.
     pub fn new(value: u32) -> Option<Reference>
         ensures { SomeIff result (value < 2 ^ 24) value }
     {
@@ -33,6 +34,7 @@ impl Reference {
         }
     }
 
+    /// The number, below 2 to the power of 24.
     pub fn value(&self) -> u32
         ensures same { result ≡ self.now }
         ensures below { self.now < 2 ^ 24 }

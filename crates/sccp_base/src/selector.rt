@@ -1,14 +1,15 @@
+//! Selectors of a translation, and how one is read from a text.
 ghost use Rattle.std.specs.Prelude.{◌≡◌};
 ghost use Rattle.std.specs.Option.{SomeIff};
 ghost use Rattle.sccp_base.specs.Selector.{IsSelector, numbers};
-ghost use Rattle.sccp_base.specs.Text.{selector_of, byte_of};
+ghost use Rattle.sccp_base.specs.Text.{selector_of};
 
-use crate::text::{cut, decimal};
+use crate::text::{byte, cut};
 use std::marker::Model;
 
-/// What selects the rows of a translation: the kind of a global title, 1 to 4, and the numbers that this kind has;
-/// a number that it hasn't is 0 (Q.713 section 3.4.2.3). Selectors are ordered by kind, translation type, numbering
-/// plan and nature of address.
+/// What selects the rows of a translation: the kind of a global title, 1 to 4, and the numbers that this kind has. A
+/// number that the kind does not have is 0 (Q.713 section 3.4.2.3). Selectors are ordered by kind, translation type,
+/// numbering plan and nature of address.
 #[derive(Clone, Copy, Debug, PartialEq, Eq, PartialOrd, Ord)]
 pub struct Selector {
     kind: u8,
@@ -30,8 +31,8 @@ impl Model for Selector {
 }
 
 impl Selector {
-    /// `None` where the kind isn't 1 to 4, the numbering plan is above 15, the nature of address is above 127, or a
-    /// number that the kind doesn't use isn't 0.
+    /// The selector of four numbers. `None` if the kind is not 1 to 4, or a number that it does not use is not 0. The same if
+    /// the numbering plan is above 15, or the nature of address is above 127.
     pub fn new(kind: u8, translation: u8, plan: u8, nature: u8) -> Option<Selector>
         ensures { SomeIff result (IsSelector (numbers kind translation plan nature)) (numbers kind translation plan nature) }
     {
@@ -86,8 +87,8 @@ impl Selector {
         self.nature
     }
 
-    /// Reads `1:N`, `2:T`, `3:T:P` or `4:T:P:N`, where T is the translation type, P the numbering plan and N the nature of
-    /// address, each of one to three decimal digits and in its range. `None` for another text.
+    /// Reads `1:N`, `2:T`, `3:T:P` or `4:T:P:N`: T is the translation type, P the numbering plan and N the nature of address.
+    /// Each has one to three decimal digits and is in its range. `None` for another text.
     pub fn parse(text: &[u8]) -> Option<Selector>
         ensures { result ≡ selector_of text.now }
     {
@@ -105,15 +106,5 @@ impl Selector {
             }
             _ => None,
         }
-    }
-}
-
-/// A number up to 255 of one to three decimal digits.
-fn byte(text: &[u8]) -> Option<u8>
-    ensures { result ≡ byte_of text.now }
-{
-    match decimal(text, 3) {
-        Some(value) if value < 256 => Some(value as u8),
-        _ => None,
     }
 }

@@ -1,9 +1,10 @@
+//! Numbers of seven bits.
 ghost use Rattle.std.specs.Prelude.{◌≡◌, ◌<◌};
 ghost use Rattle.std.specs.Option.{SomeIff};
 
 use std::marker::Model;
 
-/// Seven bits, as a sequence number has.
+/// A number of seven bits, such as the send and receive sequence numbers P(S) and P(R) (Q.713 sections 3.8 and 3.9).
 #[derive(Clone, Copy)]
 pub struct Seven {
     value: u8,
@@ -22,7 +23,7 @@ impl Model for Seven {
 }
 
 impl Seven {
-    /// `None` above 127.
+    /// The number itself. `None` above 127.
     pub fn new(value: u8) -> Option<Seven>
         ensures { SomeIff result (value < 128) value }
     {
@@ -33,6 +34,7 @@ impl Seven {
         }
     }
 
+    /// The number, from 0 to 127.
     pub fn value(&self) -> u8
         ensures same { result ≡ self.now }
         ensures below { self.now < 128 }

@@ -1,8 +1,9 @@
+//! Readers of a text's parts.
 ghost use Rattle.std.specs.Prelude.{◌≡◌, ◌≤◌, ◌<◌};
 ghost use Rattle.std.specs.Option.{option_map};
-ghost use Rattle.sccp_base.specs.Text.{cut_at, decimal_of};
+ghost use Rattle.sccp_base.specs.Text.{cut_at, decimal_of, byte_of};
 
-/// What stands before the first separator, and what stands behind it. `None` without a separator.
+/// The text before the first separator, and the text after it. `None` if there is no separator.
 pub fn cut(text: &[u8], separator: u8) -> Option<(&[u8], &[u8])>
     ensures { option_map (λ parts. (parts.0.now, parts.1.now)) result ≡ cut_at separator text.now }
 {
@@ -14,7 +15,7 @@ pub fn cut(text: &[u8], separator: u8) -> Option<(&[u8], &[u8])>
     None
 }
 
-/// The number that one to `most` decimal digits spell; leading zeros are allowed. `None` for another text.
+/// The number that one to `most` decimal digits spell. Leading zeros are allowed. `None` for another text.
 pub fn decimal(text: &[u8], most: usize) -> Option<u64>
     requires { most ≤ 19 }
     ensures { result ≡ decimal_of most text.now }
@@ -30,4 +31,14 @@ pub fn decimal(text: &[u8], most: usize) -> Option<u64>
         value = 10 * value + u64::from(*octet - b'0');
     }
     Some(value)
+}
+
+/// A number up to 255 that one to three decimal digits spell, as a subsystem number is written.
+pub fn byte(text: &[u8]) -> Option<u8>
+    ensures { result ≡ byte_of text.now }
+{
+    match decimal(text, 3) {
+        Some(value) if value < 256 => Some(value as u8),
+        _ => None,
+    }
 }

@@ -1,4 +1,4 @@
--- where a DT1 goes, of a node whose remotes are apart
+-- the section that a DT1 goes to, at a node whose remotes differ
 use Rattle.std.specs.Prelude.{ℕ, ◌≡◌, ◌<◌, Bool, true, false, cond, ◌&&◌, List, [], ◌∷◌, length, filter, Option, Some, None, Contains, slice_index_or}
 use Rattle.std.proofs.Common.{zero, suc, sym, ◌∙◌, ap, subst, inl, inr, ⊎_elim, arith}
 use Rattle.sccp_message.specs.declared.message.Message.TheVariants as messages

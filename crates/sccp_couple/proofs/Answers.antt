@@ -84,7 +84,7 @@ complete_quiet sections slr None = tt
 complete_quiet sections slr (Some s) =
     elim (is_none s.other && is_that s.remote slr) as (λ b. NoData (cond b (record { sections = without s.own sections; sent = [] }) (only_sends sections [])).sent) [ true ↦ tt | false ↦ tt ]
 
--- what isn't a DT1 is answered by none
+-- a message other than a DT1 is not answered by a DT1
 pub quiet : (sections : List Section) (origin : ℕ) (way : Way) (m : Message) → data_of m ≡ None → NoData (on_message sections origin way m).sent
 quiet sections origin way (messages.Cr slr class called params) h = request_quiet sections origin slr class way
 quiet sections origin way (messages.Cc dlr slr class params) h = confirm_quiet sections origin slr class params (known sections origin dlr)
@@ -113,7 +113,7 @@ quiet_toward (Some s) xs h = none_toward s xs h
 pub quiet_answer : (sections : List Section) (event : Event) → data_of event.message ≡ None → answered sections event ≡ []
 quiet_answer sections event h = none_in (coupled sections event).sent (quiet sections event.origin event.way event.message h)
 
--- the section that knows a message
+-- the section that a message belongs to
 pub known_is : (sections : List Section) (origin own : ℕ) (s : Section) → section_at sections own ≡ Some s → is_some (known sections origin own) ≡ true → (known sections origin own ≡ Some s) × (s.point ≡ origin)
 known_is sections origin own s h k =
     let e : known sections origin own ≡ if_from origin s = ap (λ (o : Option Section). option_and_then (if_from origin) o) h in
@@ -134,7 +134,7 @@ remote_in : (point own : ℕ) (o : Option ℕ) (more : Bool) (payload : List ℕ
 remote_in point own None more payload h = absurd (cc)
 remote_in point own (Some r) more payload h = refl
 
--- a DT1 known to a section is sent toward the other one, while both have a remote
+-- a DT1 of one section is sent toward the other one, while both have a remote
 data_sent : (sections : List Section) (s t : Section) (more : Bool) (payload : List ℕ) → other_of sections s ≡ Some t →
     (on_data sections more payload (Some s)).sent ≡ cond (is_some s.remote && is_some t.remote) (to_remote t.point t.own t.remote (λ remote w. messages.Dt1 remote more payload)) []
 data_sent sections s t more payload h =
@@ -145,7 +145,7 @@ same_nothing true true = refl
 same_nothing true false = refl
 same_nothing false b = refl
 
--- what goes toward a section of a DT1 that was passed on, where it was
+-- what goes toward a section of a DT1 that was passed on, if it was
 open_sent : (t : Section) (a b : Bool) (more : Bool) (payload : List ℕ) → b ≡ is_some t.remote →
     pieces_toward (Some t) (cond (a && b) (to_remote t.point t.own t.remote (λ remote w. messages.Dt1 remote more payload)) []) ≡ cond (a && b) (record { more = more; payload = payload } ∷ []) []
 open_sent t true true more payload h = remote_own t.point t.own t.remote more payload (sym h)
@@ -174,7 +174,7 @@ passed_data sections own other s t origin way dlr more payload here others there
       | false ↦ λ e. refl
     ] refl
 
--- the pair's two sections stand, each the other's other: what is known to the one is passed, and sent to the other
+-- both sections of the pair are there, each the other's other: what belongs to the one is passed, and sent to the other
 pub all_passed : (sections : List Section) (own other : ℕ) (s t : Section) (origin : ℕ) (way : Way) (m : Message) →
     section_at sections own ≡ Some s → s.other ≡ Some other → section_at sections other ≡ Some t →
     sent_in sections other own (record { origin = origin; message = m; way = way }) ≡ passed_in sections own (record { origin = origin; message = m; way = way })

@@ -22,7 +22,7 @@ pub data Change (l : List Section) : List Section → Type 0 where
   Releases : (s : Section) (other : ℕ) (t : Section) → section_at l s.own ≡ Some s → s.other ≡ Some other → section_at l other ≡ Some t → t.remote ≢ None → Change l (changed released other (without s.own l))
   Couples : (origin remote to : ℕ) → list_any (is_near_of origin remote) l ≡ false → length l ≤ 4094 → Change l (with_pair (first_new l) (second_new l) origin remote to l)
 
--- a section that knows a message stands under its own reference
+-- a section that knows a message is found under its own reference
 knows_at : (l : List Section) (origin dlr : ℕ) (s : Section) → known l origin dlr ≡ Some s → section_at l s.own ≡ Some s
 knows_at l origin dlr s h =
     ⊎_elim

@@ -1,4 +1,4 @@
--- The parameters of a request that goes on, and what room it needs.
+-- The parameters of a request that goes on, and how much room it needs.
 use Rattle.std.specs.Prelude.{◌≡◌, ℕ, ◌+◌, ◌<◌, ◌≤◌, Bool, true, false, not, cond, ◌&&◌, ◌==◌, nat_le, List, [], ◌∷◌, ◌++◌, length, drop, Option, Some, None, refl, get_or}
 use Rattle.std.specs.Option.{option_map_or}
 use Rattle.std.proofs.Common.{add-one, suc, sym, ◌∙◌, ap, subst, append_assoc}
@@ -16,7 +16,7 @@ use Rattle.sccp_scrc.specs.Rewriting.{to_relay, to_place, spot_of, title_spot, s
 use Rattle.sccp_scrc.proofs.Addresses.{few_octets}
 use Rattle.sccp_couple.specs.Ways.{counted, count_first}
 
--- what was copied, and what is still to be: with the first hop counter one less, where none has come
+-- what is still to be copied; its first hop counter becomes one less, if none was copied before
 abbrev pub ahead : Bool → List Parameter → List Parameter
 ahead is_first params = cond is_first (count_first params) params
 
@@ -35,7 +35,7 @@ counts_on xs copy whole i is_first p lt at e =
     append_assoc copy (next_of is_first p ∷ []) (ahead (is_first && not (p.name == names.hops)) (drop (i + 1) xs))
     ∙ ap (λ (l : List Parameter). copy ++ l) (sym (one_more is_first p (drop (i + 1) xs)) ∙ ap (ahead is_first) (sym cut)) ∙ e
 
--- a hop counter has one octet, so what was short stays short
+-- a hop counter has one octet, so parameters that were short stay short
 pub count_short : (params : List Parameter) → are_short params ≡ true → are_short (count_first params) ≡ true
 count_short [] short = refl
 count_short (p ∷ params) short =

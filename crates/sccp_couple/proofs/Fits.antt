@@ -1,4 +1,4 @@
--- What a relay sends can be written: data and parameters of at most 255 octets, and a called address of at most 21, fit their
+-- What a relay sends can be written. Data and parameters of at most 255 octets, and a called address of at most 21, fit their
 -- lengths, and all pointers fit one octet.
 use Rattle.std.proofs.Common.{◌≡◌, ℕ, suc, ◌+◌, ◌-◌, ◌≤◌, Bool, true, cond, List, [], ◌∷◌, length, Option, Some, None, refl, ap, arith}
 use Rattle.std.specs.Prelude.{nat_le, option_map}

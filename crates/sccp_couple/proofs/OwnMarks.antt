@@ -7,7 +7,7 @@ use Rattle.sccp_couple.specs.Marked.{is_unmarked}
 use Rattle.sccp_couple.specs.Sections.{is_unused, first_new, second_new}
 use Rattle.sccp_couple.proofs.Fresh.{searched}
 
--- each mark says whether its number is the own reference of one of them
+-- each mark says whether its number is the own reference of one of the sections
 abbrev pub AreMarked : List Bool → List Section → Type 0
 AreMarked marks sections = (n : ℕ) → n < length marks → get_or marks n false ≡ list_any (λ s. s.own == n) sections
 
@@ -23,7 +23,7 @@ filter_alike p q a (suc n) h =
 pub unmarked_are : (marks : List Bool) (l : List Section) (a n : ℕ) → AreMarked marks l → a + n ≤ length marks → filter (is_unmarked marks) (range_with_len a n) ≡ filter (is_unused l) (range_with_len a n)
 unmarked_are marks l a n marked within = filter_alike (is_unmarked marks) (is_unused l) a n (λ k le lt. ap not (marked k (omega (arith, lt, within))))
 
--- the two smallest numbers without a mark, sought one behind the other
+-- the two smallest numbers without a mark, looked up one after the other
 pub record Searches (marks : List Bool) (l : List Section) : Type 0 where
   pub some : 0 < length (filter (is_unmarked marks) (range_with_len 1 (length l + 2)))
   pub first : slice_index (filter (is_unmarked marks) (range_with_len 1 (length l + 2))) 0 ≡ first_new l

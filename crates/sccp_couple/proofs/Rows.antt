@@ -1,4 +1,4 @@
--- a worked run: a connection of near point 1 and far point 2, three DT1, and a release
+-- a worked run: a connection with near point 1 and far point 2, three DT1, and a release
 use Rattle.std.specs.Prelude.{ℕ, ◌≡◌, Bool, true, false, List, [], ◌∷◌, None, map, refl}
 use Rattle.sccp_message.specs.declared.message.Message.{Message}
 use Rattle.sccp_message.specs.declared.message.Message.TheVariants as messages

@@ -1,4 +1,4 @@
--- a DT1 that is answered stands in what one pair sends
+-- a DT1 that answers an event is in what one pair sends
 use Rattle.std.specs.Prelude.{ℕ, ◌≡◌, ◌==◌, ◌≤◌, ◌⊎◌, Bool, true, false, not, cond, ◌&&◌, ◌||◌, List, [], ◌∷◌, ◌++◌, length, filter, Option, Some, None, is_some, option_and_then, refl}
 use Rattle.std.specs.List.{filter_map, flat_map}
 use Rattle.std.proofs.Common.{sym, ◌∙◌, ap, subst, inl, inr, ⊎_elim, arith}
@@ -21,7 +21,7 @@ use Rattle.sccp_couple.proofs.Ledger.{has, IsLedger, near_of, far_of}
 abbrev pub dt1 : ℕ → Way → ℕ → Bool → List ℕ → Event
 dt1 origin way dlr more payload = record { origin = origin; message = messages.Dt1 dlr more payload; way = way }
 
--- what a DT1 is answered by: nothing, or one DT1 to the other section of the one that it is known to
+-- what answers a DT1: nothing, or one DT1 to the other section of the one that it belongs to
 pub record Passes (l : List Section) (origin : ℕ) (way : Way) (dlr : ℕ) (more : Bool) (payload : List ℕ) : Type 0 where
   pub section : Section
   pub other : ℕ
@@ -93,7 +93,7 @@ dt1_goes l origin way dlr more payload =
     (cases_Bool (is_established l s)))
     (option_cases (known l origin dlr))
 
--- an event that no established section knows is answered by no DT1
+-- an event that no established section knows is not answered by a DT1
 pub by_kind : (P : Message → Type 0) (m : Message) → (data_of m ≡ None → P m) → ((dlr : ℕ) (more : Bool) (payload : List ℕ) → P (messages.Dt1 dlr more payload)) → P m
 by_kind P m none some =
     ⊎_elim
@@ -125,7 +125,7 @@ one_at_most l event =
     (λ (p : Passes l event.origin event.way dlr more payload). let e = ap (λ (x : List Answer). length (filter_map piece_in x)) p.sent in omega arith)
     (dt1_goes l event.origin event.way dlr more payload))
 
--- pairs without the section that a DT1 is for send nothing of it
+-- pairs without the section that a DT1 is for do not send it
 flat_map-filter : (f : Pair → List Piece) (q : Pair → Bool) → ((p : Pair) → q p ≡ false → f p ≡ []) → (ps : List Pair) → flat_map f ps ≡ flat_map f (filter q ps)
 flat_map-filter f q h [] = refl
 flat_map-filter f q h (p ∷ ps) =
@@ -179,7 +179,7 @@ append_nothing : (xs : List Piece) → xs ++ [] ≡ xs
 append_nothing [] = refl
 append_nothing (x ∷ xs) = ap (λ (t : List Piece). x ∷ t) (append_nothing xs)
 
--- the pair of a section sends to its other one what it passes
+-- the pair of a section sends to the other one what the section passes
 abbrev sides : List Section → Event → ℕ → ℕ → List Piece
 sides l event near far = sent_in l near far event ++ sent_in l far near event
 
@@ -197,7 +197,7 @@ own_added l c origin way dlr more payload o s p at has_other stands near far =
       | false ↦ ap (λ (x : List Piece). sent_in l o dlr event ++ x) deaf ∙ append_nothing (sent_in l o dlr event) ∙ pass
     ]
 
--- where a DT1 isn't answered, its section passes nothing
+-- if a DT1 is not answered, its section passes nothing
 passed_answered : (l : List Section) → (origin : ℕ) (way : Way) (dlr : ℕ) (more : Bool) (payload : List ℕ) (o : ℕ) (s t : Section) → section_at l dlr ≡ Some s → s.other ≡ Some o → section_at l o ≡ Some t →
     passed_in l dlr (dt1 origin way dlr more payload) ≡ answered l (dt1 origin way dlr more payload)
 passed_answered l origin way dlr more payload o s t at has_other there =

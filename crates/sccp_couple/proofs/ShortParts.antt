@@ -1,4 +1,5 @@
--- What is read of octets is short: one octet tells the length of each parameter, and of the data of a type with short pointers.
+-- What is read from octets is short: one octet holds the length of each parameter, and of the data of a type with short
+-- pointers.
 use Rattle.std.proofs.Common.{◌≡◌, ℕ, zero, suc, ◌+◌, ◌-◌, ◌<◌, ◌≤◌, Bool, true, false, cond, leb, eqb, ◌&&◌, List, [], ◌∷◌, ◌++◌, length, get_or, take, drop, Option, Some, None, refl, sym, ap, subst, ◌∙◌, arith, inl, inr}
 use Rattle.std.specs.Prelude.{IfSome, nat_le, slice_range, unwrap_or}
 use Rattle.std.specs.List.{AllByRecursion, flat_map, list_all}
@@ -19,7 +20,7 @@ use Rattle.sccp_message.specs.Messages.{without_address, with_called, with_both,
 use Rattle.sccp_message.specs.Reading.{part_of}
 use Rattle.sccp_message.specs.Reads.{Reads}
 use Rattle.sccp_message.specs.Written.{content}
-use Rattle.sccp_scrc.specs.Unitdata.{called_of}
+use Rattle.sccp_message.specs.Unitdata.{called_of}
 use Rattle.sccp_message.proofs.Made.{made, made_here}
 use Rattle.sccp_couple.specs.Sending.{HasShortParts}
 
@@ -89,7 +90,7 @@ data_short b p i has short h =
 
 -- ---- a line for each type
 
--- A message that isn't connectionless is short, where its parameters are, and its data where its type has short pointers.
+-- A connection-oriented message is short if its parameters are short, and its data are short if its type has short pointers.
 abbrev IsLine : List Parameter → List ℕ → Layout → (ℕ × Message) → Type 0
 IsLine params payload l line =
     layout_of line.0 ≡ Some l → called_of line.1 ≡ None → are_short params ≡ true → (l.long ≡ false → length payload ≤ 255) → HasShortParts line.1
@@ -172,7 +173,7 @@ of_parts code f (called ∷ []) payload params l m e = of_lines code (with_calle
 of_parts code f (called ∷ calling ∷ []) payload params l m e = of_lines code (with_both f called calling payload params) payload params l m (both f called calling payload params l) e
 of_parts code f (called ∷ calling ∷ other ∷ others) payload params l m e = absurd cc
 
--- what is read of octets, and isn't connectionless, is short
+-- what is read from octets is short, unless it is connectionless
 pub reads_short : (b : List ℕ) (m : Message) → AreOctets b → Reads b m → called_of m ≡ None → HasShortParts m
 reads_short b m octets h none =
     let has = h.has_parts in

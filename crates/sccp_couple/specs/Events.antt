@@ -1,11 +1,11 @@
--- What comes to a relay's coupling, and what it answers.
+-- What a relay's coupling receives, and what it answers.
 use Rattle.std.specs.Prelude.{ℕ, Bool, List, Option, Some, None}
 use Rattle.sccp_message.specs.declared.message.Message.{Message}
 use Rattle.sccp_message.specs.declared.message.Message.TheVariants as messages
 use Rattle.sccp_couple.specs.declared.section.Section.{Section}
 use Rattle.sccp_couple.specs.declared.way.Way.{Way}
 
--- a message from a point, and what the relay makes of it where it is a connection request; it is read for one alone
+-- a message from a point, and what the relay makes of it if it is a connection request
 pub record Event : Type 0 where
   pub origin : ℕ
   pub message : Message
@@ -31,6 +31,7 @@ pub record Data : Type 0 where
   pub dlr : ℕ
   pub piece : Piece
 
+-- the data of a message, if it is a DT1
 abbrev pub data_of : Message → Option Data
 data_of (messages.Dt1 dlr more payload) = Some (record { dlr = dlr; piece = record { more = more; payload = payload } })
 data_of _ = None

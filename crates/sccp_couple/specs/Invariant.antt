@@ -3,7 +3,7 @@ use Rattle.std.specs.Prelude.{◌≡◌, ◌≢◌, ℕ, ◌≤◌, true, not, L
 use Rattle.sccp_couple.specs.declared.section.Section.{Section}
 use Rattle.sccp_couple.specs.Sections.{section_at}
 
--- no two sections have one own reference
+-- no two sections have the same own reference
 abbrev pub OwnDiffer : List Section → Type 0
 OwnDiffer [] = Unit {0}
 OwnDiffer (s ∷ rest) = (section_at rest s.own ≡ None) × OwnDiffer rest

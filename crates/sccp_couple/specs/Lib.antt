@@ -1,3 +1,4 @@
+-- The definitions of coupling: sections, events, steps, runs and laws.
 pub mod Sections
 pub mod Events
 pub mod Coupling

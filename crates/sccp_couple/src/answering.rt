@@ -1,4 +1,4 @@
-//! What each type of message does, but the request.
+//! What a node does with each type of message, except CR and RLSD.
 ghost use Rattle.std.specs.Prelude.{◌≡◌, ◌≤◌, ◌++◌, map, length, true, Some, IfOk, OnOk, OnErr};
 ghost use Rattle.sccp_layout.specs.Joining.{are_short};
 ghost use Rattle.sccp_message.specs.declared.message.Message.{Message};
@@ -8,7 +8,6 @@ ghost use Rattle.sccp_couple.specs.Sections.{known, section_at};
 ghost use Rattle.sccp_couple.specs.Coupling.{on_confirm, on_refusal, on_data, on_release, on_complete, release, to_one};
 ghost use Rattle.sccp_couple.specs.Sending.{written_sent};
 
-use crate::params::copied;
 use crate::section::Section;
 use crate::sections::Sections;
 use crate::sending::{confirm_toward, data_toward, error, refuse_toward, to_one, to_two};
@@ -18,7 +17,7 @@ use sccp_manage::Sent;
 use sccp_message::Message;
 use std::alloc::Global;
 
-/// A confirmation that is known to a section.
+/// A confirmation that belongs to a section.
 fn confirm_known(
     alloc: Global,
     sections: &mut Sections,
@@ -66,7 +65,7 @@ pub(crate) fn on_confirm(
     }
 }
 
-/// A refusal that is known to a section.
+/// A refusal that belongs to a section.
 fn refuse_known(
     alloc: Global,
     sections: &mut Sections,
@@ -108,7 +107,7 @@ pub(crate) fn on_refusal(
     }
 }
 
-/// Data that are known to a section.
+/// Data that belong to a section.
 fn data_known(
     alloc: Global,
     sections: &Sections,

@@ -1,3 +1,4 @@
+//! The coupling of one node, as the layer above holds it: its sections, and what it does with each message.
 ghost use Rattle.std.specs.Prelude.{◌≡◌, ◌<◌, [], map, length, IfOk, OnOk, OnErr};
 ghost use Rattle.sccp_couple.specs.Coupling.{coupled};
 ghost use Rattle.sccp_couple.specs.Invariant.{IsCoupling};
@@ -37,7 +38,7 @@ impl Model for Exchange {
 }
 
 impl Exchange {
-    /// The coupling of a node, which is given by its place in the plan, without sections. It takes no memory.
+    /// A coupling without sections. The node is given by its place in the plan. This takes no memory.
     pub fn new(alloc: Global, node: u8) -> Exchange
         ensures node { result.node ≡ node }
         ensures sections { result.sections ≡ [] }
@@ -49,10 +50,10 @@ impl Exchange {
         }
     }
 
-    /// What the node does with a connection-oriented message that comes from a point: its sections afterwards, and what is
-    /// sent, in this order. A connectionless message changes nothing and is not answered.
+    /// What the node does with a connection-oriented message from a point (Q.714 section 3). The result is what it sends, in
+    /// this order. A connectionless message changes nothing and is not answered.
     ///
-    /// An error is want of memory, and leaves the sections as they were.
+    /// The only error is lack of memory; it leaves the sections as they were.
     pub fn on(
         &mut self,
         plan: &Plan,
@@ -132,14 +133,14 @@ impl Exchange {
         }
     }
 
-    /// The place of the node in the plan.
+    /// The place of this node in the plan.
     pub fn node(&self) -> u8
         ensures { result ≡ self.now.node }
     {
         self.node
     }
 
-    /// The sections, in the order in which they were made, of a pair the near one first.
+    /// The sections in the order in which they were made. Of each pair the near one is first.
     pub fn sections(&self) -> &List<Section>
         ensures value { result.now ≡ self.now.sections }
         ensures kept { IsCoupling self.now.sections }
@@ -147,21 +148,21 @@ impl Exchange {
         self.sections.list()
     }
 
-    /// The section that a message from this point with this destination local reference is known to.
+    /// The section to which a message from this point with this destination local reference belongs.
     pub fn known(&self, origin: PointCode, dlr: Reference) -> Option<Section>
         ensures { result ≡ known self.now.sections origin dlr }
     {
         self.sections.known(origin, dlr)
     }
 
-    /// Whether the section and its other one both have a remote.
+    /// Whether data can pass: the section and its other section both have a remote reference.
     pub fn is_established(&self, section: &Section) -> bool
         ensures { result ≡ is_established self.now.sections section.now }
     {
         self.sections.is_established(section)
     }
 
-    /// The same coupling in memory of its own.
+    /// A copy of the coupling in memory of its own. The only error is lack of memory.
     pub fn try_clone(&self) -> Result<Exchange, OutOfMemory>
         ensures { IfOk result (λ copy. copy ≡ self.now) }
     {

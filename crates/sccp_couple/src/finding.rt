@@ -1,4 +1,4 @@
-//! Sections of a list, sought and changed by their own reference.
+//! Sections of a list, looked up and changed by their own reference.
 ghost use Rattle.std.specs.Prelude.{◌≡◌, ◌==◌, Some, IfSome};
 ghost use Rattle.std.specs.List.{list_any};
 ghost use Rattle.std.specs.Option.{option_copied};
@@ -8,14 +8,14 @@ ghost use Rattle.sccp_couple.specs.Sections.{section_at, is_near_of, change, cha
 use crate::section::Section;
 use sccp_base::{PointCode, Reference};
 
-/// The section with an own reference, where it stands.
+/// The section with an own reference, if there is one.
 fn found_at(sections: &[Section], own: Reference) -> Option<&Section>
     ensures { option_copied result ≡ section_at sections.now own }
 {
     sections.iter().find(|s| s.own == own)
 }
 
-/// The section with an own reference.
+/// A copy of the section with an own reference, if there is one.
 pub(crate) fn section_at(sections: &[Section], own: Reference) -> Option<Section>
     ensures { result ≡ section_at sections.now own }
 {
@@ -25,7 +25,7 @@ pub(crate) fn section_at(sections: &[Section], own: Reference) -> Option<Section
     }
 }
 
-/// The section at a place of the list, where it is the one with that own reference.
+/// The section at a place of the list, if it is the one with that own reference.
 pub(crate) fn section_here(sections: &[Section], place: usize, own: Reference) -> Option<Section>
     requires { OwnDiffer sections.now }
     ensures { IfSome result (λ s. section_at sections.now own ≡ Some s) }
@@ -47,14 +47,14 @@ pub(crate) fn has_near(sections: &[Section], point: PointCode, remote: Reference
         .any(|s| s.near && s.point == point && s.remote == Some(remote))
 }
 
-/// One section ends.
+/// Ends one section.
 pub(crate) fn end(sections: &mut Vec<Section>, own: Reference)
     ensures { sections.new.items ≡ without own sections.old.items }
 {
     sections.retain(|s| !(s.own == own));
 }
 
-/// The section with the remote, where it is the one.
+/// The section with this remote reference, if it is the one meant; otherwise as it was.
 fn confirmed(section: Section, own: Reference, remote: Reference) -> Section
     ensures { result ≡ change (confirmed remote) own section }
 {
@@ -68,7 +68,7 @@ fn confirmed(section: Section, own: Reference, remote: Reference) -> Section
     }
 }
 
-/// The remote of one of these is known.
+/// Notes the remote reference of one section of a slice.
 fn confirm_among(sections: &mut [Section], own: Reference, remote: Reference)
     ensures { sections.new ≡ changed (confirmed remote) own sections.old }
 {
@@ -77,14 +77,14 @@ fn confirm_among(sections: &mut [Section], own: Reference, remote: Reference)
     }
 }
 
-/// The remote of one section is known.
+/// Notes the remote reference of one section.
 pub(crate) fn confirm(sections: &mut Vec<Section>, own: Reference, remote: Reference)
     ensures { sections.new.items ≡ changed (confirmed remote) own sections.old.items }
 {
     confirm_among(sections.as_mut_slice(), own, remote);
 }
 
-/// The section without its other, where it is the one.
+/// The section without its other, if it is the one meant; otherwise as it was.
 fn released(section: Section, own: Reference) -> Section
     ensures { result ≡ change released own section }
 {
@@ -98,7 +98,7 @@ fn released(section: Section, own: Reference) -> Section
     }
 }
 
-/// One of these is being released.
+/// Begins the release of one section of a slice.
 fn release_among(sections: &mut [Section], own: Reference)
     ensures { sections.new ≡ changed released own sections.old }
 {
@@ -107,7 +107,7 @@ fn release_among(sections: &mut [Section], own: Reference)
     }
 }
 
-/// One section is being released.
+/// Begins the release of one section.
 pub(crate) fn release(sections: &mut Vec<Section>, own: Reference)
     ensures { sections.new.items ≡ changed released own sections.old.items }
 {

@@ -1,9 +1,9 @@
-//! The coupling of class 2 connections at one relay (Q.714 section 3): the sections of its connections, what each
-//! connection-oriented message does to them, and what is sent.
+//! The coupling of class 2 connections at one relay (Q.714 section 3). It keeps the sections of connections, and says what
+//! each connection-oriented message does to them and what is sent.
 //!
-//! The layer above may rely on the laws of `laws`, which hold of every list of messages, whatever plans and markings say
-//! of the requests among them: what one side of a pair passes on is sent to its other side, in order and unchanged; each
-//! data message that is sent is one of exactly one pair; and none is made up.
+//! The layer above may rely on the laws in `laws`. They hold for every list of messages, whatever plans and markings say of
+//! the requests among them. What one side of a pair passes on is sent to its other side, in order and unchanged. Each data
+//! message that is sent belongs to exactly one pair, and none is made up.
 #![tactic(auto)]
 
 mod answering;

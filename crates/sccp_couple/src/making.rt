@@ -1,4 +1,4 @@
-//! Making a pair.
+//! Making the pair of sections of a connection request.
 ghost use Rattle.std.specs.Prelude.{◌≡◌, ◌++◌, ◌∷◌, [], List, OnOk, OnErr};
 ghost use Rattle.sccp_couple.specs.declared.section.Section.{Section};
 ghost use Rattle.sccp_couple.specs.Sections.{with_pair};
@@ -6,7 +6,7 @@ ghost use Rattle.sccp_couple.specs.Sections.{with_pair};
 use crate::section::Section;
 use sccp_base::{OutOfMemory, PointCode, Reference};
 
-/// One item more, or want of memory and none.
+/// Adds one item, or reports lack of memory and adds none.
 fn push_one<T: Drop>(items: &mut Vec<T>, item: T) -> Result<(), OutOfMemory>
     ensures ok { OnOk result (items.new.items ≡ items.old.items ++ item ∷ []) }
     ensures err { OnErr result (items.new.items ≡ items.old.items) }
@@ -15,14 +15,14 @@ fn push_one<T: Drop>(items: &mut Vec<T>, item: T) -> Result<(), OutOfMemory>
     Ok(())
 }
 
-/// One item less.
+/// Removes the last item.
 fn drop_last<T: Drop>(items: &mut Vec<T>)
     ensures { (rest : List T) (last : T) → items.old.items ≡ rest ++ last ∷ [] → items.new.items ≡ rest }
 {
     let _ = items.pop();
 }
 
-/// Two items more, or want of memory and none.
+/// Adds two items, or reports lack of memory and adds none.
 fn push_both<T: Drop>(items: &mut Vec<T>, first: T, second: T) -> Result<(), OutOfMemory>
     ensures ok { OnOk result (items.new.items ≡ (items.old.items ++ first ∷ []) ++ second ∷ []) }
     ensures err { OnErr result (items.new.items ≡ items.old.items) }
@@ -35,7 +35,7 @@ fn push_both<T: Drop>(items: &mut Vec<T>, first: T, second: T) -> Result<(), Out
     Ok(())
 }
 
-/// The two sections of a connection request.
+/// Adds the two sections of a connection request, the near one first.
 pub(crate) fn make_pair(
     sections: &mut Vec<Section>,
     near: Reference,

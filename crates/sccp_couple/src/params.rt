@@ -1,4 +1,4 @@
-//! Optional parameters of a message that goes on.
+//! Optional parameters of a message that goes on, with the hop counter counted.
 ghost use Rattle.std.specs.Prelude.{◌≡◌, ◌&&◌, ◌==◌, if◌then◌else◌, slice_index, IfOk};
 ghost use Rattle.sccp_layout.specs.Parameter.{parameter};
 ghost use Rattle.sccp_layout.specs.Table as names;
@@ -9,10 +9,10 @@ use sccp_layout::Param;
 use sccp_scrc::one_less;
 use std::alloc::Global;
 
-/// The name of the hop counter (Q.713 section 3.18).
+/// The name code of the hop counter (Q.713 section 3.18).
 pub(crate) const HOPS: u8 = 0x11;
 
-/// The first octet of the contents, 0 where there is none.
+/// The first octet of the contents, or 0 if there is none.
 pub(crate) fn first_octet(octets: &[u8]) -> u8
     ensures { result ≡ slice_index octets.now 0 }
 {
@@ -22,15 +22,7 @@ pub(crate) fn first_octet(octets: &[u8]) -> u8
     }
 }
 
-/// The same parameter in memory of its own.
-fn copy_of(alloc: Global, param: &Param) -> Result<Param, OutOfMemory>
-    ensures { IfOk result (λ copy. copy ≡ param.now) }
-{
-    let octets = Octets::from_vec(Vec::from_slice(alloc, param.octets())?);
-    Ok(Param::new(param.name(), octets).unwrap())
-}
-
-/// A hop counter one less.
+/// The hop counter, one less.
 fn counted(alloc: Global, param: &Param) -> Result<Param, OutOfMemory>
     ensures { IfOk result (λ copy. copy ≡ parameter param.now.name (counted param.now.octets)) }
 {
@@ -39,29 +31,18 @@ fn counted(alloc: Global, param: &Param) -> Result<Param, OutOfMemory>
     Ok(Param::new(param.name(), octets).unwrap())
 }
 
-/// The parameter as it goes on: a hop counter one less, where it is the first one.
+/// The parameter as it goes on: one less if it is the first hop counter.
 fn next_of(alloc: Global, param: &Param, is_first: bool) -> Result<Param, OutOfMemory>
     ensures { IfOk result (λ next. next ≡ (if is_first && (param.now.name == names.hops) then parameter param.now.name (counted param.now.octets) else param.now)) }
 {
     if is_first && param.name() == HOPS {
         counted(alloc, param)
     } else {
-        copy_of(alloc, param)
+        param.try_clone(alloc)
     }
 }
 
-/// The same parameters in memory of their own.
-pub(crate) fn copied(alloc: Global, params: &List<Param>) -> Result<List<Param>, OutOfMemory>
-    ensures { IfOk result (λ copy. copy ≡ params.now) }
-{
-    let mut copy = List::new(alloc);
-    for param in params.as_slice() {
-        copy.push(copy_of(alloc, param)?)?;
-    }
-    Ok(copy)
-}
-
-/// The parameters with the first hop counter one less.
+/// The parameters, with the first hop counter one less.
 pub(crate) fn count_first(alloc: Global, params: &List<Param>) -> Result<List<Param>, OutOfMemory>
     ensures { IfOk result (λ copy. copy ≡ count_first params.now) }
 {

@@ -1,4 +1,4 @@
-//! The two smallest references that no section has.
+//! The two smallest local references that no section has.
 ghost use Rattle.std.specs.Prelude.{◌≡◌, ◌==◌, ◌+◌, ◌<◌, ◌≤◌, ℕ, length, filter, false, slice_index, get_or, All};
 ghost use Rattle.std.specs.List.{list_any, range_with_len};
 ghost use Rattle.sccp_couple.specs.Sections.{first_new, second_new};
@@ -7,7 +7,7 @@ ghost use Rattle.sccp_couple.specs.Marked.{is_unmarked};
 use crate::section::Section;
 use sccp_base::Reference;
 
-/// Sets the mark of each own reference, where there is one for it.
+/// Sets the mark of each own reference, if there is a mark for it.
 fn mark_own(marks: &mut [bool], sections: &[Section])
     requires fresh { All (λ mark. mark ≡ false) marks.old }
     ensures count { length marks.new ≡ length marks.old }
@@ -21,7 +21,7 @@ fn mark_own(marks: &mut [bool], sections: &[Section])
     }
 }
 
-/// Whether the mark of a number isn't set.
+/// Whether the mark of a number is not set.
 fn is_unmarked(marks: &[bool], number: u32) -> bool
     requires { number < length marks.now }
     ensures { result ≡ is_unmarked marks.now number }
@@ -29,7 +29,7 @@ fn is_unmarked(marks: &[bool], number: u32) -> bool
     !marks[number as usize]
 }
 
-/// The least of so many numbers from one on whose mark isn't set.
+/// The least number without a mark, of `count` numbers that begin at `from`.
 fn least_unmarked(marks: &[bool], from: u32, count: u32) -> Reference
     requires marks { from + count ≤ length marks.now }
     requires small { length marks.now ≤ 4097 }
@@ -46,7 +46,7 @@ fn least_unmarked(marks: &[bool], from: u32, count: u32) -> Reference
     unreachable!()
 }
 
-/// The two smallest references that no section has, the smaller one first. None of the marks is set yet.
+/// The two smallest references that no section has, the smaller one first. No mark is set at the start.
 fn new_by_marks(marks: &mut [bool], sections: &[Section]) -> (Reference, Reference)
     requires few { length sections.now ≤ 4094 }
     requires count { length marks.old ≡ 4097 }

@@ -1,4 +1,4 @@
-//! Released (RLSD).
+//! What a node does with a released message (RLSD).
 ghost use Rattle.std.specs.Prelude.{◌≡◌, ◌++◌, map, true, Some, IfOk, OnOk, OnErr};
 ghost use Rattle.sccp_layout.specs.Joining.{are_short};
 ghost use Rattle.sccp_message.specs.declared.message.Message.{Message};
@@ -7,17 +7,16 @@ ghost use Rattle.sccp_couple.specs.Sections.{known};
 ghost use Rattle.sccp_couple.specs.Coupling.{on_release, release, to_one};
 ghost use Rattle.sccp_couple.specs.Sending.{written_sent};
 
-use crate::params::copied;
 use crate::section::Section;
 use crate::sections::Sections;
 use crate::sending::{error, to_one, to_two};
 use sccp_base::{List, OutOfMemory, PointCode, Reference};
-use sccp_layout::Param;
+use sccp_layout::{Param, copied_params};
 use sccp_manage::Sent;
 use sccp_message::Message;
 use std::alloc::Global;
 
-/// The release is completed toward its origin.
+/// Completes the release toward its origin.
 fn complete(
     alloc: Global,
     origin: PointCode,
@@ -29,7 +28,7 @@ fn complete(
     to_one(alloc, origin, Message::Rlc { dlr: slr, slr: dlr })
 }
 
-/// The release is completed toward its origin, and goes on to the other point.
+/// Completes the release toward its origin, and sends a release to the other point.
 #[tactic(auto, using(crate::proofs::Fits::release_fits))]
 fn complete_and_release(
     alloc: Global,
@@ -44,7 +43,7 @@ fn complete_and_release(
     requires { are_short params.now ≡ true }
     ensures { IfOk result (λ sent. sent ≡ map written_sent (to_one origin (Message.Rlc slr dlr) ++ to_one other.now.point (Message.Rlsd remote other.now.own cause params.now))) }
 {
-    let params = copied(alloc, params)?;
+    let params = copied_params(alloc, params)?;
     let completed = Message::Rlc { dlr: slr, slr: dlr };
     let released = Message::Rlsd {
         dlr: remote,
@@ -55,7 +54,7 @@ fn complete_and_release(
     to_two(alloc, origin, completed, other.point, released)
 }
 
-/// The section ends, and its other one is released, or ends too where it has no remote.
+/// Ends the section, and releases its other one. If the other one has no remote, it ends as well.
 fn release_both(
     alloc: Global,
     sections: &mut Sections,
@@ -97,7 +96,7 @@ fn release_both(
     }
 }
 
-/// A release that is known to a section.
+/// A release that belongs to a section.
 fn release_known(
     alloc: Global,
     sections: &mut Sections,

@@ -1,4 +1,4 @@
-//! Connection request (CR).
+//! What a node does with a connection request (CR).
 ghost use Rattle.std.specs.Prelude.{◌≡◌, ◌≤◌, [], map, length, true, IfOk, OnOk, OnErr, ◌<◌};
 ghost use Rattle.sccp_address.specs.Written.{written};
 ghost use Rattle.sccp_layout.specs.Joining.{are_short};
@@ -20,7 +20,7 @@ use sccp_manage::Sent;
 use sccp_message::Message;
 use std::alloc::Global;
 
-/// A request goes on: a pair is made, or the request is refused where there are too many sections.
+/// Sends a request on with a new pair, or refuses it if there are too many sections.
 #[tactic(auto, using(crate::proofs::Fits::request_fits))]
 fn go_on(
     alloc: Global,
@@ -53,7 +53,7 @@ fn go_on(
     Ok(sent)
 }
 
-/// Connection request (CR). One that a near section shows to have come before is not answered.
+/// Connection request (CR). It is not answered if a near section shows that it was received before.
 pub(crate) fn on_request(
     alloc: Global,
     plan: &Plan,

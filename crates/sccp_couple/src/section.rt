@@ -1,3 +1,4 @@
+//! The state of one connection section.
 use sccp_base::{PointCode, Reference};
 
 /// A connection section: one end of a connection that the relay couples (Q.714 section 3).
@@ -11,6 +12,6 @@ pub struct Section {
     pub remote: Option<Reference>,
     /// The own reference of the section that it is coupled with. Without one it is being released.
     pub other: Option<Reference>,
-    /// Whether the request for the connection came over it, and didn't go out over it.
+    /// Whether the connection request was received over it. Otherwise the request was sent out over it.
     pub near: bool,
 }

@@ -1,3 +1,4 @@
+//! The connection sections of a node, with a table that finds each one by its own reference.
 ghost use Rattle.std.specs.Prelude.{◌≡◌, [], Some, OnOk, OnErr, IfOk, IfSome};
 ghost use Rattle.std.specs.List.{list_any};
 ghost use Rattle.sccp_couple.specs.Invariant.{OwnDiffer};
@@ -13,8 +14,8 @@ use std::mem::replace;
 
 /// The connection sections of a node, in the order in which they were made. Contracts see them as that list.
 ///
-/// Beside the list stands at which place each own reference was when the list last changed, so a section is found there
-/// without going over the list.
+/// `places` holds the place that each own reference had when the list last changed. So a section is found there without a
+/// search of the list.
 #[derive(Drop)]
 pub(crate) struct Sections {
     alloc: Global,
@@ -46,7 +47,7 @@ impl Sections {
         }
     }
 
-    /// The same sections in memory of their own.
+    /// A copy of the sections in memory of its own.
     pub(crate) fn try_clone(&self) -> Result<Sections, OutOfMemory>
         ensures { IfOk result (λ copy. copy ≡ self.now) }
     {
@@ -59,13 +60,14 @@ impl Sections {
         })
     }
 
+    /// The sections as a list.
     pub(crate) fn list(&self) -> &List<Section>
         ensures { result.now ≡ self.now }
     {
         &self.list
     }
 
-    /// The section that stands where the own reference was, where it is still that one.
+    /// The section at the place noted for this own reference, if it is still the section with that reference.
     fn seen_at(&self, own: Reference) -> Option<Section>
         ensures { IfSome result (λ s. section_at self.now own ≡ Some s) }
     {
@@ -83,7 +85,7 @@ impl Sections {
         }
     }
 
-    /// The section that a message from this point with this destination local reference is known to.
+    /// The section to which a message from this point with this destination local reference belongs.
     pub(crate) fn known(&self, origin: PointCode, dlr: Reference) -> Option<Section>
         ensures { result ≡ known self.now origin dlr }
     {
@@ -95,7 +97,7 @@ impl Sections {
         }
     }
 
-    /// The other section of one.
+    /// The section that this one is coupled with.
     pub(crate) fn other_of(&self, section: &Section) -> Option<Section>
         ensures { result ≡ other_of self.now section.now }
     {
@@ -103,7 +105,7 @@ impl Sections {
         self.at(own)
     }
 
-    /// Whether the section and its other one both have a remote.
+    /// Whether the section and its other section both have a remote reference.
     pub(crate) fn is_established(&self, section: &Section) -> bool
         ensures { result ≡ is_established self.now section.now }
     {
@@ -123,7 +125,7 @@ impl Sections {
         has_near(self.list.as_slice(), point, remote)
     }
 
-    /// The list, to be changed and put back.
+    /// Takes the list out, to be changed and given back with `put`.
     fn take(&mut self) -> Vec<Section>
         ensures list { result.items ≡ self.old }
         ensures differ { OwnDiffer result.items }
@@ -132,7 +134,7 @@ impl Sections {
         replace(&mut self.list, List::new(self.alloc)).into_vec()
     }
 
-    /// The list as it is from now on.
+    /// Gives the changed list back, and notes the places of its own references.
     fn put(&mut self, list: Vec<Section>)
         requires { OwnDiffer list.items }
         ensures { self.new ≡ list.items }
@@ -141,7 +143,7 @@ impl Sections {
         self.list = List::from_vec(list);
     }
 
-    /// One section ends.
+    /// Ends one section.
     #[tactic(auto, using(crate::proofs::Lookups::differ_without))]
     pub(crate) fn end(&mut self, own: Reference)
         ensures { self.new ≡ without own self.old }
@@ -151,7 +153,7 @@ impl Sections {
         self.put(list);
     }
 
-    /// A section ends, and its other one where it has one.
+    /// Ends a section, and its other section if it has one.
     pub(crate) fn end_both(&mut self, section: &Section)
         ensures { self.new ≡ without_both section.now self.old }
     {
@@ -162,7 +164,7 @@ impl Sections {
         }
     }
 
-    /// The remote of one section is known.
+    /// Notes the remote reference of one section.
     #[tactic(auto, using(crate::proofs::Lookups::differ_confirmed))]
     pub(crate) fn confirm(&mut self, own: Reference, remote: Reference)
         ensures { self.new ≡ changed (confirmed remote) own self.old }
@@ -172,7 +174,7 @@ impl Sections {
         self.put(list);
     }
 
-    /// One section is being released.
+    /// Begins the release of one section.
     #[tactic(auto, using(crate::proofs::Lookups::differ_released))]
     pub(crate) fn release(&mut self, own: Reference)
         ensures { self.new ≡ changed released own self.old }
@@ -182,7 +184,7 @@ impl Sections {
         self.put(list);
     }
 
-    /// Two more sections, with the two smallest references that no section has.
+    /// Makes a pair of sections, with the two smallest references that no section has.
     #[tactic(auto, using(crate::proofs::Keeping::differ_pair))]
     pub(crate) fn couple(
         &mut self,
@@ -212,7 +214,7 @@ impl Sections {
     }
 }
 
-/// At least so many places.
+/// Makes room for at least this number of places.
 fn lengthen(places: &mut Vec<usize>, count: usize) -> Result<(), OutOfMemory> {
     if places.len() < count {
         places.resize(count, 0)?;
@@ -220,7 +222,7 @@ fn lengthen(places: &mut Vec<usize>, count: usize) -> Result<(), OutOfMemory> {
     Ok(())
 }
 
-/// Notes at which place each own reference is.
+/// Notes the place of each own reference in the list.
 fn note_places(places: &mut [usize], sections: &[Section]) {
     for (place, section) in sections.iter().enumerate() {
         let own = section.own.value() as usize;

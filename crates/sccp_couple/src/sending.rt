@@ -1,4 +1,4 @@
-//! Messages as octets on their way to a point.
+//! What a relay sends: messages written as octets, each with the point that it goes to.
 ghost use Rattle.std.specs.Prelude.{◌≡◌, ◌≤◌, ◌++◌, ℕ, [], map, length, true, IfOk, Some, Ok};
 ghost use Rattle.sccp_layout.specs.Joining.{are_short};
 ghost use Rattle.sccp_message.specs.declared.message.Message.{Message};
@@ -7,15 +7,14 @@ ghost use Rattle.sccp_message.specs.Written.{message_octets, Writable};
 ghost use Rattle.sccp_couple.specs.Coupling.{to_one, to_remote, toward};
 ghost use Rattle.sccp_couple.specs.Sending.{written_sent};
 
-use crate::params::copied;
 use crate::section::Section;
 use sccp_base::{List, Octets, OutOfMemory, PointCode, Reference};
-use sccp_layout::Param;
+use sccp_layout::{Param, copied_params};
 use sccp_manage::Sent;
 use sccp_message::{EncodeFault, Message, encode};
 use std::alloc::Global;
 
-/// What is written of a message, which nobody wants any more.
+/// What is written of a message, which is then no longer needed.
 fn written(alloc: Global, message: Message) -> Result<Octets, EncodeFault>
     requires { Writable message }
     ensures { Gives (λ octets. octets) result (Ok (message_octets message)) }
@@ -112,7 +111,7 @@ fn confirmation(
     requires { are_short params.now ≡ true }
     ensures { IfOk result (λ sent. sent ≡ map written_sent (to_one to (Message.Cc dlr slr class params.now))) }
 {
-    let params = copied(alloc, params)?;
+    let params = copied_params(alloc, params)?;
     let message = Message::Cc {
         dlr,
         slr,
@@ -122,7 +121,7 @@ fn confirmation(
     to_one(alloc, to, message)
 }
 
-/// A confirmation toward a section, where there is one with a remote.
+/// A confirmation toward a section, if there is one and it has a remote.
 pub(crate) fn confirm_toward(
     alloc: Global,
     section: Option<Section>,
@@ -141,7 +140,7 @@ pub(crate) fn confirm_toward(
     }
 }
 
-/// A refusal (CREF) with parameters.
+/// A refusal (CREF) with the parameters of the one received.
 #[tactic(auto, using(crate::proofs::Fits::refusal_fits))]
 fn refusal_with(
     alloc: Global,
@@ -153,11 +152,11 @@ fn refusal_with(
     requires { are_short params.now ≡ true }
     ensures { IfOk result (λ sent. sent ≡ map written_sent (to_one to (Message.Cref dlr cause params.now))) }
 {
-    let params = copied(alloc, params)?;
+    let params = copied_params(alloc, params)?;
     to_one(alloc, to, Message::Cref { dlr, cause, params })
 }
 
-/// A refusal toward a section, where there is one with a remote.
+/// A refusal toward a section, if there is one and it has a remote.
 pub(crate) fn refuse_toward(
     alloc: Global,
     section: Option<Section>,
@@ -192,7 +191,7 @@ fn data(
     to_one(alloc, to, Message::Dt1 { dlr, more, payload })
 }
 
-/// Data toward a section, where there is one with a remote.
+/// Data toward a section, if there is one and it has a remote.
 pub(crate) fn data_toward(
     alloc: Global,
     section: Option<Section>,

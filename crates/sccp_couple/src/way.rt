@@ -1,3 +1,4 @@
+//! What a relay makes of a connection request: a refusal with its cause, or the point that it goes to.
 ghost use Rattle.std.specs.Prelude.{◌≡◌, ◌<◌, ◌≤◌, ◌==◌, if◌then◌else◌, length, true, IfOk, IsSomeAnd, Some, slice_get};
 ghost use Rattle.std.specs.List.{list_any};
 ghost use Rattle.sccp_base.specs.Marks.{holds};
@@ -34,14 +35,6 @@ pub enum Way {
     },
 }
 
-/// The point code of a node.
-fn point_of(plan: &Plan, node: u8) -> PointCode
-    requires { node < length plan.now.nodes }
-    ensures { result ≡ point_of plan.now node }
-{
-    plan.nodes().as_slice()[usize::from(node)].pc
-}
-
 /// The node at a place of the plan.
 fn node_of(plan: &Plan, node: u8) -> &Node
     requires { node < length plan.now.nodes }
@@ -58,15 +51,15 @@ fn is_equipped(plan: &Plan, node: u8, ssn: u8) -> bool
     node_of(plan, node).is_equipped(ssn)
 }
 
-/// Whether the node's own subsystem is out of service.
+/// Whether the node's own subsystem is out of service in this marking.
 fn is_out_of_service(plan: &Plan, node: u8, marking: &Marking, ssn: u8) -> bool
     requires { node < length plan.now.nodes }
     ensures { result ≡ holds marking.now (Subsystem (point_of plan.now node) ssn) }
 {
-    marking.holds(Mark::Subsystem(point_of(plan, node), ssn))
+    marking.holds(Mark::Subsystem(plan.point_of(node), ssn))
 }
 
-/// The refusal cause of a request that is routed on a subsystem number.
+/// The refusal cause of a request that is routed on a subsystem number (Q.713 section 3.15).
 fn at_subsystem(plan: &Plan, node: u8, marking: &Marking, ssn: Option<u8>) -> u8
     requires { node < length plan.now.nodes }
     ensures { Way.Refused result ≡ at_subsystem plan.now node marking.now ssn }
@@ -85,7 +78,7 @@ fn at_subsystem(plan: &Plan, node: u8, marking: &Marking, ssn: Option<u8>) -> u8
     }
 }
 
-/// The refusal cause of a title without a row.
+/// The refusal cause of a title that no row of the translation matches.
 fn refusal_of(cause: u8) -> u8
     ensures { result ≡ refusal_of cause }
 {
@@ -96,14 +89,14 @@ fn refusal_of(cause: u8) -> u8
     }
 }
 
-/// The refusal cause where each target is closed.
+/// The refusal cause of a title whose targets are all closed.
 fn blocked_cause(cause: u8) -> u8
     ensures { result ≡ (if cause == 3 then 10 else 5) }
 {
     if cause == 3 { 10 } else { 5 }
 }
 
-/// Whether one more translation uses the hop counter up.
+/// Whether one more translation would use up the hop counter.
 fn is_used_up(params: &List<Param>) -> bool
     ensures { result ≡ is_used_up (param_of params.now names.hops) }
 {
@@ -113,7 +106,7 @@ fn is_used_up(params: &List<Param>) -> bool
     }
 }
 
-/// On to a point, with another called address.
+/// Sends the request on to a point, with another called address.
 #[tactic(auto, using(crate::proofs::Counting::count_short))]
 fn onward(
     alloc: Global,
@@ -135,7 +128,7 @@ fn onward(
     }
 }
 
-/// What a step makes of the request.
+/// What the request becomes after a step of the translation.
 #[tactic(auto, using(crate::proofs::Counting::relay_room, crate::proofs::Counting::place_room))]
 fn after_step(
     alloc: Global,
@@ -156,13 +149,13 @@ fn after_step(
 {
     match step {
         Step::Sent { next, .. } => {
-            // That there are at most 32 digits is known from this call alone.
+            // The proof learns only from this call that there are at most 32 digits.
             let _count = next.digits.len();
-            let to = point_of(plan, next.node);
+            let to = plan.point_of(next.node);
             onward(alloc, to, onward_address(called, spot, step), params)
         }
         Step::Ended { pc, .. } => {
-            if *pc == point_of(plan, node) {
+            if *pc == plan.point_of(node) {
                 return Ok(Way::Refused(6));
             }
             let _count = spot.digits.len();
@@ -174,7 +167,7 @@ fn after_step(
     }
 }
 
-/// What a relay makes of a request, by tests in this order: the class, the routing, the hop counter, and the title.
+/// What a relay makes of a request. The tests are made in this order: class, routing, hop counter, title.
 pub(crate) fn request_way(
     alloc: Global,
     plan: &Plan,

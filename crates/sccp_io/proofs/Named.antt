@@ -19,7 +19,7 @@ file_at-in files place file within is =
 head_named : (file : File) (files : List File) (name : List ℕ) → bytes_eq file.0 name ≡ true → file_named (file ∷ files) name ≡ Some file.1
 head_named file files name same = ap (λ b. cond b (Some file.1) (file_named files name)) same
 
--- the file at that place is the first of those from there on that has the name
+-- the file at that place is the first one from there on that has the name
 pub named_from : (files : List (String Global × Vec ℕ Global)) (place : ℕ) (name : List ℕ) (file : String Global × Vec ℕ Global) → place < length files
     → file ≡ get_or files place file → bytes_eq (string_bytes file.0) name ≡ true
     → file_named (files_in (drop place files)) name ≡ Some (file_at (files_in files) place)

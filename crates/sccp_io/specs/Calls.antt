@@ -19,7 +19,7 @@ pub record FailsCounted {T : Type 0} (result : Result T IoFault) (faults faults'
   pub failed : result ≡ Err Failed
   pub rose : Rose faults faults'
 
--- the call didn't fail, and the count of faults stays
+-- the call did not fail, and the count of faults stays
 pub record Succeeds {T : Type 0} (result : Result T IoFault) (faults faults' : ℕ) : Type 0 where
   pub ok : IsOk result
   pub same : faults' ≡ faults

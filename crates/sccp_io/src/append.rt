@@ -3,7 +3,7 @@ ghost use Rattle.std.specs.Prelude.{◌≡◌, ◌++◌, length, IfOk, IfErr, On
 
 use crate::IoFault;
 
-/// Appends the whole piece, unless memory is wanting.
+/// Appends the whole piece. If memory runs out, nothing is appended.
 pub fn append(taken: &mut Vec<u8>, piece: &[u8]) -> Result<usize, IoFault>
     ensures count { IfOk result (λ n. n ≡ length piece.now) }
     ensures taken { OnOk result (taken.new.items ≡ taken.old.items ++ piece.now) }

@@ -10,6 +10,7 @@ pub struct Bookmark {
 }
 
 impl Bookmark {
+    /// No file is open.
     pub fn new() -> Self
         ensures { result.place ≡ None }
     {
@@ -19,7 +20,7 @@ impl Bookmark {
         }
     }
 
-    /// Opens the first file of that name, if there is one.
+    /// Opens the first file of that name, if there is one, and says whether there is.
     pub fn begin(&mut self, files: &[(String, Vec<u8>)], name: &str) -> bool
         ensures begun { result ≡ true → file_named (files_in files.now) name.now ≡ Some (left_of (files_in files.now) self.new.place self.new.from) }
         ensures absent { result ≡ false → file_named (files_in files.now) name.now ≡ None }
@@ -35,7 +36,7 @@ impl Bookmark {
         }
     }
 
-    /// Copies the next octets to the front of the buffer.
+    /// Copies the next octets of the open file to the front of the buffer, and gives their number.
     pub fn take(&mut self, files: &[(String, Vec<u8>)], buffer: &mut [u8]) -> usize
         requires { 0 < length buffer.old }
         ensures bound { result ≤ length buffer.new }
@@ -48,7 +49,7 @@ impl Bookmark {
         count
     }
 
-    /// The octets that are left of the open file.
+    /// The octets that are left of the open file. If none is open, there are none.
     fn rest<'a>(&self, files: &'a [(String, Vec<u8>)]) -> &'a [u8]
         ensures left { result.now ≡ left_of (files_in files.now) self.now.place self.now.from }
         ensures room { 0 < length result.now → self.now.from + length result.now < 2 ^ 64 }
@@ -60,7 +61,7 @@ impl Bookmark {
     }
 }
 
-/// The place of the first file of that name.
+/// The place of the first file of that name. `None` if there is none.
 fn place_of(files: &[(String, Vec<u8>)], name: &str) -> Option<usize>
     ensures { MatchOption result (file_named (files_in files.now) name.now ≡ None)
         (λ place. file_named (files_in files.now) name.now ≡ Some (file_at (files_in files.now) place)) }
@@ -73,7 +74,7 @@ fn place_of(files: &[(String, Vec<u8>)], name: &str) -> Option<usize>
     None
 }
 
-/// The octets from a place on, none where that is past the end.
+/// The octets from a place on. If that is past the end, there are none.
 fn octets_from(octets: &[u8], from: usize) -> &[u8]
     ensures left { result.now ≡ drop from octets.now }
     ensures room { 0 < length result.now → from + length result.now < 2 ^ 64 }
@@ -85,7 +86,7 @@ fn octets_from(octets: &[u8], from: usize) -> &[u8]
     }
 }
 
-/// Copies as many of the octets as the buffer has room for, and answers how many.
+/// Copies as many of the octets as the buffer has room for, and gives their number.
 fn copy_front(octets: &[u8], buffer: &mut [u8]) -> usize
     ensures bound { result ≤ length octets.now }
     ensures fits { result ≤ length buffer.new }

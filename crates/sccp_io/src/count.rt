@@ -1,4 +1,4 @@
-//! Counts of faults, which stand still at the end of their type.
+//! Counts of faults, which stop at the end of their type.
 ghost use Rattle.std.specs.Prelude.{◌≡◌, ◌≤◌};
 ghost use Rattle.sccp_io.specs.Faults.{Rose, next_count};
 

@@ -1,8 +1,8 @@
-//! What files and sinks answer where they can't go on.
+//! Why a call on files or a sink failed.
 use thiserror::Error;
 
-/// Why a call on files or a sink gave nothing. After either answer nothing that the object tells has changed but its
-/// count of faults.
+/// Why a call on files or a sink gave nothing. After either answer, nothing that the object shows has changed but its count
+/// of faults.
 #[derive(Clone, Copy, Debug, PartialEq, Eq, Error)]
 pub enum IoFault {
     /// The reading or the writing failed, and the object's count of faults rose.

@@ -3,7 +3,7 @@ ghost use Rattle.std.specs.Prelude.{◌≡◌, ℕ, ◌<◌, ◌≤◌, take, le
 
 use crate::{Files, IoFault};
 
-/// Other files, of which each call gives at most so many octets, and at least one where some are left.
+/// Other files, of which each call gives at most `most` octets, and at least one if some are left.
 #[derive(Drop)]
 pub struct InPieces<F: Files> {
     files: F,
@@ -11,7 +11,7 @@ pub struct InPieces<F: Files> {
 }
 
 impl<F: Files> InPieces<F> {
-    /// These files, with at most so many octets at a time; none is taken as one.
+    /// These files, with at most `most` octets at a time. For 0 it is one octet.
     pub fn new(files: F, most: usize) -> Self
         ensures { result.files ≡ files }
     {
@@ -53,7 +53,7 @@ impl<F: Files> Files for InPieces<F> {
     }
 }
 
-/// How many octets of a buffer are offered.
+/// How many octets of a buffer are offered, one at least.
 fn room(buffer: &[u8], most: usize) -> usize
     requires { 0 < length buffer.now }
     ensures some { 0 < result }

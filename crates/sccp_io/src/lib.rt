@@ -1,10 +1,12 @@
 //! Files to read and a sink to write to, each with a count of its faults.
 //!
-//! A program that is generic over `Files` and `Sink` is proved over whatever they may answer. Its own promises can rest on
-//! these: `begin` leaves the whole contents of the name, `take` gives the next octets that are left and 0 at the end alone,
-//! `put` takes one or more octets from the front, a fault changes nothing but the count, and `Failed` comes only where the
-//! count rose. `RealFiles` and `RealSink` are the edge to the system, which tells no contents. The kinds in memory tell
-//! theirs: `SoundFiles` and `SoundSink` fail where they have to, `MemoryFiles` and `MemorySink` also at chosen calls.
+//! A program that is generic over `Files` and `Sink` is proved for whatever they may answer. Its own promises may rely on
+//! these. `begin` leaves the whole contents of the name. `take` gives the next octets that are left, and 0 only at the
+//! end. `put` takes one or more octets from the front. A fault changes only the count, and `Failed` is answered only if
+//! the count rose.
+//!
+//! `RealFiles` and `RealSink` are the edge to the system, which shows no contents. The kinds in memory show theirs.
+//! `SoundFiles` and `SoundSink` fail only if they have to; `MemoryFiles` and `MemorySink` also fail at chosen calls.
 #![tactic(auto)]
 
 mod append;

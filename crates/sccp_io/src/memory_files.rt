@@ -10,9 +10,9 @@ use crate::schedule::Schedule;
 use crate::{Files, IoFault};
 use std::marker::Model;
 
-/// Files in memory, with their octets by name. The calls with the listed numbers fail and are counted as faults; the
-/// calls of all four kinds are numbered together, from 0. Any other call fails only at the begin of an absent name.
-/// Of two files with the same name the first counts.
+/// Files in memory, with their octets by name. The calls with the listed numbers fail and are counted as faults. The calls
+/// of all four kinds are numbered together, from 0. Any other call fails only at the begin of an absent name. Of two files
+/// with the same name, the first counts.
 #[derive(Drop)]
 pub struct MemoryFiles {
     files: Vec<(String, Vec<u8>)>,
@@ -35,7 +35,7 @@ impl Model for MemoryFiles {
 }
 
 impl MemoryFiles {
-    /// The files, with none open, no call made and no fault counted.
+    /// The files, with none open, no call made and no fault counted. `failing` lists the numbers of the calls that fail.
     pub fn new(files: Vec<(String, Vec<u8>)>, failing: Vec<u64>) -> Self
         ensures { result ≡ record {
           files = files_in files.items;

@@ -30,7 +30,8 @@ impl Model for MemorySink {
 }
 
 impl MemorySink {
-    /// A sink with nothing taken, no call made and no fault counted. It keeps the allocator.
+    /// A sink with nothing taken, no call made and no fault counted. `failing` lists the numbers of the calls that fail.
+    /// The sink keeps the allocator.
     pub fn new(alloc: Global, failing: Vec<u64>) -> Self
         ensures { result ≡ record { taken = []; failing = failing.items; calls = 0; faults = 0 } }
     {

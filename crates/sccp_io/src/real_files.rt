@@ -10,7 +10,7 @@ use std::io::{ErrorKind, Read};
 use std::marker::Model;
 use std::{fs, rt};
 
-/// The system's files by std, of which two are open at most. They tell no contents. Each fault is counted, want of memory
+/// The system's files by std, of which at most two are open. They show no contents. Each fault is counted, want of memory
 /// too.
 #[derive(Drop)]
 pub struct RealFiles<R: rt::Files> {
@@ -20,7 +20,7 @@ pub struct RealFiles<R: rt::Files> {
     faults: u64,
 }
 
-/// All that it tells is its count of faults.
+/// Contracts see only its count of faults.
 impl<R: rt::Files> Model for RealFiles<R> {
     ghost Value = { ℕ };
 
@@ -110,7 +110,7 @@ fn open_file<R: rt::Files>(rt: &R, name: &str, faults: &mut u64) -> Result<R::Fi
     }
 }
 
-/// Reads from the open file, where there is one, and counts a fault.
+/// Reads from the open file, if there is one, and counts a fault.
 fn read_some<F: Read>(
     file: &mut Option<F>,
     buffer: &mut [u8],
@@ -134,7 +134,7 @@ fn read_some<F: Read>(
     }
 }
 
-/// Want of memory has an answer of its own.
+/// The answer for an error of the system. Want of memory has an answer of its own.
 fn fault_of(kind: ErrorKind) -> IoFault {
     match kind {
         ErrorKind::OutOfMemory => IoFault::OutOfMemory,

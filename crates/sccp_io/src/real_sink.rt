@@ -7,14 +7,14 @@ use crate::count::raised;
 use crate::{IoFault, Sink};
 use std::marker::Model;
 
-/// The standard output by std. It tells nothing of what it took. Each fault is counted, and a write of nothing is one.
+/// The standard output by std. It does not show what it took. Each fault is counted, and a write of nothing is one.
 #[derive(Drop)]
 pub struct RealSink<R: Print> {
     rt: R,
     faults: u64,
 }
 
-/// All that it tells is its count of faults.
+/// Contracts see only its count of faults.
 impl<R: Print> Model for RealSink<R> {
     ghost Value = { ℕ };
 

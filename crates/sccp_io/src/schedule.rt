@@ -6,7 +6,7 @@ ghost use Rattle.sccp_io.specs.Faults.{Rose, HasCause};
 use crate::IoFault;
 use crate::count::raised;
 
-/// The numbers of the calls that are to fail, the number of the next call, from 0, and how many failed.
+/// The numbers of the calls that are to fail, the number of the next call, from 0, and how many calls failed.
 #[derive(Drop)]
 pub struct Schedule {
     failing: Vec<u64>,
@@ -15,6 +15,7 @@ pub struct Schedule {
 }
 
 impl Schedule {
+    /// No call was made, and none failed. `failing` lists the numbers of the calls that are to fail.
     pub fn new(failing: Vec<u64>) -> Self
         ensures list { result.failing.items ≡ failing.items }
         ensures no_call { result.calls ≡ 0 }
@@ -27,7 +28,7 @@ impl Schedule {
         }
     }
 
-    /// Counts a call, and fails it where it is listed.
+    /// Counts a call, and fails it if it is listed.
     pub fn next(&mut self) -> Result<(), IoFault>
         ensures call { CountsCall self.old.failing.items self.new.failing.items self.old.calls self.new.calls }
         ensures unlisted { OnOk result (is_listed self.old.failing.items self.old.calls ≡ false) }
@@ -45,7 +46,7 @@ impl Schedule {
         }
     }
 
-    /// Counts a fault.
+    /// Counts a fault, and gives it.
     pub fn fail(&mut self) -> IoFault
         ensures fault { result ≡ IoFault.Failed }
         ensures later { self.old.faults ≤ self.new.faults }

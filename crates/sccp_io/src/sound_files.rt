@@ -1,4 +1,4 @@
-//! Files in memory that fail at an absent name alone.
+//! Files in memory that fail only at an absent name.
 ghost use Rattle.std.specs.Prelude.{◌≡◌, ◌<◌, Some, [], true, false, OnOk, OnErr, IsErrOf};
 ghost use Rattle.std.proofs.Common.{refl};
 ghost use Rattle.sccp_io.specs.Faults.{Rose, HasCause};
@@ -10,8 +10,8 @@ use crate::count::raised;
 use crate::{Files, IoFault};
 use std::marker::Model;
 
-/// Files in memory, with their octets by name. They fail at the begin of an absent name alone, and count it. Of two
-/// files with the same name the first counts.
+/// Files in memory, with their octets by name. They fail only at the begin of an absent name, and count it. Of two files
+/// with the same name, the first counts.
 #[derive(Drop)]
 pub struct SoundFiles {
     files: Vec<(String, Vec<u8>)>,
@@ -91,7 +91,7 @@ impl Files for SoundFiles {
     }
 }
 
-/// A fault where the file wasn't found, and counts it.
+/// If the file was not found, `Failed`, and the count of faults is raised.
 fn found_or_counted(found: bool, faults: &mut u64) -> Result<(), IoFault>
     ensures found { OnOk result ((found ≡ true) × (faults.new ≡ faults.old)) }
     ensures absent { OnErr result (found ≡ false) }

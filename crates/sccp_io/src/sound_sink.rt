@@ -1,4 +1,4 @@
-//! A sink in memory that never fails but for memory.
+//! A sink in memory that fails only for want of memory.
 ghost use Rattle.std.specs.Prelude.{◌≡◌, ℕ, ◌<◌, List, Some, []};
 
 use crate::append::append;
@@ -6,7 +6,7 @@ use crate::{IoFault, Sink};
 use std::alloc::Global;
 use std::marker::Model;
 
-/// A sink that keeps what it took in memory. It fails for want of memory alone, so it counts no fault.
+/// A sink that keeps what it took in memory. It fails only for want of memory, so it counts no fault.
 #[derive(Drop)]
 pub struct SoundSink {
     taken: Vec<u8>,

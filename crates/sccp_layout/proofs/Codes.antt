@@ -5,7 +5,7 @@ use Rattle.std.specs.List.{range_with_len}
 use Rattle.std.proofs.lemmas.Bool.{ne_eqb, eq-eqb}
 use Rattle.sccp_layout.specs.Table.{Row, rows, codes, row_in, row}
 
--- the row at a place of a table whose codes count up, and that it is the one that its code finds
+-- The row at a place of a table whose codes count up. It is the row that its code finds.
 record Finds (rs : List Row) (a i : ℕ) (r : Row) : Type 0 where
   code : r.code ≡ a + i
   found : row_in rs r.code ≡ Some r

@@ -1,4 +1,4 @@
--- A message that is joined ends where its last piece ends, so no shorter beginning of it has parts.
+-- A message that is joined ends with its last piece, so no shorter beginning of it has parts.
 use Rattle.std.proofs.Common.{◌≡◌, ◌≢◌, ℕ, zero, suc, ◌+◌, ◌*◌, ◌<◌, ◌≤◌, Bool, true, false, cond, not, ltb, leb, eqb, ◌&&◌, List, [], ◌∷◌, ◌++◌, length, take, drop, Option, Some, None, refl, sym, ap, subst, ◌∙◌, zero-add, append_assoc, arith, inl, inr, ◌⊎◌}
 use Rattle.std.specs.Prelude.{IsTrue, slice_range, slice_get}
 use Rattle.std.specs.List.{flat_map, AllByRecursion}
@@ -15,7 +15,7 @@ use Rattle.sccp_layout.proofs.Lists.{listing, list_is, list_again}
 use Rattle.sccp_layout.proofs.Laws.{first_true, some_part}
 use Rattle.sccp_layout.proofs.Joined.{whole, head, length-head, length-number_octets, number_here, number_drop, length-spelled_parts, some_octets, with_optional, PointsTo, points_to, same_layout}
 
--- ---- a beginning has the same pointers
+-- A beginning has the same pointers.
 
 number_cut : (two : Bool) (b : List ℕ) (n at : ℕ) → at + width two ≤ n → number_at two (take n b) at ≡ number_at two b at
 number_cut true b n at le = rw (get_or-take n b at 0 (omega arith), get_or-take n b (at + 1) 0 (omega arith)) refl
@@ -31,7 +31,7 @@ pointer_cut l b n i le lt = number_cut l.long b n (pointer_place l i) (omega (ar
 place_cut : (l : Layout) (b : List ℕ) (n i : ℕ) → after_pointers l ≤ n → i < l.variable + cond l.optional 1 0 → place l (take n b) i ≡ place l b i
 place_cut l b n i le lt = ap (λ (k : ℕ). pointer_place l i + k + cond l.long 1 0) (pointer_cut l b n i le lt)
 
--- ---- a piece that ends at the end is in no shorter beginning
+-- A piece that ends at the end is in no shorter beginning.
 
 some_true : {X : Type 0} (t : Bool) (x y : X) → cond t (Some x) None ≡ Some y → t ≡ true
 some_true true x y e = refl
@@ -57,9 +57,9 @@ list_ends b n at ps qs lt le here named h =
     let same : ps ≡ qs = list_is ps qs (sym one ∙ other) in
     omega (arith, cut, length-drop at b, length-drop at (take n b), ap length here, ap length h.spelled, ap (λ (z : List Parameter). length (flat_map spelled_parameter z)) same, length-append (flat_map spelled_parameter ps) (0 ∷ []), length-append (flat_map spelled_parameter qs) (0 ∷ h.rest))
 
--- ---- the last piece
+-- The last piece.
 
--- the last variable part, and what stands before it
+-- the last variable part, and the pieces before it
 record Last (l : Layout) (xs : List (List ℕ)) (k : ℕ) (j : ℕ) : Type 0 where
   front : List (List ℕ)
   octets : List ℕ
@@ -83,17 +83,17 @@ no_list : (optional : Bool) → whole (cond optional (spelled_list [] ∷ []) []
 no_list true = refl
 no_list false = refl
 
--- the pieces, where there are no parameters
+-- the pieces, if there are no parameters
 without_list : (l : Layout) (p : Parts) → p.params ≡ [] → pieces l p ≡ spelled_parts l 0 p.variable ++ cond l.optional (spelled_list [] ∷ []) []
 without_list l p none = ap (λ (ps : List Parameter). spelled_parts l 0 p.variable ++ cond l.optional (spelled_list ps ∷ []) []) none
 
--- where nothing follows the pointers, the message ends with them
+-- if nothing follows the pointers, the message ends with them
 ends_with_pointers : (l : Layout) (p : Parts) → Fits l p → p.params ≡ [] → p.variable ≡ [] → length (joined l p) ≤ after_pointers l
 ends_with_pointers l p fits none empty =
     let nothing : whole (pieces l p) ≡ [] = ap whole (without_list l p none ∙ ap (λ (xs : List (List ℕ)). spelled_parts l 0 xs ++ cond l.optional (spelled_list [] ∷ []) []) empty) ∙ no_list l.optional in
     omega (arith, length-append (head l p) (whole (pieces l p)), length-head l p fits, ap length nothing)
 
--- where there are no parameters, the message ends with its last variable part
+-- if there are no parameters, the message ends with its last variable part
 ends_with_part : (l : Layout) (p : Parts) (k : ℕ) → Fits l p → p.params ≡ [] → (last : Last l p.variable k 0) → drop (place l (joined l p) k) (joined l p) ≡ spelled_part (l.long && eqb k 2) last.octets
 ends_with_part l p k fits none last =
     let two : Bool = l.long && eqb k 2 in
@@ -105,7 +105,7 @@ ends_with_part l p k fits none last =
     let to : PointsTo l (joined l p) k ((o.0 ∷ o.1) ++ whole opt) = subst (λ (i : ℕ). PointsTo l (joined l p) i ((o.0 ∷ o.1) ++ whole opt)) last.before (points_to l p last.front o.0 o.1 opt fits split) in
     to.here ∙ ap (λ (x : List ℕ). (o.0 ∷ o.1) ++ x) (no_list l.optional) ∙ append-nil (o.0 ∷ o.1) ∙ sym o.2
 
--- where there are parameters, the message ends with them
+-- if there are parameters, the message ends with them
 ends_with_list : (l : Layout) (p : Parts) (q : Parameter) (qs : List Parameter) → Fits l p → p.params ≡ q ∷ qs → l.optional ≡ true → PointsTo l (joined l p) l.variable (flat_map spelled_parameter (q ∷ qs) ++ 0 ∷ [])
 ends_with_list l p q qs fits same e =
     let front = spelled_parts l 0 p.variable in
@@ -115,7 +115,7 @@ ends_with_list l p q qs fits same e =
     let to : PointsTo l (joined l p) l.variable ((q.name ∷ octets) ++ []) = subst (λ (i : ℕ). PointsTo l (joined l p) i ((q.name ∷ octets) ++ [])) k (points_to l p front q.name octets [] fits split) in
     record { names = to.names; here = to.here ∙ append-nil (q.name ∷ octets) }
 
--- ---- the law
+-- The law.
 
 last_true : (a b c : Bool) → (not a && b && c) ≡ true → c ≡ true
 last_true true b c h = absurd cc
@@ -184,7 +184,7 @@ some_code c = Some c
 same_code : (c d : ℕ) → some_code c ≡ some_code d → c ≡ d
 same_code c d e = cc
 
--- what is joined isn't cut short where a beginning of it has parts
+-- if a beginning of what is joined has parts, it is the whole
 pub cut_has_no_parts : (l : Layout) (p q : Parts) (n : ℕ) → layout_of p.code ≡ Some l → Fits l p → AllByRecursion (λ q. q.name ≢ 0) p.params → HasParts (take n (joined l p)) q → length (joined l p) ≤ n
 cut_has_no_parts l p q zero of_type fits named h = absurd (let none = h.code in cc)
 cut_has_no_parts l p q (suc k) of_type fits named h =

@@ -33,11 +33,11 @@ too_long = refl
 abbrev xudt : Layout
 xudt = record { fixed = 2; variable = 3; optional = true; long = false }
 
--- a called address of so many octets, a calling one of 4, data of 230 and the importance
+-- a called address of `called` octets, a calling one of 4, data of 230 octets, and optional parameters
 abbrev extended : ℕ → List Parameter → Parts
 extended called params = record { code = 17; fixed = 0 ∷ 15 ∷ []; variable = replicate called 0 ∷ replicate 4 0 ∷ replicate 230 0 ∷ []; params = params }
 
--- the pointer to the optional part would be 257; without parameters it is 0, and a parameter that is too long is the first fault
+-- The pointer to the optional part would be 257; without parameters it is 0. A parameter that is too long is reported first.
 too_far : joining xudt (extended 19 (parameter 0x12 (3 ∷ []) ∷ [])) ≡ Err (PointerTooFar 3)
 too_far = refl
 

@@ -20,7 +20,7 @@ use Rattle.sccp_layout.proofs.Laws.{parts_again, some_part}
 abbrev pub whole : List (List ℕ) → List ℕ
 whole ps = flat_map (λ p. p) ps
 
--- ---- numbers
+-- Numbers.
 
 pub length-number_octets : (two : Bool) (n : ℕ) → length (number_octets two n) ≡ width two
 length-number_octets true n = refl
@@ -61,7 +61,7 @@ number_in two (n ∷ ns) before after (suc k) lt =
     next true = omega (arith, length-append before (number_octets true n))
     next false = omega (arith, length-append before (number_octets false n))
 
--- ---- pointers
+-- Pointers.
 
 length-pointers_to : (l : Layout) (i at : ℕ) (ps : List (List ℕ)) → length (pointers_to l i at ps) ≡ length ps
 length-pointers_to l i at [] = refl
@@ -74,7 +74,7 @@ pointers_at l (f ∷ fs) i at p back =
     let e2 : at + length f + length (whole fs) ≡ at + length (f ++ whole fs) = omega (arith, length-append f (whole fs)) in
     pointers_at l fs (i + 1) (at + length f) p back ∙ rw (e1, e2) refl
 
--- ---- places
+-- Places.
 
 abbrev has_optional : Layout → ℕ
 has_optional l = cond l.optional 1 0
@@ -104,7 +104,7 @@ length-head l p fits =
     length-numbers l.long (pointers_to l 0 (after_pointers l) (pieces l p)) ∙ ap (λ (k : ℕ). width l.long * k) (length-pointers_to l 0 (after_pointers l) (pieces l p) ∙ n) in
     omega (arith, ns, fits.fixed, length-append (p.code ∷ p.fixed) (flat_map (number_octets l.long) (pointers_to l 0 (after_pointers l) (pieces l p))))
 
--- what a pointer points to
+-- the octets at the place that a pointer names
 pub record PointsTo (l : Layout) (b : List ℕ) (k : ℕ) (octets : List ℕ) : Type 0 where
   pub names : IsTrue (names_place l b k)
   pub here : drop (place l b k) b ≡ octets
@@ -153,7 +153,7 @@ points_to l p front o os back fits split =
           ∙ drop_at (head l p ++ whole front) ((o ∷ os) ++ whole back) at (length-append (head l p) (whole front) ∙ omega (arith, length-head l p fits));
     }
 
--- ---- parts
+-- Parts.
 
 record Decomposed (xs : List (List ℕ)) (i : ℕ) (x : List ℕ) : Type 0 where
   front : List (List ℕ)
@@ -185,7 +185,7 @@ pub number_drop : (two : Bool) (b : List ℕ) (q : ℕ) → number_at two b q �
 number_drop true b q = let k : q + 0 ≡ q = add-zero q in rw (get_or-drop q b 0 0, get_or-drop q b 1 0, k) refl
 number_drop false b q = let k : q + 0 ≡ q = add-zero q in rw (get_or-drop q b 0 0, k) refl
 
--- contents behind their length
+-- contents after their length
 contents_here : (two : Bool) (b : List ℕ) (q : ℕ) (octets more : List ℕ) → drop q b ≡ spelled_part two octets ++ more → contents two b q ≡ Some octets
 contents_here two b q octets more e =
     let len : ℕ = length octets in
@@ -197,7 +197,7 @@ contents_here two b q octets more e =
     let n : q + width two + number_at two b q - (q + width two) ≡ len = omega (arith, number) in
     rw (fits, n, start, take_at octets more len refl) refl
 
--- ---- the whole
+-- The whole.
 
 fixed_here : (l : Layout) (p : Parts) → Fits l p → p.fixed ≡ slice_range (joined l p) 1 (1 + l.fixed)
 fixed_here l p fits =
@@ -274,7 +274,7 @@ some l = Some l
 pub same_layout : (l m : Layout) → some l ≡ some m → l ≡ m
 same_layout l m e = cc
 
--- what joining answers has the parts
+-- a message that joining gives has the parts
 pub answer_has_parts : (l : Layout) (p : Parts) (r : Result (List ℕ) JoinFault) → layout_of p.code ≡ Some l → FitsLayout p → Gives (λ octets. octets) r (joining l p) → OnOk r (AllByRecursion (λ q. q.name ≢ 0) p.params) → IfOk r (λ octets. HasParts octets p)
 answer_has_parts l p (Err e) of_type fits given named = tt
 answer_has_parts l p (Ok octets) of_type fits given named =

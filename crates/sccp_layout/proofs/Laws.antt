@@ -20,7 +20,7 @@ use Rattle.sccp_layout.specs.Joining.{spelled_parameter}
 use Rattle.sccp_layout.specs.Parts.{FitsLayout, BeginsWithList, ParamsAre, HasParts}
 use Rattle.sccp_layout.proofs.Lists.{list_again, list_takes}
 
--- ---- one part
+-- One part.
 
 part_of : {X : Type 0} (names : Bool) (o : Option X) (bad_part bad_pointer : SplitFault) (x : X) → cond names (ok_or o bad_part) (Err bad_pointer) ≡ Ok x → (names ≡ true) × (o ≡ Some x)
 part_of true (Some y) d e x h = (refl, cc)
@@ -30,7 +30,7 @@ part_of false o d e x h = absurd cc
 part_again : {X : Type 0} (names : Bool) (o : Option X) (bad_part bad_pointer : SplitFault) (x : X) → names ≡ true → o ≡ Some x → cond names (ok_or o bad_part) (Err bad_pointer) ≡ Ok x
 part_again names o d e x t s = rw (t, s) refl
 
--- ---- the optional part
+-- The optional part.
 
 params_cases : (none names : Bool) (o : Option (List Parameter)) (bad_list bad_pointer : SplitFault) (ps : List Parameter) → cond none (Ok []) (cond names (ok_or o bad_list) (Err bad_pointer)) ≡ Ok ps
     → ((none ≡ true) × (ps ≡ [])) ⊎ ((none ≡ false) × (names ≡ true) × (o ≡ Some ps))
@@ -81,7 +81,7 @@ params_again l b ps (inr (optional, names, list)) =
     let there : (not l.optional || eqb (pointer l b i) 0) ≡ false = none_false l.optional (eqb (pointer l b i) 0) optional some_pointer in
     rw there (part_again (names_place l b i) (listed b (place l b i)) BadOptional (BadPointer i) ps names read)
 
--- ---- all parts
+-- All parts.
 
 abbrev made : ℕ → Layout → List ℕ → List (List ℕ) → List Parameter → Parts
 made code l b variable params = record { code = code; fixed = slice_range b 1 (1 + l.fixed); variable = variable; params = params }

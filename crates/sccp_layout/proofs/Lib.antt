@@ -1,3 +1,4 @@
+-- Facts about the parts of a message, for the proofs of this crate and of others.
 pub mod Examples
 pub mod Codes
 pub mod Listed

@@ -6,7 +6,7 @@ use Rattle.std.proofs.lemmas.List.{append-nil}
 use Rattle.sccp_layout.specs.Parameter.{Parameter, parameter}
 use Rattle.sccp_layout.specs.Places.{contents, listed_below}
 
--- what was listed before, and what is still listed
+-- the parameters listed before, and then those still to be listed
 abbrev pub with_front : List Parameter → Option (List Parameter) → Option (List Parameter)
 with_front front read = option_map (λ ps. front ++ ps) read
 

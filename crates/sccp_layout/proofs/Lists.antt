@@ -1,4 +1,4 @@
--- A list of parameters that is read stands there, and one that stands there is read.
+-- A list of parameters that is read is at its place, and a list at that place is read.
 use Rattle.std.proofs.Common.{◌≡◌, ◌≢◌, ℕ, zero, suc, ◌+◌, ◌-◌, ◌<◌, true, false, leb, eqb, List, [], ◌∷◌, ◌++◌, length, get_or, take, drop, Option, Some, None, refl, sym, ap, subst, ◌∙◌, append_assoc, arith, inl, inr}
 use Rattle.std.specs.Prelude.{option_map, option_and_then, slice_range}
 use Rattle.std.specs.List.{flat_map, AllByRecursion}
@@ -12,7 +12,7 @@ use Rattle.sccp_layout.specs.Joining.{spelled_parameter}
 use Rattle.sccp_layout.specs.Parts.{BeginsWithList}
 use Rattle.sccp_layout.proofs.Listed.{past_end, at_end, one}
 
--- what stands at a place
+-- the octet at a place, and those after it
 record Stands (b : List ℕ) (p x : ℕ) (xs : List ℕ) : Type 0 where
   inside : p < length b
   is : get_or b p 0 ≡ x
@@ -25,7 +25,7 @@ stands b p x xs e = record {
   behind = sym (drop-drop 1 p b) ∙ ap (drop 1) e;
 }
 
--- contents of one octet of length
+-- contents after a length of one octet
 pub contents_again : (b : List ℕ) (q : ℕ) (octets more : List ℕ) → drop q b ≡ length octets ∷ (octets ++ more) → contents false b q ≡ Some octets
 contents_again b q octets more e =
     let s = stands b q (length octets) (octets ++ more) e in

@@ -18,17 +18,17 @@ use Rattle.sccp_layout.specs.Places.{width, pointer_place, after_pointers}
 use Rattle.sccp_layout.specs.Parts.{Fits}
 use Rattle.sccp_layout.specs.Joining.{number_octets, spelled_part, spelled_parts, spelled_list, optional_pieces, pieces, pointer_to, pointers_to, joined, most, first_long, first_far, joining, with_number, with_numbers, are_short}
 
--- the item at a place, and those behind it
+-- the item at a place, and those after it
 pub at_place : {A : Type 0} (xs : List A) (i : ℕ) (x : A) → i < length xs → drop i xs ≡ get_or xs i x ∷ drop (i + 1) xs
 at_place xs i x lt = drop-cons xs i x lt ∙ (let n : i + 1 ≡ suc i = add-one i in rw n refl)
 
--- ---- the length of each part
+-- The length of each part.
 
 pub record Short (l : Layout) (i : ℕ) (x : List ℕ) (more : List (List ℕ)) (params : List Parameter) : Type 0 where
   pub here : length x ≤ most (l.long && eqb i 2)
   pub others : first_long l (i + 1) more params ≡ None
 
--- a part, where none is too long
+-- a part, if none is too long
 pub short_here : (l : Layout) (i : ℕ) (xs : List (List ℕ)) (x : List ℕ) (more : List (List ℕ)) (params : List Parameter) → xs ≡ x ∷ more → first_long l i xs params ≡ None → Short l i x more params
 short_here l i xs x more params e short =
     by_test (leb (length x) (most (l.long && eqb i 2))) refl (ap (λ (ys : List (List ℕ)). first_long l i ys params) (sym e) ∙ short)
@@ -41,7 +41,7 @@ short_params : (b : Bool) (i : ℕ) → cond b None (Some i) ≡ None → IsTrue
 short_params true i e = refl
 short_params false i e = absurd cc
 
--- where nothing is too long, neither parts nor parameters are
+-- if nothing is too long, neither parts nor parameters are
 pub none_long : (l : Layout) (i : ℕ) (xs : List (List ℕ)) (params : List Parameter) → first_long l i xs params ≡ None → (first_long l i xs [] ≡ None) × IsTrue (are_short params)
 none_long l i [] params h = (refl, short_params (are_short params) i h)
 none_long l i (x ∷ xs) params h =
@@ -57,7 +57,7 @@ pub width_small : (two : Bool) → width two ≤ 2
 width_small true = omega arith
 width_small false = omega arith
 
--- ---- the pointers
+-- The pointers.
 
 length-spelled_part : (two : Bool) (x : List ℕ) → length (spelled_part two x) ≡ length x + width two
 length-spelled_part true x = omega arith
@@ -67,7 +67,7 @@ pointer_to-spelled_part : (l : Layout) (i place : ℕ) (two : Bool) (x : List �
 pointer_to-spelled_part l i place true x = refl
 pointer_to-spelled_part l i place false x = refl
 
--- the pointer to a part, and those behind it
+-- the pointer to a part, and those after it
 pub pointers_to-part : (l : Layout) (i place next pointer : ℕ) (xs : List (List ℕ)) (x : List ℕ) (more opt : List (List ℕ)) → xs ≡ x ∷ more → pointer ≡ place - (pointer_place l i + cond l.long 1 0) → next ≡ place + (length x + width (l.long && eqb i 2))
     → pointers_to l i place (spelled_parts l i xs ++ opt) ≡ pointer ∷ pointers_to l (i + 1) next (spelled_parts l (i + 1) more ++ opt)
 pointers_to-part l i place next pointer xs x more opt e p n =
@@ -97,14 +97,14 @@ number_by : (b : Bool) (l : Layout) (i : ℕ) (octets : List ℕ) (n : ℕ) (ns 
 number_by true l i octets n ns t later = rw t (later ∙ rw (append_assoc octets (number_octets l.long n) (flat_map (number_octets l.long) ns)) refl)
 number_by false l i octets n ns t later = rw t refl
 
--- pointers that are written one by one are written, or the first that doesn't fit is the fault
+-- pointers are written one by one; if one does not fit, the first such is the fault
 pub with_numbers-unless : (l : Layout) (i : ℕ) (octets ns : List ℕ) → with_numbers l i octets ns ≡ numbered l i octets ns
 with_numbers-unless l i octets [] = ap ok (sym (append-nil octets))
 with_numbers-unless l i octets (n ∷ ns) = number_by (leb n (most l.long)) l i octets n ns refl (with_numbers-unless l (i + 1) (octets ++ number_octets l.long n) ns)
 
--- ---- the whole
+-- The whole.
 
--- the optional part, where parts fit a layout
+-- the optional part, if parts fit a layout
 pub list_is : (l : Layout) (p : Parts) → Fits l p → flat_map (λ piece. piece) (optional_pieces l p.params) ≡ spelled_list p.params
 list_is l p fits = by_test l.optional fits.params
   where
@@ -122,7 +122,7 @@ start p = p.code ∷ p.fixed
 abbrev pointers : Layout → Parts → List ℕ
 pointers l p = pointers_to l 0 (after_pointers l) (pieces l p)
 
--- where no part is too long, a pointer that doesn't fit is the fault
+-- if no part is too long, a pointer that does not fit is the fault
 pub join_far : (memory : Bool) (l : Layout) (p : Parts) (e : JoinFault) → first_long l 0 p.variable p.params ≡ None → MatchBool memory ⊤ (with_numbers l 0 (p.code ∷ p.fixed) (pointers_to l 0 (after_pointers l) (pieces l p)) ≡ Err e) → MatchBool memory ⊤ (joining l p ≡ Err e)
 join_far true l p e short far = tt
 join_far false l p e short far =
@@ -130,7 +130,7 @@ join_far false l p e short far =
     let is : unless fault (Ok (start p ++ flat_map (number_octets l.long) (pointers l p))) ≡ Err e = sym (with_numbers-unless l 0 (start p) (pointers l p)) ∙ far in
     rw short (unless_err fault (start p ++ flat_map (number_octets l.long) (pointers l p)) (joined l p) e is)
 
--- where no part is too long and all pointers fit, the message is what is put together
+-- if no part is too long and all pointers fit, the message is what is put together
 pub join_ok : (l : Layout) (p : Parts) (w octets : List ℕ) → first_long l 0 p.variable p.params ≡ None → Fits l p → with_numbers l 0 (p.code ∷ p.fixed) (pointers_to l 0 (after_pointers l) (pieces l p)) ≡ Ok w
     → octets ≡ (w ++ flat_map (λ piece. piece) (spelled_parts l 0 p.variable)) ++ spelled_list p.params → joining l p ≡ Ok octets
 join_ok l p w octets short fits near e =

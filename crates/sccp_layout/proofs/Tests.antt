@@ -1,4 +1,4 @@
--- tests of lengths and pointers, one after the other
+-- Tests of lengths and pointers, one after the other.
 use Rattle.std.specs.Prelude.{◌≡◌, ℕ, Bool, true, cond, Option, Some, None, option_map}
 use Rattle.std.specs.Option.{option_or}
 use Rattle.sccp_layout.specs.declared.parts.JoinFault.{JoinFault}
@@ -12,7 +12,7 @@ pub none_failed : (a b c d : Bool) → a ≡ true → b ≡ true → c ≡ true 
 unfolding first_failed
 none_failed a b c d p q r s = λ i. cond (p i) (cond (q i) (cond (r i) (cond (s i) None (Some 3)) (Some 2)) (Some 1)) (Some 0)
 
--- lengths, and then pointers
+-- a fault of lengths, or else one of pointers
 unfoldable pub fault : Option ℕ → Option ℕ → Option JoinFault
 fault x y = option_or (option_map TooLong x) (option_map PointerTooFar y)
 

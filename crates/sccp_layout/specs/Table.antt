@@ -1,8 +1,10 @@
--- The types of message: their codes and their parts (ITU-T Q.713 sections 2.1 and 4). Of which optional parameters the contents are tested is this project's choice.
+-- The types of message: their codes and their parts (ITU-T Q.713 sections 2.1 and 4). Which optional parameters have their
+-- contents tested is this project's choice.
 use Rattle.std.specs.Prelude.{ℕ, ◌==◌, Bool, true, false, if◌then◌else◌, List, [], ◌∷◌, Option, Some, None, option_map, map, ◌≡◌, refl}
 use Rattle.std.specs.List.{range_with_len}
 use Rattle.sccp_layout.specs.declared.shape.Layout.{Layout}
 
+-- a type of message: its code and its parts
 pub record Row : Type 0 where
   pub code : ℕ
   pub layout : Layout
@@ -11,18 +13,20 @@ pub record Row : Type 0 where
   -- the optional parameters whose contents are tested
   pub known : List ℕ
 
--- code, octets of the fixed part, variable parts, addresses among them, whether an optional part may follow and what is known in it
+-- Code, octets of the fixed part, variable parts, addresses among them, whether an optional part may follow, and which
+-- parameters in it are known.
 abbrev pub type : ℕ → ℕ → ℕ → ℕ → Bool → List ℕ → Row
 type code fixed variable addresses optional known = record { code = code; layout = record { fixed = fixed; variable = variable; optional = optional; long = false }; addresses = addresses; known = known }
 
--- pointers and the length of the data have two octets
+-- the same for a type whose pointers and length of data have two octets
 abbrev pub long_type : ℕ → ℕ → ℕ → ℕ → Bool → List ℕ → Row
 long_type code fixed variable addresses optional known = record { code = code; layout = record { fixed = fixed; variable = variable; optional = optional; long = true }; addresses = addresses; known = known }
 
--- layouts with pointers of one octet, and of two
+-- a layout whose pointers have one octet
 abbrev pub short_layout : ℕ → ℕ → Bool → Option Layout
 short_layout fixed variable optional = Some (record { fixed = fixed; variable = variable; optional = optional; long = false })
 
+-- a layout whose pointers have two octets
 abbrev pub long_layout : ℕ → ℕ → Bool → Option Layout
 long_layout fixed variable optional = Some (record { fixed = fixed; variable = variable; optional = optional; long = true })
 
@@ -73,7 +77,7 @@ rows =
     long_type 0x14 2 3 2 true (segmentation ∷ importance ∷ []) ∷  -- LUDTS
     []
 
--- The codes are 01 to 14 hexadecimal in order, so none stands there twice.
+-- the codes are 01 to 14 hexadecimal in order, so each is there once
 pub codes : map (λ r. r.code) rows ≡ range_with_len 1 20
 codes = refl
 
@@ -82,6 +86,7 @@ abbrev pub row_in : List Row → ℕ → Option Row
 row_in [] code = None
 row_in (r ∷ rs) code = if code == r.code then Some r else row_in rs code
 
+-- the row of a code
 abbrev pub row : ℕ → Option Row
 row code = row_in rows code
 

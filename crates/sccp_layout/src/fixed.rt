@@ -1,13 +1,15 @@
+//! Fields of the fixed part.
 ghost use Rattle.std.specs.Prelude.{◌≡◌, ◌≤◌, ◌+◌, ◌↔◌, length, slice_range, IsSome, IfSome};
 
-/// So many octets, as a field of the fixed part has (Q.713 section 1).
+/// `N` octets, as a field of the fixed part has (Q.713 section 1).
 #[derive(Clone, Copy)]
 pub struct Fixed<const N: usize> {
+    /// The octets, the first one in the message first.
     pub octets: [u8; N],
 }
 
 impl<const N: usize> Fixed<N> {
-    /// The octets from a place on; `None` where they aren't all there.
+    /// The octets from a place on. `None` if fewer than `N` are there.
     pub fn take(octets: &[u8], place: usize) -> Option<Fixed<N>>
         ensures fits { IsSome result ↔ (place + N ≤ length octets.now) }
         ensures same { IfSome result (λ fixed. fixed.octets ≡ slice_range octets.now place (place + N)) }

@@ -1,3 +1,4 @@
+//! Writing a message from its parts (Q.713 sections 1 and 2).
 ghost use Rattle.std.specs.Prelude.{◌≡◌, ◌≢◌, ◌<◌, ◌≤◌, ◌+◌, ◌&&◌, ◌==◌, ◌++◌, [], ◌∷◌, length, IsTrue, Some, None, IfOk, OnOk};
 ghost use Rattle.std.specs.List.{flat_map, AllByRecursion};
 ghost use Rattle.sccp_layout.specs.Table.{layout_of};
@@ -22,14 +23,14 @@ fn most_of(two: bool) -> usize
     if two { 65535 } else { 255 }
 }
 
-// Whether the length of variable part i has two octets: of the long types only the data have such a length.
+// Whether the length of variable part i has two octets. In the long types, only the data have such a length.
 fn is_long(layout: &Layout, i: u8) -> bool
     ensures { result ≡ (layout.now.long && (i == 2)) }
 {
     layout.long && i == 2
 }
 
-// A pointer or a length: a number of one octet, or of two with the low one first.
+// Adds a pointer or a length: a number of one octet, or of two with the low one first.
 fn push_number(octets: &mut Vec<u8>, two: bool, number: usize) -> Result<(), AllocError>
     requires { number ≤ most two }
     ensures { OnOk result (octets.new.items ≡ octets.old.items ++ number_octets two number) }
@@ -42,14 +43,14 @@ fn push_number(octets: &mut Vec<u8>, two: bool, number: usize) -> Result<(), All
     }
 }
 
-// Whether each parameter's length fits its octet.
+// Whether the length of each parameter fits its octet.
 fn are_short(params: &[Param]) -> bool
     ensures { result ≡ are_short params.now }
 {
     params.iter().all(|param| param.octets().len() <= 255)
 }
 
-// The first part that is longer than its length can say; the parameters count as the part behind the variable ones.
+// The first part that is longer than its length can say. The parameters count as the part after the variable ones.
 fn long_part(layout: &Layout, variable: &[Part<'_>], params: &[Param]) -> Option<u8>
     requires { length variable.now ≡ layout.now.variable }
     ensures { result ≡ first_long layout.now 0 variable.now params.now }
@@ -66,7 +67,7 @@ fn long_part(layout: &Layout, variable: &[Part<'_>], params: &[Param]) -> Option
     }
 }
 
-// The octets and pointer i behind them.
+// Adds pointer i after the octets. `PointerTooFar` if its value does not fit.
 fn with_pointer(
     mut octets: Vec<u8>,
     layout: &Layout,
@@ -82,7 +83,7 @@ fn with_pointer(
     Ok(octets)
 }
 
-// The octets and the pointer to the optional part behind them, where the type has one. It is 0 where there is no parameter.
+// Adds the pointer to the optional part after the octets, if the type has one. It is 0 if there is no parameter.
 fn with_optional_pointer(
     octets: Vec<u8>,
     layout: &Layout,
@@ -106,8 +107,8 @@ fn with_optional_pointer(
     with_pointer(octets, layout, layout.variable, pointer)
 }
 
-// The octets and all pointers behind them, each computed from the lengths of the parts before its own. A pointer counts
-// from itself, and one of two octets from the second of them.
+// Adds all pointers after the octets. Each is computed from the lengths of the parts before its own. A pointer counts
+// from itself, and one of two octets from its second octet.
 fn with_pointers(
     mut octets: Vec<u8>,
     layout: &Layout,
@@ -131,7 +132,7 @@ fn with_pointers(
     with_optional_pointer(octets, layout, params, place)
 }
 
-// The variable parts, each a length and its contents.
+// Adds the variable parts, each a length and its contents.
 fn push_parts(
     octets: &mut Vec<u8>,
     layout: &Layout,
@@ -150,7 +151,7 @@ fn push_parts(
     Ok(())
 }
 
-// The optional parameters, each a name, a length and its contents.
+// Adds the optional parameters, each a name, a length and its contents.
 fn push_params(octets: &mut Vec<u8>, params: &[Param]) -> Result<(), AllocError>
     requires { IsTrue (are_short params.now) }
     ensures spelled { let list = flat_map spelled_parameter params.now in
@@ -165,7 +166,7 @@ fn push_params(octets: &mut Vec<u8>, params: &[Param]) -> Result<(), AllocError>
     Ok(())
 }
 
-// The optional parameters and their end; nothing for none.
+// Adds the optional parameters and their end octet 00. If there are no parameters, nothing is added.
 fn push_list(octets: &mut Vec<u8>, params: &[Param]) -> Result<(), AllocError>
     requires { IsTrue (are_short params.now) }
     ensures spelled { OnOk result (octets.new.items ≡ octets.old.items ++ spelled_list params.now) }
@@ -179,7 +180,7 @@ fn push_list(octets: &mut Vec<u8>, params: &[Param]) -> Result<(), AllocError>
     Ok(())
 }
 
-// How many octets the message has at most, for the one buffer; the largest number where no memory holds them.
+// How many octets the message has at most, for its one buffer. If no memory holds so much, it is the largest number.
 fn room_for(layout: &Layout, variable: &[Part<'_>], params: &[Param]) -> usize
     requires { layout.now.variable < 8 }
 {
@@ -192,7 +193,7 @@ fn room_for(layout: &Layout, variable: &[Part<'_>], params: &[Param]) -> usize
     })
 }
 
-// The type and the fixed part, in a buffer with room for so many octets.
+// The type and the fixed part, in a buffer with room for `room` octets.
 fn started(alloc: Global, room: usize, code: u8, fixed: &[u8]) -> Result<Vec<u8>, AllocError>
     ensures { IfOk result (λ octets. octets.items ≡ code ∷ fixed.now) }
 {
@@ -202,7 +203,7 @@ fn started(alloc: Global, room: usize, code: u8, fixed: &[u8]) -> Result<Vec<u8>
     Ok(octets)
 }
 
-// The message of a layout that the parts fit, where no part is too long.
+// The message of parts that fit a layout and are not too long.
 fn short_joined(
     alloc: Global,
     layout: &Layout,
@@ -224,7 +225,7 @@ fn short_joined(
     Ok(Octets::from_vec(octets))
 }
 
-// The message of a layout that the parts fit.
+// The message of parts that fit a layout, or the first fault.
 fn joined(
     alloc: Global,
     layout: &Layout,
@@ -244,7 +245,8 @@ fn joined(
     }
 }
 
-/// The message of these parts, as `join` gives it, where they are kept apart: each is copied once.
+/// Writes the message of these parts, as `join` does, from parts that are kept apart. Each is copied once. The faults are
+/// those of `join`.
 pub fn join_parts(
     alloc: Global,
     code: u8,
@@ -261,11 +263,11 @@ pub fn join_parts(
     joined(alloc, &layout, code, fixed, variable, params)
 }
 
-/// The message of these parts (Q.713 sections 1 and 2): they stand in pointer order without gaps, the optional part last.
-/// The pointer to it is 0 where there is no parameter.
+/// Writes the message of these parts (Q.713 sections 1 and 2). They follow in pointer order without gaps, the optional
+/// part last. The pointer to it is 0 if there is no parameter.
 ///
-/// `TooLong` for the first part that is longer than its length can say, where the optional parameters count as the part
-/// behind the variable ones; else `PointerTooFar` for the first pointer whose value doesn't fit.
+/// `TooLong` for the first part that is longer than its length can say; the optional parameters count as the part after
+/// the variable ones. Otherwise `PointerTooFar` for the first pointer whose value does not fit.
 pub fn join(alloc: Global, parts: &Parts<'_>) -> Result<Octets, JoinFault>
     requires { FitsLayout parts.now }
     ensures exact { (l : Layout) → layout_of parts.now.code ≡ Some l →

@@ -1,11 +1,13 @@
-ghost use Rattle.std.specs.Prelude.{◌≡◌, ◌<◌};
+//! Optional parameters.
+ghost use Rattle.std.specs.Prelude.{◌≡◌, ◌<◌, IfOk};
 ghost use Rattle.std.specs.Option.{SomeIff};
 ghost use Rattle.sccp_layout.specs.Parameter.{parameter};
 
-use sccp_base::Octets;
+use sccp_base::{List, Octets, OutOfMemory};
+use std::alloc::Global;
 use std::marker::Model;
 
-/// An optional parameter: its name, which isn't 0, and its contents (Q.713 section 3).
+/// An optional parameter: its name, which is not 0, and its contents (Q.713 section 3).
 #[derive(Drop)]
 pub struct Param {
     name: u8,
@@ -24,7 +26,7 @@ impl Model for Param {
 }
 
 impl Param {
-    /// `None` for the name 0, which is the end of optional parameters.
+    /// The parameter of a name and contents. `None` for the name 0, which is the end of optional parameters.
     pub fn new(name: u8, octets: Octets) -> Option<Param>
         ensures { SomeIff result (0 < name) (parameter name octets) }
     {
@@ -35,6 +37,7 @@ impl Param {
         }
     }
 
+    /// The name, from 1 to 255.
     pub fn name(&self) -> u8
         ensures same { result ≡ self.now.name }
         ensures named { 0 < self.now.name }
@@ -48,4 +51,26 @@ impl Param {
     {
         self.octets.as_slice()
     }
+
+    /// The same parameter in memory of its own.
+    pub fn try_clone(&self, alloc: Global) -> Result<Param, OutOfMemory>
+        ensures { IfOk result (λ copy. copy ≡ self.now) }
+    {
+        let octets = self.octets.try_clone(alloc)?;
+        Ok(Param {
+            name: self.name,
+            octets,
+        })
+    }
+}
+
+/// The same parameters in memory of their own.
+pub fn copied_params(alloc: Global, params: &List<Param>) -> Result<List<Param>, OutOfMemory>
+    ensures { IfOk result (λ copy. copy ≡ params.now) }
+{
+    let mut copy = List::new(alloc);
+    for param in params.as_slice() {
+        copy.push(param.try_clone(alloc)?)?;
+    }
+    Ok(copy)
 }

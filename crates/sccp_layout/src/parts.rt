@@ -1,3 +1,4 @@
+//! The parts of a message, and the faults of taking it apart and of putting it together.
 ghost use Rattle.std.specs.Prelude.{◌≡◌};
 ghost use Rattle.sccp_layout.specs.declared.parts.JoinFault.TheVariants as join_faults;
 ghost use Rattle.sccp_layout.specs.declared.parts.SplitFault.TheVariants as split_faults;
@@ -8,8 +9,8 @@ use sccp_base::{List, OutOfMemory};
 use std::alloc::{AllocError, AllocFailed};
 use thiserror::Error;
 
-/// The parts of a message (Q.713 section 1). The fixed part and the variable ones are lent where they stand, the optional
-/// parameters are copies.
+/// The parts of a message (Q.713 section 1). The fixed part and the variable ones are lent from the message, and the
+/// optional parameters are copies.
 #[derive(Drop)]
 pub struct Parts<'a> {
     /// The type of the message.
@@ -22,7 +23,7 @@ pub struct Parts<'a> {
     pub params: List<Param>,
 }
 
-/// Why a message isn't taken apart: the first test that fails, in this order. Parts and pointers are counted from 0.
+/// Why a message is not taken apart: the first test that fails, in this order. Parts and pointers are counted from 0.
 #[derive(Clone, Copy, Debug, Error)]
 pub enum SplitFault {
     /// No type of message has the first octet as its code.
@@ -31,16 +32,17 @@ pub enum SplitFault {
     /// There are fewer octets than type, fixed part and pointers have.
     #[error("short")]
     Short,
-    /// The place that a pointer names isn't behind all pointers and inside the message, or the pointer of a variable part is 0.
+    /// A pointer names a place that is not after all pointers and inside the message, or the pointer of a variable part is 0.
     /// The pointer to the optional part has the number of variable parts as its number.
     #[error("bad pointer {0}")]
     BadPointer(u8),
-    /// The length or the contents of a variable part don't end inside the message.
+    /// The length or the contents of a variable part do not end inside the message.
     #[error("bad part {0}")]
     BadPart(u8),
-    /// An optional parameter, or the octet 00 behind the last one, isn't inside the message.
+    /// An optional parameter, or the octet 00 after the last one, is not inside the message.
     #[error("bad optional")]
     BadOptional,
+    /// Memory ran out.
     #[error("out of memory")]
     OutOfMemory,
 }
@@ -69,15 +71,16 @@ impl<T: Drop> From<AllocFailed<T>> for SplitFault {
     }
 }
 
-/// Why parts can't be written as a message: the first of these. Parts and pointers are counted from 0.
+/// Why parts cannot be written as a message: the first of these. Parts and pointers are counted from 0.
 #[derive(Clone, Copy, Debug, Error)]
 pub enum JoinFault {
-    /// A part is longer than its length field can say; the optional parameters count as the part behind the variable ones.
+    /// A part is longer than its length can say. The optional parameters count as the part after the variable ones.
     #[error("too long {0}")]
     TooLong(u8),
-    /// A pointer would have a value that doesn't fit its field.
+    /// A pointer would have a value that does not fit its field.
     #[error("pointer too far {0}")]
     PointerTooFar(u8),
+    /// Memory ran out.
     #[error("out of memory")]
     OutOfMemory,
 }

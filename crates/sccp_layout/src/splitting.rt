@@ -1,3 +1,4 @@
+//! Taking a message apart by its layout (Q.713 sections 1 and 2).
 ghost use Rattle.std.specs.Prelude.{◌≡◌, ◌<◌, ◌≤◌, ◌+◌, length, Some, None, IfOk, Ok, if◌then◌else◌};
 ghost use Rattle.std.specs.List.{range_with_len};
 ghost use Rattle.std.specs.Option.{option_copied, ok_or};
@@ -15,14 +16,14 @@ use crate::table::layout;
 use sccp_base::{List, Octets};
 use std::alloc::Global;
 
-// How many octets a pointer or a length has.
+/// How many octets a pointer or a length has.
 pub(crate) fn width_of(two: bool) -> usize
     ensures { result ≡ width two }
 {
     if two { 2 } else { 1 }
 }
 
-// A pointer or a length: a number of one octet, or of two with the low one first.
+// Reads a pointer or a length: a number of one octet, or of two with the low one first.
 fn number(two: bool, octets: &[u8], at: usize) -> usize
     requires { at + width two ≤ length octets.now }
     ensures { result ≡ number_at two octets.now at }
@@ -34,7 +35,7 @@ fn number(two: bool, octets: &[u8], at: usize) -> usize
     }
 }
 
-// What stands behind a length, where all of it is inside the message.
+// The contents after a length, if all of them are inside the message.
 fn contents_of(two: bool, octets: &[u8], at: usize) -> Option<&[u8]>
     requires { at ≤ length octets.now }
     ensures { option_copied result ≡ contents two octets.now at }
@@ -46,14 +47,14 @@ fn contents_of(two: bool, octets: &[u8], at: usize) -> Option<&[u8]>
     octets.get(start..start + number(two, octets, at))
 }
 
-// Where pointer i stands; the one to the optional part comes behind those of the variable parts.
+/// The place of pointer i. The pointer to the optional part follows those of the variable parts.
 pub(crate) fn pointer_place_of(layout: &Layout, i: u8) -> usize
     ensures { result ≡ pointer_place layout.now i }
 {
     1 + usize::from(layout.fixed) + width_of(layout.long) * usize::from(i)
 }
 
-// The first place behind all pointers.
+/// The first place after all pointers.
 pub(crate) fn after_pointers_of(layout: &Layout) -> usize
     requires { layout.now.variable < 8 }
     ensures { result ≡ after_pointers layout.now }
@@ -61,8 +62,8 @@ pub(crate) fn after_pointers_of(layout: &Layout) -> usize
     pointer_place_of(layout, layout.variable + u8::from(layout.optional))
 }
 
-// The place that a pointer names, where it names one. A pointer counts from itself, and one of two octets from the
-// second of them.
+// The place that a pointer names, if it names one. A pointer counts from itself, and one of two octets from its second
+// octet.
 fn place_of(layout: &Layout, octets: &[u8], i: u8) -> Option<usize>
     requires small { layout.now.variable < 8 }
     requires inside { pointer_place layout.now i + width layout.now.long ≤ length octets.now }
@@ -79,7 +80,7 @@ fn place_of(layout: &Layout, octets: &[u8], i: u8) -> Option<usize>
     }
 }
 
-// Variable part i: its pointer, and then its length and contents. Of the long types only the data have a long length.
+// Variable part i: its pointer, and then its length and contents. In the long types, only the data have a long length.
 fn part_of<'a>(layout: &Layout, octets: &'a [u8], i: u8) -> Result<&'a [u8], SplitFault>
     requires small { layout.now.variable < 8 }
     requires inside { pointer_place layout.now i + width layout.now.long ≤ length octets.now }
@@ -108,8 +109,8 @@ fn variable_of<'a>(
     Ok(variable)
 }
 
-// The optional parameters from a place up to the end octet. Each of them has two octets at least, so as many turns as the
-// message has octets are enough.
+// The optional parameters from a place up to the end octet. Each of them has two octets at least, so the number of turns
+// is at most the number of octets.
 fn listed_of(alloc: Global, octets: &[u8], at: usize) -> Result<List<Param>, SplitFault>
     ensures { Gives (λ x. x) result (ok_or (listed octets.now at) SplitFault.BadOptional) }
 {
@@ -131,7 +132,7 @@ fn listed_of(alloc: Global, octets: &[u8], at: usize) -> Result<List<Param>, Spl
     Err(SplitFault::BadOptional)
 }
 
-// The optional parameters; none where the type has no optional part, or the pointer to it is 0.
+// The optional parameters. There are none if the type has no optional part, or the pointer to it is 0.
 fn params_of(alloc: Global, layout: &Layout, octets: &[u8]) -> Result<List<Param>, SplitFault>
     requires small { layout.now.variable < 8 }
     requires inside { after_pointers layout.now ≤ length octets.now }
@@ -145,7 +146,7 @@ fn params_of(alloc: Global, layout: &Layout, octets: &[u8]) -> Result<List<Param
     listed_of(alloc, octets, place)
 }
 
-// The parts by a layout.
+// The parts of a message by its layout.
 #[tactic(auto, unfolding(crate::specs::Splitting::parts_by))]
 fn parts_with<'a>(
     alloc: Global,
@@ -170,7 +171,7 @@ fn parts_with<'a>(
     })
 }
 
-// The parts, by the one definition of what splitting gives; `split` says the same by where parts stand.
+// The parts by the one definition of what splitting gives. `split` promises the same by the places of the parts.
 fn parts<'a>(alloc: Global, octets: &'a [u8]) -> Result<Parts<'a>, SplitFault>
     ensures { Gives (λ p. p) result (parts_of octets.now) }
 {
@@ -183,10 +184,10 @@ fn parts<'a>(alloc: Global, octets: &'a [u8]) -> Result<Parts<'a>, SplitFault>
     }
 }
 
-/// The parts of a message (Q.713 sections 1 and 2), or the first fault in the order of `SplitFault`. The message without
-/// an octet is `Short`.
+/// Takes a message apart (Q.713 sections 1 and 2), or gives the first fault in the order of `SplitFault`. A message of no
+/// octets is `Short`.
 ///
-/// Parts may stand in any order, overlap or leave gaps, and octets behind the last one are ignored. Only the optional
+/// Parts may follow in any order, overlap or leave gaps. Octets after the last one are ignored. Only the optional
 /// parameters are copied.
 pub fn split<'a>(alloc: Global, octets: &'a [u8]) -> Result<Parts<'a>, SplitFault>
     ensures found { IfOk result (λ p. HasParts octets.now p) }

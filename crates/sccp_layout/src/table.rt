@@ -1,9 +1,10 @@
+//! The table of the types of message.
 ghost use Rattle.std.specs.Prelude.{◌≡◌, ◌<◌, ◌≤◌, ◌↔◌, IsSome};
 ghost use Rattle.sccp_layout.specs.Table.{layout_of, short_layout, long_layout};
 
 use crate::shape::Layout;
 
-// Pointers and lengths of one octet.
+// A layout whose pointers and lengths have one octet.
 fn short(fixed: u8, variable: u8, optional: bool) -> Option<Layout>
     ensures { result ≡ short_layout fixed variable optional }
 {
@@ -15,7 +16,7 @@ fn short(fixed: u8, variable: u8, optional: bool) -> Option<Layout>
     })
 }
 
-// Pointers of two octets, and such a length of the data.
+// A layout whose pointers, and the length of its data, have two octets.
 fn long(fixed: u8, variable: u8, optional: bool) -> Option<Layout>
     ensures { result ≡ long_layout fixed variable optional }
 {
@@ -27,7 +28,7 @@ fn long(fixed: u8, variable: u8, optional: bool) -> Option<Layout>
     })
 }
 
-/// The parts of the type of message with this code (Q.713 section 4); `None` outside 01 to 14 hexadecimal.
+/// The parts of the type of message with this code (Q.713 section 4). `None` outside 01 to 14 hexadecimal.
 pub fn layout(code: u8) -> Option<Layout>
     ensures value { result ≡ layout_of code }
     ensures known { IsSome result ↔ ((1 ≤ code) × (code ≤ 20)) }

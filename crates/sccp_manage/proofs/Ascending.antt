@@ -1,4 +1,4 @@
--- Ascending marks: they are told by which marks they hold.
+-- Ascending marks: a list of them is known by which marks it holds.
 use Rattle.std.specs.Prelude.{◌≡◌, ◌⊎◌, Bool, true, false, cond, not, ◌&&◌, ◌||◌, List, [], ◌∷◌, ◌++◌, refl, filter}
 use Rattle.std.specs.Ordering.{is_eq, is_lt, is_gt}
 use Rattle.std.specs.Cmp.{tied_itself}
@@ -85,7 +85,7 @@ Among-holds m (x ∷ xs) h =
       | false ↦ λ e k. inr (Among-holds m xs k)
     ] refl h
 
--- a mark isn't held behind itself
+-- a mark is not held after itself
 not_behind : (x : Mark) (xs : List Mark) → IsAscending (x ∷ xs) → holds xs x ≡ false
 not_behind x xs ascending =
     elim (holds xs x) as (λ b. holds xs x ≡ b → b ≡ false) [
@@ -93,7 +93,7 @@ not_behind x xs ascending =
       | false ↦ λ e. refl
     ] refl
 
--- what is held behind the first mark
+-- what is held after the first mark
 behind : (x : Mark) (xs : List Mark) → IsAscending (x ∷ xs) → (m : Mark) → holds xs m ≡ (not (same_mark x m) && holds (x ∷ xs) m)
 behind x xs ascending m =
     elim (same_mark x m) as (λ b. same_mark x m ≡ b → holds xs m ≡ (not b && (b || holds xs m))) [
@@ -183,7 +183,7 @@ ascending_with marking mark ascending =
 pub ascending_without : (allowed : Mark → Bool) (marking : List Mark) → IsAscending marking → IsAscending (without_marks allowed marking)
 ascending_without allowed marking ascending = AllPairs-filter (λ a b. mark_cmp a b ≡ Less) (λ held. not (allowed held)) marking ascending
 
--- what an edit leaves is told by what it holds
+-- what a change leaves is known by what it holds
 pub is_with : (before after : List Mark) (mark : Mark) → IsAscending before → IsAscending after → ((m : Mark) → holds after m ≡ (same_mark mark m || holds before m)) → after ≡ with_mark before mark
 is_with before after mark up up_after held = told_by_held after (with_mark before mark) up_after (ascending_with before mark up) (λ m. held m ∙ sym (holds-with before mark m))
 

@@ -32,7 +32,7 @@ left_allowed m pc ssn other one =
     ap (left m) (cond-false (pc == m.own) as_before (row_of [] allows []) (not-true (pc == m.own) (sym other)))
     ∙ (λ i. record m { marking = (left_without m.marking allows [] ∙ both) i })
 
--- where the answer is Ok, each mark is held as the row says
+-- if the answer is Ok, each mark is held as the row says
 pub marked_so : {A E : Type 0} (r : Result A E) (m n : Management) (event : Event) → OnOk r (n ≡ managed m event) → OnOk r (IsMarked m.marking (row m event) n.marking)
 marked_so (Ok x) m n event e = rw e (is_marked m.marking (row m event))
 marked_so (Err x) m n event e = tt

@@ -1,4 +1,5 @@
--- What the SCCP management of a node does with an event (ITU-T Q.714 section 5). Profile: coordinated state change and congestion change nothing, and what is prohibited is tested when the node's clock says so.
+-- What the SCCP management of a node does with an event (ITU-T Q.714 section 5). Profile: coordinated state change and
+-- congestion change nothing, and what is prohibited is tested when the node's clock says so.
 use Rattle.std.specs.Prelude.{◌≡◌, ℕ, ◌==◌, Bool, false, not, ◌&&◌, ◌||◌, if◌then◌else◌, List, [], ◌∷◌, Option, Some, None}
 use Rattle.std.specs.List.{flat_map, list_any}
 use Rattle.sccp_base.specs.declared.mark.Mark.{Mark}
@@ -13,7 +14,8 @@ use Rattle.sccp_manage.specs.declared.sent.Sent.{Sent}
 use Rattle.sccp_manage.specs.Statuses.{status, status_of, sent_to}
 use Rattle.sccp_manage.specs.Markings.{with_marks, without_marks, IsOpenAt}
 
--- a node's own point code and subsystems, the concerned points, which are told of these, and what is prohibited
+-- A node's own point code and subsystems, the concerned points, and what is prohibited. The concerned points are informed of
+-- changes of the subsystems.
 pub record Management : Type 0 where
   pub own : ℕ
   pub subsystems : List ℕ
@@ -45,6 +47,7 @@ no_mark mark = false
 abbrev pub sending : List Sent → Row
 sending sends = row_of [] no_mark sends
 
+-- nothing changes, and nothing is sent
 abbrev pub as_before : Row
 as_before = sending []
 
@@ -55,7 +58,7 @@ is_own m ssn = list_any (λ own. own == ssn) m.subsystems
 abbrev pub is_down : Management → ℕ → Bool
 is_down m ssn = holds m.marking (marks.Subsystem m.own ssn)
 
--- a status message to a point, where the point isn't prohibited
+-- a status message to a point, if the point is not prohibited
 abbrev pub sent_if_reached : List Mark → ℕ → StatusMessage → List Sent
 sent_if_reached marking point s = if holds marking (marks.PointCode point) then [] else sent_to point s ∷ []
 
@@ -74,7 +77,7 @@ on_allowed m pc ssn =
     then as_before
     else row_of [] (λ mark. same_mark (marks.Subsystem pc ssn) mark || (ssn == 1 && same_mark (marks.Sccp pc) mark)) []
 
--- subsystem status test (SST): answered where the subsystem is the node's own and is up, or is management itself
+-- subsystem status test (SST): answered if the subsystem is the node's own and is up, or is management itself
 abbrev pub on_test : Management → ℕ → ℕ → ℕ → Row
 on_test m from pc ssn =
     if pc == m.own && (ssn == 1 || (is_own m ssn && not (is_down m ssn)))
@@ -90,12 +93,12 @@ on_kind m from kinds.OutOfServiceRequest pc ssn = as_before
 on_kind m from kinds.OutOfServiceGrant pc ssn = as_before
 on_kind m from kinds.Congested pc ssn = as_before
 
--- data from a point; what isn't a status message changes nothing
+-- data from a point; what is not a status message changes nothing
 abbrev pub on_status : Management → ℕ → Option StatusMessage → Row
 on_status m from None = as_before
 on_status m from (Some s) = on_kind m from s.kind s.pc s.ssn
 
--- a subsystem of the node that is up goes down, or one that is down comes up
+-- a subsystem of the node that is up goes down, or one that is down goes up
 abbrev pub on_down : Management → ℕ → Row
 on_down m ssn = if is_own m ssn && not (is_down m ssn) then row_of (marks.Subsystem m.own ssn ∷ []) no_mark (told m kinds.Prohibited ssn) else as_before
 
@@ -108,7 +111,8 @@ test_of own marking (marks.PointCode pc) = []
 test_of own marking (marks.Sccp pc) = sent_if_reached marking pc (status kinds.Test 1 pc)
 test_of own marking (marks.Subsystem pc ssn) = if pc == own then [] else sent_if_reached marking pc (status kinds.Test ssn pc)
 
--- a row for each event: another point and its own subsystems are prohibited and allowed, and never the node's own point
+-- A row for each event. Other points, their SCCPs and subsystems, and the node's own subsystems are prohibited and allowed;
+-- the node's own point and its SCCP never are.
 abbrev pub row : Management → Event → Row
 row m (events.Status from payload) = on_status m from (status_of payload)
 row m (events.Knock from ssn) = sending (sent_to from (status kinds.Prohibited ssn m.own) ∷ [])
@@ -136,6 +140,6 @@ managed m event = left m (row m event)
 abbrev pub IsNodeOf : Management → Management → Type 0
 IsNodeOf before after = after ≡ record before { marking = after.marking }
 
--- a mark is held exactly where the row prohibits it, or it was held and the row doesn't allow it
+-- a mark is held exactly if the row prohibits it, or it was held and the row does not allow it
 abbrev pub IsMarked : List Mark → Row → List Mark → Type 0
 IsMarked before r after = (mark : Mark) → holds after mark ≡ (holds r.prohibits mark || (not (r.allows mark) && holds before mark))

@@ -20,6 +20,7 @@ code_of OutOfServiceRequest = 4
 code_of OutOfServiceGrant = 5
 code_of Congested = 6
 
+-- all kinds, in the order of their numbers
 abbrev pub every_kind : List StatusKind
 every_kind = Allowed ∷ Prohibited ∷ Test ∷ OutOfServiceRequest ∷ OutOfServiceGrant ∷ Congested ∷ []
 
@@ -31,7 +32,9 @@ kind_of code = find (λ kind. code_of kind == code) every_kind
 abbrev pub status : StatusKind → ℕ → ℕ → StatusMessage
 status kind ssn pc = record { kind = kind; ssn = ssn; pc = pc }
 
--- The status message that data is: its kind, the affected subsystem number, the affected point code with its least significant octet first and two spare bits on top, and the multiplicity, which is ignored as further octets are. None for fewer than five octets, and for another kind.
+-- The status message that data is: its kind, the affected subsystem number, the affected point code and the multiplicity.
+-- The point code has its least significant octet first and two spare bits on top. The multiplicity and further octets are
+-- ignored. None for fewer than five octets, and for another kind.
 abbrev pub status_of : List ℕ → Option StatusMessage
 status_of [] = None
 status_of (kind ∷ []) = None

@@ -1,14 +1,15 @@
+//! The events at the SCCP management of a node.
 use sccp_base::{Octets, PointCode};
 
-/// What SCCP management at a node is told (Q.714 section 5): by other nodes, by the MTP, by the node's own subsystems, and
-/// by its clock.
+/// What happens at the SCCP management of a node (Q.714 section 5). Other nodes, the MTP, the node's own subsystems and its
+/// clock report it.
 #[derive(Drop)]
 pub enum Event {
-    /// The data of a connectionless message for SCCP management, and the point that it came from.
+    /// The data of a connectionless message for SCCP management, and the point from which it arrived.
     Status { from: PointCode, payload: Octets },
     /// A message from a point for a subsystem of the node that is prohibited.
     Knock { from: PointCode, ssn: u8 },
-    /// The point can't be reached (MTP-PAUSE).
+    /// The point cannot be reached (MTP-PAUSE).
     Pause(PointCode),
     /// The point can be reached again (MTP-RESUME).
     Resume(PointCode),

@@ -1,3 +1,4 @@
+//! The SCCP management of one node, event by event.
 ghost use Rattle.std.specs.Prelude.{◌≡◌, ◌==◌, [], ◌∷◌, IfOk, OnOk, OnErr};
 ghost use Rattle.sccp_base.specs.Marks.{point_of, same_mark};
 ghost use Rattle.sccp_manage.specs.declared.event.Event.TheVariants as events;
@@ -15,8 +16,8 @@ use std::marker::Model;
 
 /// The SCCP management of one node (Q.714 section 5).
 ///
-/// It keeps the node's point code, the node's subsystems, the concerned points, which are told when one of these goes
-/// down or comes up, and what is prohibited.
+/// It keeps the node's point code, the node's subsystems, the concerned points and what is prohibited. The concerned points
+/// are informed when one of the subsystems goes down or up.
 #[derive(Drop)]
 pub struct Manager {
     alloc: Global,
@@ -38,8 +39,8 @@ impl Model for Manager {
 
 #[tactic(auto, using(crate::proofs::Left::left_as_it_was, crate::proofs::Left::left_with, crate::proofs::Left::left_without))]
 impl Manager {
-    /// The management of a node at which nothing is prohibited: its point code, its subsystem numbers, and the concerned
-    /// points in the order in which they are told. It keeps the allocator for all that it does later.
+    /// The management of a node at which nothing is prohibited. It is given the node's point code, its subsystem numbers,
+    /// and the concerned points in the order in which they are informed. It keeps the allocator for all that it does later.
     pub fn new(
         alloc: Global,
         own: PointCode,
@@ -66,7 +67,7 @@ impl Manager {
     }
 
     /// Carries out an event by its row of the table (Q.714 section 5), and answers the messages that are to be sent, in
-    /// their order. Where memory is wanting the manager is as it was, and nothing is to be sent.
+    /// their order. If memory runs out, the manager is as it was, and nothing is to be sent.
     pub fn on(&mut self, event: Event) -> Result<List<Sent>, OutOfMemory>
         ensures state { OnOk result (self.new ≡ managed self.old event) }
         ensures held { OnOk result (IsMarked self.old.marking (row self.old event) self.new.marking) }
@@ -76,7 +77,7 @@ impl Manager {
         ensures kept { IsManagement self.new }
     {
         let sent = self.carry_out(event);
-        // It ensures what every manager keeps.
+        // The call ensures what every manager keeps.
         let _kept = self.marking();
         sent
     }
@@ -101,7 +102,7 @@ impl Manager {
         }
     }
 
-    // A status message from a point; none where the data isn't one.
+    // A status message from a point; none if the data is not one.
     fn on_status(
         &mut self,
         from: PointCode,
@@ -130,7 +131,8 @@ impl Manager {
         }
     }
 
-    // A subsystem of another point is allowed. Of management itself (subsystem 1) it says that the SCCP there is back.
+    // A subsystem of another point is allowed. Management itself (subsystem 1) being allowed says that the SCCP there is
+    // back.
     #[tactic(auto, using(crate::proofs::Left::left_as_it_was, crate::proofs::Left::left_without, crate::proofs::Left::left_allowed))]
     fn on_allowed(&mut self, pc: PointCode, ssn: u8)
         ensures { self.new ≡ left self.old (on_allowed self.old pc ssn) }
@@ -165,7 +167,7 @@ impl Manager {
         }
     }
 
-    // A point can't be reached, and so its SCCP can't.
+    // A point cannot be reached, and so its SCCP cannot either.
     fn on_pause(&mut self, pc: PointCode) -> Result<List<Sent>, OutOfMemory>
         ensures state { OnOk result (self.new ≡ managed self.old (events.Pause pc)) }
         ensures sent { IfOk result (λ sent. sent ≡ []) }
@@ -201,7 +203,7 @@ impl Manager {
         Ok(List::new(self.alloc))
     }
 
-    // A subsystem of the node goes down, which the concerned points are told once.
+    // A subsystem of the node goes down. The concerned points are informed once.
     fn on_down(&mut self, ssn: u8) -> Result<List<Sent>, OutOfMemory>
         ensures state { OnOk result (self.new ≡ left self.old (on_down self.old ssn)) }
         ensures sent { IfOk result (λ sent. sent ≡ (on_down self.old ssn).sends) }
@@ -216,7 +218,7 @@ impl Manager {
         }
     }
 
-    // A subsystem of the node comes up, which the concerned points are told once.
+    // A subsystem of the node goes up. The concerned points are informed once.
     fn on_up(&mut self, ssn: u8) -> Result<List<Sent>, OutOfMemory>
         ensures state { OnOk result (self.new ≡ left self.old (on_up self.old ssn)) }
         ensures sent { IfOk result (λ sent. sent ≡ (on_up self.old ssn).sends) }
@@ -231,7 +233,7 @@ impl Manager {
         }
     }
 
-    // Prohibits marks, of which none is the node's own point or its SCCP. Where memory is wanting none is.
+    // Prohibits marks, of which none is the node's own point or its SCCP. If memory runs out, none is prohibited.
     fn prohibit(&mut self, marks: &[Mark]) -> Result<(), OutOfMemory>
         requires { IsOpenAt self.old.own marks.now }
         ensures ok { OnOk result (self.new ≡ record self.old { marking = with_marks self.old.marking marks.now }) }
@@ -287,7 +289,7 @@ impl Manager {
         Ok(sent)
     }
 
-    // What each concerned point that can be reached is told of a subsystem of the node, in the written order.
+    // The status messages on a subsystem of the node, one to each concerned point that can be reached, in the written order.
     fn told(&self, kind: StatusKind, ssn: u8) -> Result<List<Sent>, OutOfMemory>
         ensures { IfOk result (λ sent. sent ≡ told self.now kind ssn) }
     {

@@ -1,6 +1,6 @@
 // Changes of a marking, as the ascending list that they leave.
 //
-// `marks` is called for what it ensures, that the marks are ascending: so the marks that are held tell the list.
+// `marks` is called for what it ensures, that the marks are ascending: an ascending list is known by which marks it holds.
 ghost use Rattle.std.specs.Prelude.{◌≡◌, ◌==◌, IfOk, OnOk, OnErr, find};
 ghost use Rattle.sccp_base.specs.Marks.{point_of, same_mark};
 ghost use Rattle.sccp_manage.specs.Markings.{with_mark, with_marks, without_marks};
@@ -8,7 +8,7 @@ ghost use Rattle.sccp_manage.specs.Markings.{with_mark, with_marks, without_mark
 use sccp_base::{Mark, Marking, OutOfMemory, PointCode};
 use std::alloc::Global;
 
-// Prohibits a mark. Where memory is wanting the marking is as it was.
+// Prohibits a mark. If memory runs out, the marking is as it was.
 fn prohibit(marking: &mut Marking, mark: Mark) -> Result<(), OutOfMemory>
     ensures ok { OnOk result (marking.new ≡ with_mark marking.old mark) }
     ensures err { OnErr result (marking.new ≡ marking.old) }
@@ -19,7 +19,7 @@ fn prohibit(marking: &mut Marking, mark: Mark) -> Result<(), OutOfMemory>
     Ok(())
 }
 
-// Allows a mark.
+/// Allows a mark.
 pub fn allow(marking: &mut Marking, mark: Mark)
     ensures { marking.new ≡ without_marks (same_mark mark) marking.old }
 {
@@ -28,7 +28,7 @@ pub fn allow(marking: &mut Marking, mark: Mark)
     let _after = marking.marks();
 }
 
-// The marking with these marks prohibited too. It is a copy, so that want of memory at any of them leaves the marking.
+/// The marking with these marks prohibited too. It is a copy, so want of memory at any of them leaves the marking as it was.
 pub fn with_marks(alloc: Global, marking: &Marking, marks: &[Mark]) -> Result<Marking, OutOfMemory>
     ensures { IfOk result (λ new. new ≡ with_marks marking.now marks.now) }
 {
@@ -46,7 +46,7 @@ fn first_at(marks: &[Mark], point: PointCode) -> Option<Mark>
     marks.iter().copied().find(|mark| mark.point() == point)
 }
 
-// Allows all marks of a point: the point, its SCCP and its subsystems.
+/// Allows all marks of a point: the point, its SCCP and its subsystems.
 pub fn allow_point(marking: &mut Marking, point: PointCode)
     ensures { marking.new ≡ without_marks (λ mark. point_of mark == point) marking.old }
 {

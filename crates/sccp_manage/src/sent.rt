@@ -1,3 +1,4 @@
+//! The messages that management sends.
 ghost use Rattle.std.specs.Prelude.{◌≡◌, [], ◌∷◌, ◌++◌, if◌then◌else◌, not, OnOk, OnErr};
 ghost use Rattle.sccp_base.specs.declared.mark.Mark.TheVariants as marks;
 ghost use Rattle.sccp_base.specs.Marks.{holds};
@@ -15,7 +16,7 @@ pub struct Sent {
     pub octets: Octets,
 }
 
-// A status message to a point is put behind those that are to be sent.
+/// Appends a status message to a point to the messages that are to be sent.
 pub fn push(
     alloc: Global,
     sent: &mut List<Sent>,
@@ -29,7 +30,7 @@ pub fn push(
     Ok(())
 }
 
-// The same, where the point isn't prohibited.
+/// The same, if the point is not prohibited.
 pub fn push_if_reached(
     alloc: Global,
     sent: &mut List<Sent>,
@@ -46,7 +47,7 @@ pub fn push_if_reached(
     }
 }
 
-// The test of a mark: of an SCCP or of a subsystem, where it is another point's and that point isn't prohibited.
+/// Appends the test of a mark: of an SCCP or a subsystem of another point, if that point is not prohibited.
 pub fn push_test(
     alloc: Global,
     sent: &mut List<Sent>,

@@ -1,3 +1,4 @@
+//! The messages of SCCP management (Q.713 section 5).
 ghost use Rattle.std.specs.Prelude.{◌≡◌, ◌+◌, ◌*◌, IfOk};
 ghost use Rattle.sccp_base.specs.Bits.{bits};
 ghost use Rattle.sccp_manage.specs.Statuses.{code_of, kind_of, management, status_data, status_octets, status_of, status_unitdata};
@@ -28,7 +29,7 @@ pub enum StatusKind {
 #[derive(Clone, Copy)]
 pub struct StatusMessage {
     pub kind: StatusKind,
-    /// The affected subsystem number; 1 is management itself and stands for the SCCP there.
+    /// The affected subsystem number. 1 is management itself, and means the SCCP there.
     pub ssn: u8,
     /// The affected point code.
     pub pc: PointCode,
@@ -36,8 +37,9 @@ pub struct StatusMessage {
 
 impl StatusMessage {
     /// Reads the data of a message for management (Q.713 section 5): kind (1 octet), affected subsystem number (1), affected
-    /// point code (2, the least significant first, with two spare bits on top) and multiplicity (1). The multiplicity and
-    /// what is behind it are ignored. `None` for fewer than five octets, and for a kind that isn't 1 to 6.
+    /// point code (2) and multiplicity (1). The point code has its least significant octet first, and two spare bits on top.
+    /// The multiplicity and what follows it are ignored. `None` for fewer than five octets, and for a kind that is not 1 to
+    /// 6.
     pub fn read(payload: &[u8]) -> Option<StatusMessage>
         ensures { result ≡ status_of payload.now }
     {
@@ -121,7 +123,8 @@ fn data(alloc: Global, status: &StatusMessage) -> Result<Octets, OutOfMemory>
     )?))
 }
 
-// The octets of the message that carries it: unitdata of class 0 from management to management, whose parts always fit.
+/// The octets of the message that carries a status message: unitdata of class 0 from management to management. Its parts
+/// always fit.
 #[tactic(auto, unfolding(crate::specs::Statuses::status_octets))]
 pub fn octets_of(alloc: Global, status: &StatusMessage) -> Result<Octets, OutOfMemory>
     ensures { IfOk result (λ octets. octets ≡ status_octets status.now) }

@@ -20,7 +20,7 @@ use Rattle.sccp_message.specs.Kinds.{is_plain, is_extended, message_if_of}
 use Rattle.sccp_message.specs.Messages.{message_of}
 use Rattle.sccp_message.specs.Reading.{part_of, address_in, fields_in, message_in}
 
--- the message of two addresses, data, and parameters of which some are known
+-- the message of two addresses, data, and parameters, some of which are known
 abbrev pub unit_by : List ℕ → Parts → Result Message DecodeFault
 unit_by known p = all_ok (address_in p.variable) (range_with_len 0 2) >>= λ addresses. fields_in known p.params >>= λ params. ok_or (message_of p.code p.fixed addresses (part_of p.variable 2) params) (faults.Split split.UnknownType)
 
@@ -28,7 +28,7 @@ either : (a b : Bool) → a || b ≡ true → (a ≡ true) ⊎ (b ≡ true)
 either true b e = inl refl
 either false b e = inr e
 
--- what holds of both codes of the kind holds of each code that is of it
+-- what holds of both codes of the kind holds of each code of the kind
 of_plain : (P : ℕ → Type 0) → P 0x09 → P 0x0A → (code : ℕ) → is_plain code ≡ true → P code
 of_plain P a b code is = elim (either (code == 0x09) (code == 0x0A) is) [
   | inl e ↦ subst P (sym (eqb-true _ _ e)) a
@@ -55,7 +55,7 @@ pub extended_in : (code : ℕ) (f : List ℕ) (v : List (List ℕ)) (ps : List P
 unfolding message_in
 extended_in code f v ps is = of_extended (λ k. message_if_of is_extended (parts_made k f v ps) ≡ unit_by (0x10 ∷ 0x12 ∷ []) (parts_made k f v ps)) refl refl refl refl code is
 
--- ---- how many octets and parts there are
+-- How many octets and parts there are.
 
 same_layout : (l other : Layout) → Some l ≡ Some other → l ≡ other
 same_layout l other e = cc
@@ -77,7 +77,7 @@ extended_fits code f v ps is =
     let long : (k : ℕ) → layout_of k ≡ Some (record { fixed = 2; variable = 3; optional = true; long = true }) → HasUnit 2 f v ps k = λ k e h. (let all = fit _ (parts_made k f v ps) e h in (all.fixed, all.variable)) in
     of_extended (HasUnit 2 f v ps) (short 0x11 refl) (short 0x12 refl) (long 0x13 refl) (long 0x14 refl) code is
 
--- ---- a step that fails, and all that don't
+-- A step that fails, and all steps that do not.
 
 abbrev failed : {A E : Type 0} → E → Result A E
 failed e = Err e

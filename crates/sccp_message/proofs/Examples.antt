@@ -34,17 +34,17 @@ with_gap : reading (0x09 ∷ 0x00 ∷ 0x03 ∷ 0x0E ∷ 0x14 ∷ 0x0B ∷ 0x12 �
 unfolding message_in parts_by address_of
 with_gap = refl
 
--- data of three octets, of which there are two
+-- data of three octets, but only two are there
 cut_off : reading (0x09 ∷ 0x00 ∷ 0x03 ∷ 0x0E ∷ 0x12 ∷ 0x0B ∷ 0x12 ∷ 0x06 ∷ 0x00 ∷ 0x12 ∷ 0x04 ∷ 0x94 ∷ 0x71 ∷ 0x01 ∷ 0x00 ∷ 0x00 ∷ 0x21 ∷ 0x04 ∷ 0x43 ∷ 0x01 ∷ 0x08 ∷ 0x08 ∷ 0x03 ∷ 0xAA ∷ 0xBB ∷ []) ≡ Err (faults.Split (split.BadPart 2))
 unfolding message_in parts_by address_of
 cut_off = refl
 
--- an optional pointer of 0
+-- a pointer of 0 to the optional part
 no_options : reading (0x11 ∷ 0x00 ∷ 0x0F ∷ 0x04 ∷ 0x06 ∷ 0x08 ∷ 0x00 ∷ 0x02 ∷ 0x42 ∷ 0x06 ∷ 0x02 ∷ 0x42 ∷ 0x08 ∷ 0x01 ∷ 0xAA ∷ []) ≡ Ok (Xudt 0 15 (by_number 6) (by_number 8) (0xAA ∷ []) [])
 unfolding message_in parts_by address_of
 no_options = refl
 
--- segmentation, importance, and a parameter that isn't known, in their order
+-- segmentation, importance, and a parameter that is not known, in their order
 options : reading (0x11 ∷ 0x00 ∷ 0x0F ∷ 0x04 ∷ 0x06 ∷ 0x08 ∷ 0x09 ∷ 0x02 ∷ 0x42 ∷ 0x06 ∷ 0x02 ∷ 0x42 ∷ 0x08 ∷ 0x01 ∷ 0xAA ∷ 0x10 ∷ 0x04 ∷ 0x81 ∷ 0x01 ∷ 0x00 ∷ 0x00 ∷ 0x12 ∷ 0x01 ∷ 0x03 ∷ 0x7F ∷ 0x01 ∷ 0x55 ∷ 0x00 ∷ []) ≡ Ok (Xudt 0 15 (by_number 6) (by_number 8) (0xAA ∷ []) (parameter 0x10 (0x81 ∷ 1 ∷ 0 ∷ 0 ∷ []) ∷ parameter 0x12 (3 ∷ []) ∷ parameter 0x7F (0x55 ∷ []) ∷ []))
 unfolding message_in parts_by address_of
 options = refl
@@ -83,7 +83,7 @@ release_written = refl
 long_data_written : message_octets (Ludt 0 15 (by_number 6) (by_number 8) (replicate 3902 0x55) []) ≡ 0x13 ∷ 0x00 ∷ 0x0F ∷ 0x07 ∷ 0x00 ∷ 0x08 ∷ 0x00 ∷ 0x09 ∷ 0x00 ∷ 0x00 ∷ 0x00 ∷ 0x02 ∷ 0x42 ∷ 0x06 ∷ 0x02 ∷ 0x42 ∷ 0x08 ∷ 0x3E ∷ 0x0F ∷ replicate 3902 0x55
 long_data_written = refl
 
--- the optional part of an XUDT may begin 255 octets behind its pointer, and no more
+-- the optional part of an XUDT may begin 255 octets after its pointer, and no more
 abbrev by_digits : ℕ → Address
 by_digits n = record { national = false; by_ssn = false; pc = None; ssn = Some 6; title = Global (numbers 4 0 1 4) (replicate n 4) }
 
@@ -93,7 +93,7 @@ near = refl
 far : join_fault (record { fixed = 2; variable = 3; optional = true; long = false }) (parts_from (Xudt 0 15 (by_digits 27) by_point (replicate 230 0x55) (parameter 0x12 (3 ∷ []) ∷ []))) ≡ Some (PointerTooFar 3)
 far = refl
 
--- the plain UDT is what is written of it; with two octets that no part uses it isn't
+-- the plain UDT is what is written for it; with two octets that no part uses it is not
 plain_is_canonical : canonical (0x09 ∷ 0x00 ∷ 0x03 ∷ 0x0E ∷ 0x12 ∷ 0x0B ∷ 0x12 ∷ 0x06 ∷ 0x00 ∷ 0x12 ∷ 0x04 ∷ 0x94 ∷ 0x71 ∷ 0x01 ∷ 0x00 ∷ 0x00 ∷ 0x21 ∷ 0x04 ∷ 0x43 ∷ 0x01 ∷ 0x08 ∷ 0x08 ∷ 0x02 ∷ 0xAA ∷ 0xBB ∷ []) ≡ true
 unfolding message_in parts_by address_of
 plain_is_canonical = refl

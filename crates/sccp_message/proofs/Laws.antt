@@ -1,4 +1,4 @@
--- A message that is read is what the octets are, and what they are is read.
+-- What is read as a message is one, and octets that are a message are read as it.
 use Rattle.std.proofs.Common.{◌≡◌, ℕ, List, Option, Some, None, Result, Ok, Err, refl, sym, ap, ◌∙◌, zero-add}
 use Rattle.std.specs.Prelude.{IfOk}
 use Rattle.std.specs.Option.{ok_or}

@@ -1,3 +1,4 @@
+-- Facts about messages, for the proofs of this crate and of others.
 pub mod Carrying
 pub mod Examples
 pub mod Laws

@@ -1,4 +1,4 @@
--- What is made from parts has their code, addresses and parameters. So what is read is sound, and its fields keep their ranges.
+-- What is made from parts has their code, addresses and parameters. So what is read is sound, and its fields are in range.
 use Rattle.std.proofs.Common.{◌≡◌, ℕ, suc, ◌+◌, ◌-◌, ◌<◌, Bool, true, false, cond, leb, eqb, ◌&&◌, List, [], ◌∷◌, length, drop, Option, Some, None, Result, Ok, Err, refl, sym, ap, subst, ◌∙◌, arith, inl, inr, ◌⊎◌}
 use Rattle.std.specs.Prelude.{IfOk, slice_range, slice_get, unwrap_or}
 use Rattle.std.specs.List.{AllByRecursion}
@@ -23,7 +23,7 @@ use Rattle.sccp_message.specs.Reading.{part_of}
 use Rattle.sccp_message.specs.Reads.{Reads}
 use Rattle.sccp_message.specs.Written.{content, sevens, Sound, AreSevens, AreNamed, IsMessage}
 
--- ---- a line for each type
+-- A line for each type.
 
 -- The parameters are those of the parts, or none in a type that has no optional part.
 record Made (code : ℕ) (addresses : List Address) (params : List Parameter) (m : Message) : Type 0 where
@@ -113,7 +113,7 @@ both f called calling payload params = (
   ),
 )
 
--- a line of a list of messages by their codes is the first with its code, or it is among the others
+-- In a list of messages by their codes, a line is the first one of its code, or it is among the others.
 pub made_here : (b : Bool) (x : Message) (others : Option Message) (m : Message) → cond b (made x) others ≡ made m → ((b ≡ true) × (x ≡ m)) ⊎ (others ≡ made m)
 made_here true x others m e = inl (refl, made_is x m e)
 made_here false x others m e = inr e
@@ -132,7 +132,7 @@ of_parts code f (called ∷ []) payload params m e = of_lines code (with_called 
 of_parts code f (called ∷ calling ∷ []) payload params m e = of_lines code (with_both f called calling payload params) (called ∷ calling ∷ []) params m (both f called calling payload params) e
 of_parts code f (called ∷ calling ∷ other ∷ others) payload params m e = absurd cc
 
--- ---- what is read is sound
+-- What is read is sound.
 
 unread_none : (names : List ℕ) → first_unread names [] ≡ None
 unread_none [] = refl
@@ -152,7 +152,7 @@ pub answer_sound : (b : List ℕ) (r : Result Message DecodeFault) → IfOk r (�
 answer_sound b (Ok m) h = reads_sound b m h
 answer_sound b (Err e) h = tt
 
--- ---- octets of parts are octets
+-- Octets of parts are octets.
 
 abbrev OrNone : Option (List ℕ) → Type 0
 OrNone o = AreOctets (unwrap_or o [])
@@ -179,7 +179,7 @@ named_of : (l : Layout) (b : List ℕ) (params : List Parameter) → ParamsAre l
 named_of l b params (inl w) = subst AreNamed (sym w.1) tt
 named_of l b params (inr w) = w.2.named
 
--- ---- what is read keeps the ranges of its fields
+-- The fields of what is read are in their ranges.
 
 named_again : (m : Message) (params : List Parameter) → ((content m).params ≡ params) ⊎ ((content m).params ≡ []) → AreNamed params → AreNamed (content m).params
 named_again m params (inl same) named = rw same named

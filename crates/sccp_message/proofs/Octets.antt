@@ -1,4 +1,4 @@
--- What is written of a message: when it can be written, when octets are it, and that it says which message it is.
+-- What is written for a message: when it can be written, which octets it has, and that these say which message it is.
 use Rattle.std.proofs.Common.{◌≡◌, ℕ, Bool, true, false, eqb, List, [], ◌∷◌, length, Option, Some, None, Result, Ok, Err, refl, sym, ap, subst, ◌∙◌, inl, inr, arith}
 use Rattle.std.specs.Prelude.{IfOk, IsSome, IsTrue, option_map, ◌||◌, ◌&&◌}
 use Rattle.std.proofs.lemmas.Bool.{and_parts, eqb-true}
@@ -28,7 +28,7 @@ encoding_at m = rw (typed m).of_type refl
 pub octets_at : (m : Message) → message_octets m ≡ joined (typed m).type.layout (parts_from m)
 octets_at m = rw (typed m).of_type refl
 
--- what join answers for parts
+-- what join answers for parts is what encode answers for them
 gives_joining : (r whole : Result (List ℕ) JoinFault) → JoinGives (λ octets. octets) r whole → Gives (λ octets. octets) (as_join r) (as_join whole)
 gives_joining (Ok octets) whole h = ap as_join h
 gives_joining (Err (joins.TooLong part)) whole h = ap as_join h
@@ -46,7 +46,7 @@ some_by (Some line) l e = refl
 pub gives_from : (p : Parts) (r : Result (List ℕ) JoinFault) → FitsLayout p → ((l : Layout) → layout_of p.code ≡ Some l → JoinGives (λ octets. octets) r (joining l p)) → Gives (λ octets. octets) (as_join r) (encoding_by (row p.code) p)
 gives_from p r h exact = gives_by (row p.code) p r (some_by (row p.code) h.layout h.of_type) exact
 
--- ---- what a message is made of fits its type
+-- What a message is made of fits its type.
 
 none_of : (params : List Parameter) → eqb (length params) 0 ≡ true → params ≡ []
 none_of [] t = refl
@@ -76,7 +76,7 @@ fits_at c (Some r) e test = fits_by c r e test
 pub fits_parts : (c : Content) → fits c ≡ true → FitsLayout (parts_with c)
 fits_parts c test = fits_at c (row c.code) refl test
 
--- the names of parameters that are in a message aren't 0
+-- the names of parameters that are in a message are not 0
 pub are_named : (r : Result (List ℕ) JoinFault) (p : Parts) → IfOk r (λ octets. HasParts octets p) → IfOk r (λ _. AreNamed p.params)
 are_named (Ok octets) p has = named has.layout octets p.params has.params
   where
@@ -106,7 +106,7 @@ encoding_of m writable =
     let none : join_fault t.type.layout (parts_from m) ≡ None = rw t.of_type at writable in
     encoding_at m ∙ ap (λ (o : Option JoinFault). as_join (unless o (Ok (joined t.type.layout (parts_from m))))) none ∙ ap ok (sym (octets_at m))
 
--- ---- what encode answers
+-- What encode answers.
 
 pub answer_found : (m : Message) (r : Result (List ℕ) EncodeFault) → Gives (λ octets. octets) r (encoding m) → IfOk r (λ octets. octets ≡ message_octets m)
 answer_found m (Ok octets) h = (encoding_ok m octets h).1
@@ -125,7 +125,7 @@ answer_again m (Ok octets) h named sevens_fit addresses sound =
     subst (λ (b : List ℕ). Reads b m) (sym (answer_found m (Ok octets) h)) (written_reads m (record { addresses = addresses; named = named; sevens_fit = sevens_fit }) sound)
 answer_again m (Err e) h named sevens_fit addresses sound = tt
 
--- ---- canonical octets
+-- Canonical octets.
 
 written_takes : (b : List ℕ) (m : Message) (w : Result (List ℕ) EncodeFault) → reading b ≡ Ok m → encoding m ≡ w → is_written b w ≡ true → Canonical b
 written_takes b m (Ok octets) reads writes test =
@@ -151,7 +151,7 @@ pub answer_no : {E : Type 0} (b : List ℕ) (r : Result Bool E) → IfOk r (λ i
 answer_no b (Ok is) h = λ c. h ∙ canonical_again b c
 answer_no b (Err e) h = tt
 
--- ---- octets say which message they are
+-- Octets say which message they are.
 
 abbrev read : Message → Result Message DecodeFault
 read m = Ok m

@@ -1,4 +1,4 @@
--- What is written of a message is that message.
+-- What is written for a message is read as that message.
 use Rattle.std.proofs.Common.{◌≡◌, ℕ, zero, suc, ◌+◌, ◌*◌, ◌/◌, ◌%◌, ◌<◌, Bool, true, false, List, [], ◌∷◌, ◌++◌, length, Option, Some, None, refl, ap, ◌∙◌, arith}
 use Rattle.std.specs.Prelude.{map, slice_get, unwrap_or}
 use Rattle.std.specs.List.{AllByRecursion}
@@ -64,7 +64,7 @@ typed (messages.Xudts first hops called calling payload params) = record { type 
 typed (messages.Ludt first hops called calling payload params) = record { type = _; of_type = refl; fixed = refl; addresses = refl; variable = refl; params = λ e. absurd cc; again = λ h. refl }
 typed (messages.Ludts first hops called calling payload params) = record { type = _; of_type = refl; fixed = refl; addresses = refl; variable = refl; params = λ e. absurd cc; again = λ h. refl }
 
--- the addresses as they are written, and the data behind them
+-- the addresses as they are written, and then the data
 address_at : (xs : List Address) (rest : List (List ℕ)) (i : ℕ) → AllByRecursion IsAddress xs → i < length xs → (a : Address) × (slice_get xs i ≡ Some a) × AddressIs (unwrap_or (slice_get (map written xs ++ rest) i) []) a
 address_at [] rest i h lt = absurd (omega arith)
 address_at (a ∷ xs) rest zero h lt = (a, refl, written_is a h.0)

@@ -3,6 +3,7 @@ use Rattle.std.specs.Prelude.{ℕ, ◌==◌, if◌then◌else◌, List, [], ◌�
 use Rattle.sccp_message.specs.declared.cause.CauseTable.{CauseTable}
 use Rattle.sccp_message.specs.declared.cause.CauseTable.TheVariants.{Return, Refusal, Fault}
 
+-- the texts of each list of causes, with their values
 abbrev pub texts : CauseTable → List (ℕ × List ℕ)
 texts Return =
     (0, codes "no translation for an address of such nature") ∷
@@ -42,5 +43,6 @@ abbrev pub text_in : List (ℕ × List ℕ) → ℕ → Option (List ℕ)
 text_in [] value = None
 text_in (line ∷ lines) value = if value == line.0 then Some line.1 else text_in lines value
 
+-- the text of a cause
 abbrev pub text_of : CauseTable → ℕ → Option (List ℕ)
 text_of table value = text_in (texts table) value

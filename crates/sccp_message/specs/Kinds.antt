@@ -1,4 +1,5 @@
--- The kinds of types: which fields their messages have (ITU-T Q.713 section 4). The functions that read a kind each say what they give for its codes alone.
+-- The kinds of types: which fields their messages have (ITU-T Q.713 section 4). A function that reads one kind promises a
+-- message for its codes only.
 use Rattle.std.specs.Prelude.{ℕ, Bool, ◌||◌, ◌==◌, if◌then◌else◌, Result, Err}
 use Rattle.sccp_layout.specs.declared.parts.Parts.{Parts}
 use Rattle.sccp_layout.specs.declared.parts.SplitFault.TheVariants as split
@@ -11,7 +12,7 @@ use Rattle.sccp_message.specs.Reading.{message_in}
 abbrev pub is_plain : ℕ → Bool
 is_plain code = (code == 0x09) || (code == 0x0A)
 
--- connectionless with a hop counter and an optional part beside these
+-- connectionless, with these, a hop counter and an optional part
 abbrev pub is_extended : ℕ → Bool
 is_extended code = (code == 0x11) || (code == 0x12) || (code == 0x13) || (code == 0x14)
 
@@ -19,7 +20,7 @@ is_extended code = (code == 0x11) || (code == 0x12) || (code == 0x13) || (code =
 abbrev pub has_parameters : ℕ → Bool
 has_parameters code = (code == 0x01) || (code == 0x02) || (code == 0x03) || (code == 0x04)
 
--- connection-oriented, with fixed fields, or with these and data
+-- connection-oriented, with fixed fields only, or with these and data
 abbrev pub has_no_parameters : ℕ → Bool
 has_no_parameters code = (code == 0x05) || (code == 0x06) || (code == 0x07) || (code == 0x08) || (code == 0x0B) || (code == 0x0C) || (code == 0x0D) || (code == 0x0E) || (code == 0x0F) || (code == 0x10)
 

@@ -1,3 +1,4 @@
+-- Messages: which octets they are, how they are read and how they are written.
 pub mod Causes
 pub mod Encoding
 pub mod Fields
@@ -7,3 +8,4 @@ pub mod Messages
 pub mod Reads
 pub mod Written
 pub mod Survey
+pub mod Unitdata

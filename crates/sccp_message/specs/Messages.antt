@@ -1,4 +1,5 @@
--- Messages from their parts (ITU-T Q.713 section 4): a line for each type. Segmenting is 3.7, receive sequence number 3.8, sequencing 3.9.
+-- Messages from their parts (ITU-T Q.713 section 4): a line for each type.
+-- Segmenting is 3.7, receive sequence number 3.8, sequencing 3.9.
 use Rattle.std.specs.Prelude.{ℕ, ◌==◌, if◌then◌else◌, List, [], ◌∷◌, Option, Some, None}
 use Rattle.sccp_base.specs.Bits.{bit, bits}
 use Rattle.sccp_address.specs.declared.address.Address.{Address}
@@ -7,7 +8,7 @@ use Rattle.sccp_message.specs.declared.message.Message.{Message}
 use Rattle.sccp_message.specs.declared.message.Message.TheVariants as messages
 use Rattle.sccp_message.specs.Fields.{octet, reference_at}
 
--- The codes of types, each with the message of that type. The fixed part f is read from left to right, and its spare bits are left out.
+-- The codes of types, each with the message of that type. The fixed part f is read from left to right, without its spare bits.
 
 -- the types without a variable address
 abbrev pub without_address : List ℕ → List ℕ → List Parameter → List (ℕ × Message)
@@ -49,7 +50,8 @@ abbrev pub of_code : ℕ → List (ℕ × Message) → Option Message
 of_code code [] = None
 of_code code (line ∷ lines) = if code == line.0 then Some line.1 else of_code code lines
 
--- the message of a code, a fixed part, addresses, data and parameters; none where no type has that code and so many addresses
+-- The message of a code, a fixed part, addresses, data and parameters. None if no type has that code and that number of
+-- addresses.
 abbrev pub message_of : ℕ → List ℕ → List Address → List ℕ → List Parameter → Option Message
 message_of code f [] payload params = of_code code (without_address f payload params)
 message_of code f (called ∷ []) payload params = of_code code (with_called f called params)

@@ -10,8 +10,8 @@ use Rattle.sccp_message.specs.Fields.{first_unread}
 use Rattle.sccp_message.specs.Messages.{message_of}
 use Rattle.sccp_message.specs.Reading.{part_of}
 
--- The octets have the parts of a type. The first variable parts are addresses, the next one is the data, and the message has these, the fixed fields and the parameters.
--- Of each parameter that is known for the type, the first one reads.
+-- The octets have the parts of a type. The first variable parts are addresses, and the next one is the data.
+-- The message has these, the fixed fields and the parameters. Of each parameter known to the type, the first one reads.
 pub record Reads (b : List ℕ) (m : Message) : Type 0 where
   pub parts : Parts
   pub has_parts : HasParts b parts

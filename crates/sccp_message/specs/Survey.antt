@@ -1,10 +1,10 @@
--- Every cut of octets: for each number of them, what keeps the first so many from being a message.
+-- Every cut of octets: for each n, what keeps the first n octets from being a message.
 use Rattle.std.specs.Prelude.{◌≡◌, ◌↔◌, ℕ, ◌+◌, ◌≤◌, List, length, take, map, slice_get, Option, Some, None}
 use Rattle.std.specs.List.{range_with_len}
 use Rattle.sccp_message.specs.declared.fault.DecodeFault.{DecodeFault}
 use Rattle.sccp_message.specs.Reading.{first_fault}
 
--- the fault of the first n octets; none where they are a message
+-- the fault of the first n octets; none if they are a message
 abbrev pub fault_of_cut : List ℕ → ℕ → Option DecodeFault
 fault_of_cut b n = first_fault (take n b)
 

@@ -13,7 +13,7 @@ use Rattle.sccp_message.specs.declared.message.Message.TheVariants as messages
 use Rattle.sccp_message.specs.Reads.{Reads}
 use Rattle.sccp_message.specs.Fields.{reference_octets, first_unread}
 
--- what a message is made of: its code, fixed part, addresses, data where it has any, and parameters
+-- what a message is made of: its code, fixed part, addresses, data if it has any, and parameters
 pub record Content : Type 0 where
   pub code : ℕ
   pub fixed : List ℕ
@@ -21,9 +21,11 @@ pub record Content : Type 0 where
   pub payload : Option (List ℕ)
   pub params : List Parameter
 
+-- these five together
 abbrev pub made_of : ℕ → List ℕ → List Address → Option (List ℕ) → List Parameter → Content
 made_of code fixed addresses payload params = record { code = code; fixed = fixed; addresses = addresses; payload = payload; params = params }
 
+-- what each type of message is made of
 abbrev pub content : Message → Content
 content (messages.Cr slr class called params) = made_of 0x01 (reference_octets slr ++ class ∷ []) (called ∷ []) None params
 content (messages.Cc dlr slr class params) = made_of 0x02 (reference_octets dlr ++ reference_octets slr ++ class ∷ []) [] None params
@@ -53,31 +55,35 @@ sevens (messages.Ak dlr receive credit) = receive ∷ []
 sevens (messages.It dlr slr class send receive more credit) = send ∷ receive ∷ []
 sevens _ = []
 
--- what a message is made of, as parts: the addresses as they are written, and the data behind them
+-- what a message is made of, as parts: the addresses as they are written, and then the data
 abbrev pub parts_with : Content → Parts
 parts_with c = record { code = c.code; fixed = c.fixed; variable = map written c.addresses ++ option_to_list c.payload; params = c.params }
 
+-- the parts of a message
 abbrev pub parts_from : Message → Parts
 parts_from m = parts_with (content m)
 
--- the octets of a message, whether each length and each pointer fits its field or not
+-- the octets of a message, even if a length or a pointer does not fit its field
 abbrev pub message_octets : Message → List ℕ
 message_octets m = option_map_or (λ r. joined r.layout (parts_from m)) (row (content m).code) []
 
--- of each parameter that is known for the type, the first one reads
+-- of each parameter that is known to the type, the first one reads
 abbrev pub Sound : Message → Type 0
 Sound m = first_unread (option_map_or (λ r. r.known) (row (content m).code) []) (content m).params ≡ None
 
+-- each number has seven bits
 abbrev pub AreSevens : List ℕ → Type 0
 AreSevens numbers = AllByRecursion (λ n. n < 128) numbers
 
+-- no parameter has the name 0
 abbrev pub AreNamed : List Parameter → Type 0
 AreNamed params = AllByRecursion (λ p. p.name ≢ 0) params
 
+-- each address is one that read gives, or has a title that Title::global makes
 abbrev pub AreAddresses : List Address → Type 0
 AreAddresses addresses = AllByRecursion IsAddress addresses
 
--- what the types of the fields keep
+-- the fields are in the ranges of their types
 pub record IsMessage (m : Message) : Type 0 where
   pub addresses : AreAddresses (content m).addresses
   pub named : AreNamed (content m).params
@@ -87,7 +93,7 @@ pub record IsMessage (m : Message) : Type 0 where
 abbrev pub Writable : Message → Type 0
 Writable m = option_map_or (λ r. join_fault r.layout (parts_from m)) (row (content m).code) None ≡ None
 
--- octets that are what is written of the message that they are
+-- the octets are a message, and are what is written for it
 pub record Canonical (b : List ℕ) : Type 0 where
   pub message : Message
   pub reads : Reads b message

@@ -1,3 +1,4 @@
+//! The test whether octets are what is written for their message.
 ghost use Rattle.std.specs.Prelude.{◌≡◌, IsTrue, Ok, IfOk};
 ghost use Rattle.sccp_message.specs.Reading.{reading};
 ghost use Rattle.sccp_message.specs.Written.{Canonical};
@@ -11,7 +12,7 @@ use crate::message::Message;
 use sccp_base::OutOfMemory;
 use std::alloc::Global;
 
-// Whether octets are what is written of a message.
+// Whether octets are what is written for a message.
 fn is_written_of(alloc: Global, message: &Message, octets: &[u8]) -> Result<bool, OutOfMemory>
     ensures { IfOk result (λ is. is ≡ is_written octets.now (encoding message.now)) }
 {
@@ -30,7 +31,7 @@ pub fn canonical_as(alloc: Global, message: &Message, octets: &[u8]) -> Result<b
     is_written_of(alloc, message, octets)
 }
 
-// Whether octets decode, and are what is written of their message.
+// Whether octets decode, and are what is written for their message.
 fn is_canonical(alloc: Global, octets: &[u8]) -> Result<bool, OutOfMemory>
     ensures { IfOk result (λ is. is ≡ canonical_octets octets.now) }
 {

@@ -1,16 +1,20 @@
+//! The texts of causes.
 ghost use Rattle.std.specs.Prelude.{◌≡◌};
 ghost use Rattle.std.specs.Option.{option_copied};
 ghost use Rattle.sccp_message.specs.Causes.{text_of};
 
-/// Which causes a number names: return causes, refusal causes or error causes (Q.713 sections 3.12, 3.15 and 3.14).
+/// The list of causes that a number is from: return, refusal or error causes (Q.713 sections 3.12, 3.15 and 3.14).
 #[derive(Clone, Copy)]
 pub enum CauseTable {
+    /// Return causes (3.12).
     Return,
+    /// Refusal causes (3.15).
     Refusal,
+    /// Error causes (3.14).
     Fault,
 }
 
-// The text in the line of a value.
+// The text in the line of a value. `None` if no line has it.
 macro_rules! text {
     ($value:expr; $($number:literal $text:literal)*) => {
         match $value {
@@ -20,7 +24,7 @@ macro_rules! text {
     };
 }
 
-/// The text of a cause, as it is printed; `None` for a value without one.
+/// The text of a cause, as it is printed. `None` for a value without one.
 pub fn cause_text(table: CauseTable, value: u8) -> Option<&'static str>
     ensures { option_copied result ≡ text_of table value }
 {

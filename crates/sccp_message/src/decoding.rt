@@ -1,3 +1,4 @@
+//! Reading a message from octets.
 ghost use Rattle.std.specs.Prelude.{◌≡◌, ◌≤◌, ◌-◌, [], ◌∷◌, length, slice_get, Some, Ok, IfOk, IfErr, ◌⊎◌, true};
 ghost use Rattle.std.specs.List.{range_with_len};
 ghost use Rattle.sccp_base.specs.Answers.{all_ok};
@@ -37,7 +38,7 @@ macro_rules! field {
     };
 }
 
-// The message of a code: a line for each type, with its fields.
+// The message of a code. A line for each type has its fields.
 macro_rules! by_code {
     ($alloc:ident $code:ident $fixed:ident $variable:ident; $($value:literal $variant:ident { $($field:ident: $kind:ident $place:tt),* })*) => {
         match $code {
@@ -49,7 +50,7 @@ macro_rules! by_code {
     };
 }
 
-// What every connectionless message carries: its addresses are the first two variable parts, and its data are the last.
+// What each connectionless message has: its addresses are the first two variable parts, and its data are the last.
 #[derive(Drop)]
 struct Carried {
     called: Address,
@@ -57,6 +58,7 @@ struct Carried {
     payload: Octets,
 }
 
+// Reads these from the variable parts. The fault names the first part that is not an address.
 fn what_is_carried(alloc: Global, variable: &List<Part<'_>>) -> Result<Carried, DecodeFault>
     requires { 2 ≤ length variable.now }
     ensures addresses { Gives (λ c. c.called ∷ c.calling ∷ []) result (all_ok (address_in variable.now) (range_with_len 0 2)) }
@@ -72,7 +74,7 @@ fn what_is_carried(alloc: Global, variable: &List<Part<'_>>) -> Result<Carried, 
     })
 }
 
-// The same with its parameters, where those that are known to it are read.
+// The same with its parameters, once those that are known to the type are tested.
 fn with_tested(
     alloc: Global,
     carried: Carried,
@@ -90,14 +92,14 @@ fn with_tested(
     }
 }
 
-// Connectionless types without an optional part.
+// Whether the type is connectionless without an optional part.
 fn plain_code(code: u8) -> bool
     ensures { result ≡ is_plain code }
 {
     code == 0x09 || code == 0x0A
 }
 
-// The message of a code of that kind: nothing can fail any more.
+// The message of a code of that kind. Nothing can fail any more.
 fn plain_of(code: u8, fixed: &[u8], carried: Carried) -> Message
     requires code { is_plain code ≡ true }
     requires fixed { length fixed.now ≡ 1 }
@@ -124,6 +126,7 @@ fn plain_of(code: u8, fixed: &[u8], carried: Carried) -> Message
     }
 }
 
+// Reads a message of that kind.
 fn plain(
     alloc: Global,
     code: u8,
@@ -141,14 +144,14 @@ fn plain(
     Ok(plain_of(code, fixed, carried))
 }
 
-// Connectionless types with a hop counter and an optional part.
+// Whether the type is connectionless with a hop counter and an optional part.
 fn extended_code(code: u8) -> bool
     ensures { result ≡ is_extended code }
 {
     code == 0x11 || code == 0x12 || code == 0x13 || code == 0x14
 }
 
-// The message of a code of that kind: nothing can fail any more.
+// The message of a code of that kind. Nothing can fail any more.
 fn extended_of(code: u8, fixed: &[u8], carried: Carried, params: List<Param>) -> Message
     requires code { is_extended code ≡ true }
     requires fixed { length fixed.now ≡ 2 }
@@ -196,6 +199,7 @@ fn extended_of(code: u8, fixed: &[u8], carried: Carried, params: List<Param>) ->
     }
 }
 
+// Reads a message of that kind.
 fn extended(
     alloc: Global,
     code: u8,
@@ -214,14 +218,14 @@ fn extended(
     Ok(extended_of(code, fixed, carried, params))
 }
 
-// Connection-oriented types that may have an optional part.
+// Whether the type is connection-oriented and may have an optional part.
 fn code_with_parameters(code: u8) -> bool
     ensures { result ≡ has_parameters code }
 {
     code == 0x01 || code == 0x02 || code == 0x03 || code == 0x04
 }
 
-// A connection request.
+// Reads a connection request message.
 #[tactic(auto, unfolding(crate::specs::Reading::message_in))]
 fn request(
     alloc: Global,
@@ -247,7 +251,7 @@ fn request(
     }
 }
 
-// A connection confirmation. Its variable part, and those of the next two, have nothing: only the clause names them.
+// Reads a connection confirm message. It and the next two types have no variable part; only the clause names it.
 #[tactic(auto, unfolding(crate::specs::Reading::message_in))]
 fn confirm(
     alloc: Global,
@@ -267,7 +271,7 @@ fn confirm(
     })
 }
 
-// A connection refusal.
+// Reads a connection refused message.
 #[tactic(auto, unfolding(crate::specs::Reading::message_in))]
 fn refusal(
     alloc: Global,
@@ -286,7 +290,7 @@ fn refusal(
     })
 }
 
-// A release.
+// Reads a released message.
 #[tactic(auto, unfolding(crate::specs::Reading::message_in))]
 fn release(
     alloc: Global,
@@ -306,6 +310,7 @@ fn release(
     })
 }
 
+// Reads a message of that kind.
 fn with_parameters(
     alloc: Global,
     code: u8,
@@ -325,7 +330,7 @@ fn with_parameters(
     }
 }
 
-// Connection-oriented types of fixed fields, or of these and data.
+// Whether the type is connection-oriented with fixed fields only, or with these and data.
 fn code_without_parameters(code: u8) -> bool
     ensures { result ≡ has_no_parameters code }
 {
@@ -341,6 +346,7 @@ fn code_without_parameters(code: u8) -> bool
         || code == 0x10
 }
 
+// Reads a message of that kind, field by field.
 #[tactic(auto, unfolding(crate::specs::Reading::message_in))]
 fn without_parameters(
     alloc: Global,
@@ -393,6 +399,7 @@ fn message(alloc: Global, parts: Parts<'_>) -> Result<Message, DecodeFault>
     Err(DecodeFault::Split(SplitFault::UnknownType))
 }
 
+// The message by the one definition of what reading gives. `decode` promises the same by what the octets are.
 fn whole(alloc: Global, octets: &[u8]) -> Result<Message, DecodeFault>
     ensures { Gives (λ m. m) result (reading octets.now) }
 {
@@ -404,11 +411,11 @@ fn whole(alloc: Global, octets: &[u8]) -> Result<Message, DecodeFault>
     message(alloc, parts)
 }
 
-/// The message that octets are, of any of the twenty types (Q.713 sections 2 to 4).
+/// Reads a message of any of the twenty types, which is all of the octets (Q.713 sections 2 to 4).
 ///
-/// Parts may stand in any order, overlap or leave gaps; spare bits, and octets behind the last part, are ignored. The
-/// fault is the first test that fails: the type, the length, each variable part, the optional part, each address, each
-/// parameter that is known to the type. Of a repeated name the first parameter counts.
+/// Parts may follow in any order, overlap or leave gaps. Spare bits, and octets after the last part, are ignored. The
+/// fault is the first test that fails. The tests are the type, the length, each variable part, the optional part, each
+/// address, and each parameter that is known to the type. Of a repeated name, the first parameter counts.
 pub fn decode(alloc: Global, octets: &[u8]) -> Result<Message, DecodeFault>
     ensures found { IfOk result (λ m. Reads octets.now m) }
     ensures sound { IfOk result (λ m. Sound m) }

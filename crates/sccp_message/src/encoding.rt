@@ -1,3 +1,4 @@
+//! Writing a message as octets.
 ghost use Rattle.std.specs.Prelude.{◌≡◌, true, ◌+◌, ◌*◌, ◌/◌, ◌%◌, ◌∷◌, [], Some, None, Ok, IfOk};
 ghost use Rattle.sccp_layout.specs.Table.{row};
 ghost use Rattle.sccp_layout.specs.Parts.{parts_made, FitsLayout};
@@ -12,26 +13,28 @@ use sccp_base::{Octets, Reference};
 use sccp_layout::{JoinFault, Param, Part, join_parts};
 use std::alloc::Global;
 
-// The octets of a local reference, from the lowest on.
+// The lowest octet of a local reference.
 fn low(reference: &Reference) -> u8
     ensures { result ≡ reference.now % 256 }
 {
     (reference.value() % 256) as u8
 }
 
+// The middle octet of a local reference.
 fn middle(reference: &Reference) -> u8
     ensures { result ≡ reference.now / 256 % 256 }
 {
     (reference.value() / 256 % 256) as u8
 }
 
+// The highest octet of a local reference.
 fn high(reference: &Reference) -> u8
     ensures { result ≡ reference.now / 65536 }
 {
     (reference.value() / 65536) as u8
 }
 
-// The octets of parts.
+// The octets of a message with these parts.
 fn joined(
     alloc: Global,
     code: u8,
@@ -51,7 +54,7 @@ fn joined(
     }
 }
 
-// The octets of three variable parts.
+// The octets of a message with three variable parts.
 fn joined_unit<'a>(
     alloc: Global,
     code: u8,
@@ -154,7 +157,7 @@ macro_rules! fixed {
     };
 }
 
-// The parameters of a type that may have some, or none.
+// The parameters of a type. A type without an optional part has none.
 macro_rules! list {
     (-) => {
         &[]
@@ -164,7 +167,7 @@ macro_rules! list {
     };
 }
 
-// The octets of a message: a line for each type, with its code, its fields, its fixed part, what it has beside that, and its
+// The octets of a message. A line for each type has its code, its fields, its fixed part, its variable parts and its
 // parameters.
 macro_rules! by_type {
     ($message:expr, $alloc:expr; $($code:literal $variant:ident { $($field:ident),* } [$($fixed:tt)*] $kind:ident($($part:ident),*) $params:tt)*) => {
@@ -176,6 +179,7 @@ macro_rules! by_type {
     };
 }
 
+// The octets of a message, by the line of its type.
 fn whole(alloc: Global, message: &Message) -> Result<Octets, EncodeFault>
     ensures exact { Gives (λ octets. octets) result (encoding message.now) }
     ensures named { IfOk result (λ _. AreNamed (content message.now).params) }
@@ -204,7 +208,7 @@ fn whole(alloc: Global, message: &Message) -> Result<Octets, EncodeFault>
     }
 }
 
-// Sequence numbers have seven bits: their values are read, and nothing is done.
+// Shows that the sequence numbers have seven bits. Their values are read, and nothing is done.
 fn vouch_sevens(message: &Message)
     ensures { AreSevens (sevens message.now) }
 {
@@ -222,12 +226,12 @@ fn vouch_sevens(message: &Message)
     }
 }
 
-/// The octets of a message (Q.713 sections 2 to 4): the parts stand in pointer order without gaps, the optional part last,
-/// and spare bits are 0.
+/// Writes a message as octets (Q.713 sections 2 to 4). The parts follow in pointer order without gaps, the optional part
+/// last, and spare bits are 0.
 ///
-/// `TooLong` where a part or a parameter is longer than its length can say, else `PointerTooFar` for the first pointer
-/// whose value doesn't fit. A sound message with addresses such as `sccp_address::read` and `Title::global` make is read
-/// again from its octets.
+/// `TooLong` if a part or a parameter is longer than its length can say, otherwise `PointerTooFar` for the first pointer
+/// whose value does not fit. A sound message is read again from its octets, if its addresses are such as
+/// `sccp_address::read` and `Title::global` make.
 pub fn encode(alloc: Global, message: &Message) -> Result<Octets, EncodeFault>
     ensures found { IfOk result (λ octets. octets ≡ message_octets message.now) }
     ensures writable { IfOk result (λ _. Writable message.now) }

@@ -1,3 +1,4 @@
+//! Why octets are not a message.
 ghost use Rattle.std.specs.Prelude.{◌≡◌};
 ghost use Rattle.sccp_message.specs.declared.fault.DecodeFault.TheVariants as faults;
 
@@ -7,18 +8,19 @@ use sccp_layout::SplitFault;
 use std::alloc::AllocError;
 use thiserror::Error;
 
-/// Why octets are no message: the first test that fails, in this order. A fault that is carried is never want of memory.
+/// Why octets are not a message: the first test that fails, in this order. The fault inside is never want of memory.
 #[derive(Clone, Copy, Debug, Error)]
 pub enum DecodeFault {
-    /// The type, the length, a pointer, a variable part or the optional part.
+    /// A fault of the type, the length, a pointer, a variable part or the optional part.
     #[error("{0}")]
     Split(SplitFault),
-    /// The first variable part, counted from 0, that is to be an address and isn't.
+    /// The first variable part, counted from 0, that is to be an address and is not.
     #[error("address {0} {1}")]
     Address(u8, AddressFault),
-    /// The first parameter known to the type whose contents don't read, by its name.
+    /// The name of the first parameter known to the type whose contents do not read.
     #[error("field {0:02X}")]
     Field(u8),
+    /// Memory ran out.
     #[error("out of memory")]
     OutOfMemory,
 }

@@ -1,3 +1,4 @@
+//! Fields of a message, read from its parts (Q.713 section 3).
 ghost use Rattle.std.specs.Prelude.{◌≡◌, ◌≤◌, ◌<◌, ◌+◌, ◌-◌, length, slice_get, Some, IfOk};
 ghost use Rattle.sccp_base.specs.Bits.{bit, bits};
 ghost use Rattle.sccp_message.specs.Fields.{reference_at};
@@ -9,7 +10,7 @@ use sccp_base::{List, Octets, OutOfMemory, Reference, Seven};
 use sccp_layout::Part;
 use std::alloc::Global;
 
-// A local reference, whose first octet is the lowest.
+/// A local reference of three octets, the lowest first (3.2, 3.3).
 pub fn reference(octets: &[u8], place: usize) -> Reference
     requires { place + 3 ≤ length octets.now }
     ensures { result ≡ reference_at octets.now place }
@@ -20,21 +21,21 @@ pub fn reference(octets: &[u8], place: usize) -> Reference
     Reference::new(low + 256 * middle + 65536 * high).unwrap()
 }
 
-// A sequence number, in bits 2 to 8.
+/// A sequence number, in bits 2 to 8 of its octet (3.8, 3.9).
 pub fn sequence(octet: u8) -> Seven
     ensures { result ≡ bits octet 2 8 }
 {
     Seven::new(octet >> 1).unwrap()
 }
 
-// Whether more data follow: bit 1.
+/// Whether more data follow: bit 1, which is M (3.7, 3.9).
 pub fn is_more(octet: u8) -> bool
     ensures { result ≡ bit octet 1 }
 {
     octet & 1 == 1
 }
 
-// The address in a variable part.
+/// The address in variable part i (3.4, 3.5). The fault names the part.
 pub fn address(alloc: Global, variable: &List<Part<'_>>, i: u8) -> Result<Address, DecodeFault>
     requires { i + 1 ≤ length variable.now }
     ensures { Gives (λ a. a) result (address_in variable.now i) }
@@ -47,7 +48,7 @@ pub fn address(alloc: Global, variable: &List<Part<'_>>, i: u8) -> Result<Addres
     }
 }
 
-// The data, which are the last variable part.
+/// The data, which are the last variable part (3.16, 3.20).
 pub fn data(alloc: Global, variable: &List<Part<'_>>) -> Result<Octets, OutOfMemory>
     requires { 0 < length variable.now }
     ensures { IfOk result (λ octets. slice_get variable.now (length variable.now - 1) ≡ Some octets) }

@@ -1,10 +1,12 @@
 //! Messages of SCCP, as octets and as values (Q.713 sections 2 to 4).
 //!
-//! `decode` gives the message that octets are, of any of the twenty types, or the first test that fails; `encode` gives
-//! the octets of a message, or the part or the pointer that doesn't fit. Every optional parameter is kept as it stands,
-//! and the contents of those that are known to the type are tested. The layer above may rely on this: a message is read
-//! exactly where the octets say it, then that one alone; no other fault is answered than the first one; and what is
-//! written of a sound message is read as that message, so two such messages are equal exactly where their octets are.
+//! `decode` gives the message that octets are, of any of the twenty types, or the first test that fails. `encode` gives
+//! the octets of a message, or the part or the pointer that does not fit. Every optional parameter is kept unchanged; the
+//! contents of those known to the type are tested.
+//!
+//! The layer above may rely on three facts. A message is read exactly if the octets say it, and then only that one. Only
+//! the first fault is answered. What is written for a sound message is read as that message, so two such messages are
+//! equal exactly if their octets are.
 #![tactic(auto)]
 
 mod canonical_form;
@@ -19,6 +21,7 @@ mod message;
 mod params;
 mod round_trip;
 mod surveying;
+mod unitdata;
 
 pub use canonical_form::{canonical, canonical_as};
 pub use cause::{CauseTable, cause_text};

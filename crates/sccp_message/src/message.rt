@@ -1,3 +1,4 @@
+//! The message of SCCP as a value.
 use sccp_address::Address;
 use sccp_base::{List, Octets, Reference, Seven};
 use sccp_layout::Param;
@@ -5,9 +6,9 @@ use sccp_layout::Param;
 /// A message of SCCP, one variant for each type (Q.713 section 4).
 ///
 /// `dlr` and `slr` are the destination and the source local reference (3.2, 3.3). `class` is the octet of the protocol
-/// class with its options (3.6), `cause` that of the release, return, reset, error or refusal cause (3.11 to 3.15), and
-/// `hops` the hop counter (3.18). `payload` is the data (3.16, 3.20). `params` are the optional parameters in the order
-/// in which they stand, repeats and unknown ones included.
+/// class with its options (3.6). `cause` is the octet of the release, return, reset, error or refusal cause (3.11 to
+/// 3.15), and `hops` the hop counter (3.18). `payload` is the data (3.16, 3.20). `params` are the optional parameters in
+/// the order of the message, repeats and unknown ones included.
 #[derive(Drop)]
 pub enum Message {
     /// Connection request.
@@ -42,7 +43,7 @@ pub enum Message {
         dlr: Reference,
         slr: Reference,
     },
-    /// Data form 1, for class 2. `more` is the M bit: more data follow (3.7).
+    /// Data form 1, for class 2. `more` is the M bit, which says that more data follow (3.7).
     Dt1 {
         dlr: Reference,
         more: bool,
@@ -69,7 +70,7 @@ pub enum Message {
         calling: Address,
         payload: Octets,
     },
-    /// Unitdata service: a unitdata that comes back, with the return cause.
+    /// Unitdata service: a unitdata that is returned, with the return cause.
     Udts {
         cause: u8,
         called: Address,

@@ -1,3 +1,4 @@
+//! Optional parameters: their names, and the test of their contents.
 ghost use Rattle.std.specs.Prelude.{◌≡◌, IfOk};
 ghost use Rattle.std.specs.Option.{option_copied};
 ghost use Rattle.sccp_message.specs.Fields.{param as param_of, field_reads};
@@ -9,22 +10,28 @@ use sccp_base::{List, OutOfMemory};
 use sccp_layout::Param;
 use std::alloc::Global;
 
-// Names of parameters (Q.713 section 3).
+/// The name of the called party address (Q.713 section 3.4).
 pub const CALLED: u8 = 0x03;
 
+/// The name of the calling party address (Q.713 section 3.5).
 pub const CALLING: u8 = 0x04;
 
+/// The name of the credit (Q.713 section 3.10).
 pub const CREDIT: u8 = 0x09;
 
+/// The name of the data (Q.713 section 3.16).
 pub const DATA: u8 = 0x0F;
 
+/// The name of the segmentation (Q.713 section 3.17).
 pub const SEGMENTATION: u8 = 0x10;
 
+/// The name of the hop counter (Q.713 section 3.18).
 pub const HOPS: u8 = 0x11;
 
+/// The name of the importance (Q.713 section 3.19).
 pub const IMPORTANCE: u8 = 0x12;
 
-/// The contents of the first parameter of a name; `None` where no parameter has it.
+/// The contents of the first parameter of a name. `None` if no parameter has it.
 pub fn param(params: &List<Param>, name: u8) -> Option<&[u8]>
     ensures { option_copied result ≡ param_of params.now name }
 {
@@ -51,7 +58,7 @@ fn reads(alloc: Global, name: u8, octets: &[u8]) -> Result<bool, OutOfMemory>
     }
 }
 
-// Tests the first parameter of each of these names, in their order.
+// Tests the first parameter of each of these names, in the order of the names.
 fn test(alloc: Global, names: &[u8], params: &List<Param>) -> Result<(), DecodeFault>
     ensures { Gives (λ _. params.now) result (fields_in names.now params.now) }
 {
@@ -65,7 +72,7 @@ fn test(alloc: Global, names: &[u8], params: &List<Param>) -> Result<(), DecodeF
     Ok(())
 }
 
-// All parameters, once those of the names that are known to the type are tested.
+/// All parameters, once those whose names are known to the type are tested. `Field` names the first one that does not read.
 pub fn tested(alloc: Global, names: &[u8], params: List<Param>) -> Result<List<Param>, DecodeFault>
     ensures { Gives (λ tested. tested) result (fields_in names.now params) }
 {

@@ -1,3 +1,4 @@
+//! The fault of each cut of a message.
 ghost use Rattle.std.specs.Prelude.{◌≡◌, IfOk};
 ghost use Rattle.sccp_message.specs.Reading.{first_fault};
 ghost use Rattle.sccp_message.specs.Survey.{surveyed, IsWholeAlone};
@@ -8,7 +9,7 @@ use crate::fault::DecodeFault;
 use sccp_base::{List, OutOfMemory};
 use std::alloc::Global;
 
-// What keeps octets from being a message; `None` where they are one.
+// What keeps octets from being a message. `None` if they are one.
 fn fault_of(alloc: Global, octets: &[u8]) -> Result<Option<DecodeFault>, OutOfMemory>
     ensures { IfOk result (λ fault. fault ≡ first_fault octets.now) }
 {
@@ -22,7 +23,7 @@ fn fault_of(alloc: Global, octets: &[u8]) -> Result<Option<DecodeFault>, OutOfMe
     }
 }
 
-// The fault of each cut.
+// The fault of each cut, from no octets to all of them.
 fn faults(alloc: Global, octets: &[u8]) -> Result<List<Option<DecodeFault>>, OutOfMemory>
     ensures { IfOk result (λ faults. faults ≡ surveyed octets.now) }
 {
@@ -33,13 +34,13 @@ fn faults(alloc: Global, octets: &[u8]) -> Result<List<Option<DecodeFault>>, Out
     Ok(faults)
 }
 
-/// What keeps each cut of octets from being a message: element n is the first fault of the first n octets, from none of
-/// them to all, and `None` where those are a message.
+/// What keeps each cut of octets from being a message. Element n is the first fault of the first n octets, from none of
+/// them to all, and `None` if those are a message.
 ///
-/// Of octets that are what `encode` writes, the whole alone is a message. Each cut is decoded anew, so the time grows
-/// with the square of the length at most. It grows with the length alone where a cut costs no more than a longest
-/// address: for types without optional part or data, and for what `encode` writes without parameters, since a part is
-/// copied only once all of it is there.
+/// Of octets that `encode` writes, only the whole is a message. Each cut is decoded anew, so the time grows with the
+/// square of the length at most. It grows with the length only, if a cut costs no more than a longest address. This is
+/// so for types without optional part or data, and for what `encode` writes without parameters. The reason is that a
+/// part is copied only once all of it is there.
 pub fn survey(alloc: Global, octets: &[u8]) -> Result<List<Option<DecodeFault>>, OutOfMemory>
     ensures exact { IfOk result (λ faults. faults ≡ surveyed octets.now) }
     ensures whole_alone { IfOk result (λ faults. Canonical octets.now → IsWholeAlone octets.now faults) }

@@ -35,16 +35,16 @@ use Rattle.sccp_work.proofs.Through.{Through}
 pub texts : List Piece → List ℕ
 texts pieces = flat_map (λ p. p.text) pieces
 
--- ---- where a replay stands between two batches
+-- the state of a replay between two batches
 
--- a later plan that was told
+-- a later plan whose line was printed
 pub record IsKnown (z : Scene) (pieces : List Piece) (number : ℕ) (plan : Network) : Type 0 where
   pub bound : ℕ
   pub is_plan : IsPlan plan
   pub safe : IsSafeFor plan bound
   pub told : IsLaterPlan z.c z.first pieces number plan bound
 
--- these lines were told by these pieces
+-- these lines were printed as these pieces
 pub record SoFar (z : Scene) (lines : List Numbered) (pieces : List Piece) (at : Standing) : Type 0 where
   pub first : at.first ≡ z.first
   pub of_lines : map (λ p. p.line) pieces ≡ lines
@@ -76,7 +76,7 @@ TellsLine-more z pieces more p h = λ x role. let t = h x role in record {
   well = t.well;
 }
 
--- so many more lines were told
+-- further lines were printed as further pieces
 SoFar-more : (z : Scene) (lines ls : List Numbered) (pieces more : List Piece) (at at' : Standing) → SoFar z lines pieces at → at'.first ≡ z.first → map (λ p. p.line) more ≡ ls
     → ((p : Piece) → Contains more p → TellsLine (IsPublished z.c z.first z.bound (pieces ++ more)) z.first p)
     → ((k : ℕ) (plan : Network) → slice_get at'.later k ≡ Some plan → IsKnown z (pieces ++ more) (k + 2) plan) → LaterPlansFit z.c ls
@@ -194,7 +194,7 @@ TraceEnds z s = ⊥
 abbrev pub Ends : Scene → Status → List ℕ → Type 0
 Ends z s acc = IsTold z.c z.plan_name z.trace_name s acc × TraceEnds z s
 
--- what was written tells these pieces
+-- what was written is made of these pieces
 abbrev pub IsWritten : Scene → List Piece → List ℕ → Type 0
 IsWritten z pieces acc = acc ≡ first_plan_line z.plan_name z.bound ++ texts pieces
 
@@ -285,7 +285,7 @@ texts_more pieces more = flat_map-append (λ p. p.text) pieces more
 written_more : (z : Scene) (pieces more : List Piece) (acc : List ℕ) → IsWritten z pieces acc → IsWritten z (pieces ++ more) (acc ++ texts more)
 written_more z pieces more acc is = ap (λ t. t ++ texts more) is ∙ append_assoc (first_plan_line z.plan_name z.bound) (texts pieces) (texts more) ∙ ap (λ t. first_plan_line z.plan_name z.bound ++ t) (sym (texts_more pieces more))
 
--- a line that stands alone prints its piece, and adds no plan
+-- a line that ends a batch prints its piece, and adds no plan
 SoFar-alone : (z : Scene) (lines : List Numbered) (pieces : List Piece) (at : Standing) (l : Numbered) (text : List ℕ) (states : List State) → SoFar z lines pieces at → ((x : Incoming) → role_of z.first l.line ≡ routed x → ⊥)
     → ((number : ℕ) (name : List ℕ) → l.line ≡ Plan name → Fits z.c name)
     → SoFar z (lines ++ l ∷ []) (pieces ++ piece_of l text ∷ []) (record at { states = states })
@@ -318,7 +318,7 @@ octets_back : (first : Network) (xs ys : List Numbered) → AllByRecursion (HasO
 octets_back first [] ys h = h
 octets_back first (x ∷ xs) ys h = octets_back first xs ys h.1
 
--- what holds of the lines behind a batch that has begun
+-- what holds of the lines after a batch that has begun
 abbrev Follows : Scene → Status × List ℕ → List Numbered → Type 0
 Follows z closing lines =
     (batch done : List Numbered) (pieces : List Piece) (at : Standing) (acc : List ℕ) → SoFar z done pieces at → IsWritten z pieces acc → lines_in z.c z.trace_name ≡ done ++ (batch ++ lines)

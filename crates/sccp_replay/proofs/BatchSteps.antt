@@ -22,7 +22,7 @@ settled_memory at lines at' ss left first now all = λ next.
     let serves : Standing → List Settled → Work = λ a t. serve (batch_of at a t) (λ ns. next (record a { states = (told_at a t ns).states }) (told_at a t ns).text) in
     all serves (Err Memory) now (Works-memory (settle at' ss left serves) now)
 
--- the messages were routed under lawful numbers, and told
+-- the messages were routed under lawful numbers, and their text was made
 pub batch_told : (at at' at'' : Standing) (lines : List Numbered) (settled : List code.Settled.Settled) (numbers text : List ℕ) (first now : Moment) → SettlesTo at lines at' (map settled_in settled) [] first now
     → AreNumbers (batch_of at at' (map settled_in settled)) numbers
     → text ≡ (told_at at' (map settled_in settled) numbers).text → at'' ≡ record at' { states = (told_at at' (map settled_in settled) numbers).states }
@@ -33,6 +33,6 @@ batch_told at at' at'' lines settled numbers text first now settles are told is 
     λ next result after h.
     given next result after (subst (λ t. Works (next (record at' { states = (told_at at' ss numbers).states }) t) result now after) told (subst (λ a. Works (next a text) result now after) is h))
 
--- the element at a place stands before those behind it
+-- the element at a place is before those that follow it
 pub dropped : {A : Type 0} (xs : List A) (i : ℕ) (x : A) → i < length xs → x ≡ get_or xs i x → drop i xs ≡ x ∷ drop (i + 1) xs
 dropped xs i x lt is = drop_more xs i x lt ∙ ap (λ y. y ∷ drop (i + 1) xs) (sym is)

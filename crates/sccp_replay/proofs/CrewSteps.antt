@@ -27,7 +27,7 @@ use Rattle.sccp_replay.proofs.ReplayerLemmas.{all_ahead, has_plan, is_routed}
 
 -- ---- one worker
 
--- so far these answers, whatever comes behind them
+-- so far these answers, whatever follows them
 pub record RoutedSoFar (at : Standing) (markings : List (List Mark)) (all left : List Settled) (served : List Served) : Type 0 where
   pub routed : (more : List Served) → AreRouted at markings left more → AreRouted at markings all (served ++ more)
   pub numbers : map number_in served ++ numbers_of left ≡ numbers_of all
@@ -74,7 +74,7 @@ both_nodes : (nodes : ℕ) (a : Verified) (coming : List Verified) → length a.
 both_nodes nodes a coming one rest zero plan at = let same : a ≡ plan = cc in subst (λ (p : Verified). length p.plan.nodes ≡ nodes) same one
 both_nodes nodes a coming one rest (suc i) plan at = rest i plan at
 
--- each plan that comes has so many nodes
+-- each plan that is added has this number of nodes
 pub coming_nodes : (nodes : ℕ) (later coming : List Verified) → All (IsPlanOf nodes) (map plan_in later ++ map plan_in coming) → HaveNodes nodes coming
 coming_nodes nodes (a ∷ later) coming all = coming_nodes nodes later coming (All-tail (IsPlanOf nodes) a.plan (map plan_in later ++ map plan_in coming) all)
 coming_nodes nodes [] [] all = λ i plan at. absurd cc
@@ -98,7 +98,7 @@ all_front P (x ∷ xs) ys all = All-cons P x xs (All-head P x (xs ++ ys) all) (a
 fewer_plans : (first : Network) (xs ys : List Network) → ArePlans first (xs ++ ys) → ArePlans first xs
 fewer_plans first xs ys are = record { few = let few = are.few in omega (arith, few, length-append xs ys); sound = are.sound; alike = all_front (IsPlanOf (length first.nodes)) xs ys are.alike }
 
--- so many of the plans were published
+-- some of the plans were published, up to a number
 pub crew_stays : (plans plans' coming : List Verified) (nodes nodes' workers workers' : ℕ) (first : Verified) → IsCrew plans nodes workers first (drop 1 plans) → ArePlans first.plan (map plan_in (drop 1 plans) ++ map plan_in coming)
     → IsPrefix plans plans' → IsPrefix plans' (plans ++ coming) → nodes' ≡ nodes → workers' ≡ workers → IsCrew plans' nodes' workers' first (drop 1 plans')
 crew_stays plans plans' coming nodes nodes' workers workers' first is are p q same_nodes same_workers =

@@ -1,4 +1,4 @@
--- How many lines and octets a reader can be fed before it tells a fault.
+-- How many lines and octets a reader can be fed before it reports a fault.
 use Rattle.std.proofs.Common.{◌≡◌, ◌<◌, ◌≤◌, ◌+◌, ◌*◌, ℕ, List, [], ◌∷◌, ◌++◌, length, Bool, true, false, cond, Option, Some, None, Result, Ok, Err, refl, ◌∙◌, ap, arith, ltb, length-append}
 use Rattle.std.specs.Prelude.{◌||◌}
 use Rattle.std.specs.List.{slice_split, onto_first, count_by}
@@ -12,7 +12,7 @@ use Rattle.trace_text.specs.declared.line.Numbered.{Numbered}
 use Rattle.trace_text.specs.declared.line_fault.LineFault.{LineFault}
 use Rattle.sccp_replay.specs.Replaying.{FeedsOn, HasFed, IsFed}
 
--- ---- a line that is told breaks no limit
+-- a line that is given breaks no limit
 
 first_kept : (a : Bool) (x : LineFault) (limit : Option LineFault) (number : ℕ) (line : TextLine) (l : Numbered) → numbered_content number (held (cond a (Some x) limit) line) ≡ Ok l → a ≡ false
 first_kept true x limit number line l e = absurd cc
@@ -39,7 +39,7 @@ short_line number line l e = ltb-false 8192 (length line.octets) (both_kept (ltb
 short_rest : (number size : ℕ) → limit_of number size ≡ None → size ≤ 8192
 short_rest number size e = ltb-false 8192 size (both_none (ltb 1000000 number) (ltb 8192 size) _ _ e)
 
--- ---- how many lines are told
+-- how many lines are given
 
 one_more : (number : ℕ) (line : TextLine) (r : Result Numbered LineFault) (rest : Fed) → numbered number line ≡ r → number ≤ 1000001
     → (number + 1 ≤ 1000001 → number + 1 + length rest.lines ≤ 1000001) → number + length (and_then r rest).lines ≤ 1000001
@@ -65,7 +65,7 @@ few_told whole text =
 
 -- ---- how many octets they have
 
--- with the line feed behind each part
+-- with the line feed after each part
 abbrev pub octets_in : List (List ℕ) → ℕ
 octets_in [] = 0
 octets_in (part ∷ parts) = length part + 1 + octets_in parts
@@ -127,7 +127,7 @@ few_fed reader reader' count pieces piece fed is goes =
     let all : List ℕ = is.0 ++ piece in
     omega (arith, told_count false count is.0 all fed is.1.lines (goes is.0 is.1.read).1, few_told false all)
 
--- and it told no fault
+-- and it reported no fault
 pub fed_on : (reader reader' : reading.Standing) (count n pieces : ℕ) (piece : List ℕ) (fed : Fed) → IsFed reader count pieces → FeedsOn reader reader' piece fed → 0 < length piece → fed.fault ≡ None
     → n ≡ count + length fed.lines → IsFed reader' n (pieces + 1)
 fed_on reader reader' count n pieces piece fed is goes some none e =
@@ -143,16 +143,16 @@ fed_on reader reader' count n pieces piece fed is goes some none e =
       },
     )
 
--- the end was told
+-- the end was reported
 pub last_few : (reader : reading.Standing) (count : ℕ) (fed : Fed) → IsFed reader count 0 → ((text : List ℕ) → HasRead reader text → told true text ≡ with_front (told false text).lines fed) → count + length fed.lines ≤ 1000000
 last_few reader count fed is goes =
     omega (arith, told_count true count is.0 is.0 fed is.1.lines (goes is.0 is.1.read), few_told true is.0)
 
--- however many pieces came
+-- however many pieces were fed
 pub any_fed : (reader : reading.Standing) (count pieces : ℕ) → IsFed reader count pieces → IsFed reader count 0
 any_fed reader count pieces is = (is.0, record { read = is.1.read; lines = is.1.lines; sound = is.1.sound; long = omega arith })
 
--- there are not so many
+-- the pieces stay below the limit of the loop over them
 pub fed_short : (reader : reading.Standing) (count pieces : ℕ) → IsFed reader count pieces → pieces < 8200000000
 fed_short reader count pieces is =
     let long = is.1.long in

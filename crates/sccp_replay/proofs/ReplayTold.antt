@@ -50,7 +50,7 @@ Through-map ends ends' reads reads' fronts fronts' k e r f (mix old new g) acc h
 Through-map ends ends' reads reads' fronts fronts' k e r f (read_on w) acc h = (r acc h.0, Through-map ends ends' reads reads' fronts fronts' k e r f w acc h.1)
 Through-map ends ends' reads reads' fronts fronts' k e r f (serve b g) acc h = λ ns are. Through-map ends ends' reads reads' fronts fronts' k e r f (g ns) acc (h ns are)
 
--- ---- texts that don't tell an accepted first plan
+-- texts that do not report an accepted first plan
 
 begun : List ℕ
 begun = codes "plan 1 "
@@ -103,7 +103,7 @@ ToldVerdict c plan s text = IsOnRefusal s → HasPlan (Some c) plan (λ p. IsVer
 abbrev EndsAny : Contents → List ℕ → List ℕ → ℕ → Status → List ℕ → Type 0
 EndsAny c plan trace workers s acc = TellsReplay c plan trace s acc × ReplayCause c plan trace s × ToldVerdict c plan s acc
 
--- nothing was written, or so many lines were told
+-- nothing was written, or some first lines were printed
 abbrev ReadsAny : Contents → List ℕ → List ℕ → List ℕ → Type 0
 ReadsAny c plan trace acc = (acc ≡ []) ⊎ ((count : ℕ) × Account c plan (take count (lines_in c trace)) [] acc)
 
@@ -321,12 +321,12 @@ told_so c plan trace workers work ReadFault text b a is h e =
     subst (TellsReplay c plan trace ReadFault) (sym e.1.2) (faulted c plan trace e.1.0 (reads_so c plan trace workers work e.1.0 h (subst (λ k. ComesToReading k work e.1.0) is e.1.1)))
 told_so c plan trace workers work s text b a is h e = (ends_so c plan trace workers work s text h (subst (λ k. Ends k work s text) is e)).0
 
--- what a replay tells, whatever it answers
+-- what a replay prints, whatever it answers
 pub replay_told : (goes : Goes) (c : Contents) (plan trace : List ℕ) (workers : ℕ) (s : Status) (b a : Moment) → b.contents ≡ Some c → (o : Outcome (replay_work plan trace workers) s b a) → TellsReplay c plan trace s o.text
 replay_told goes c plan trace workers s b a is o =
     told_so c plan trace workers (replay_work plan trace workers) s o.text b a is (replay_through goes c plan trace workers (λ first octets there. trace_octets first octets)) o.answers
 
--- why a replay that wasn't cut short ended so
+-- why a replay that was not cut short ended so
 pub replay_ends : (goes : Goes) (c : Contents) (plan trace : List ℕ) (workers : ℕ) (s : Status) (text : List ℕ) → Ends (Some c) (replay_work plan trace workers) s text → ReplayCause c plan trace s
 replay_ends goes c plan trace workers s text e =
     (ends_so c plan trace workers (replay_work plan trace workers) s text (replay_through goes c plan trace workers (λ first octets there. trace_octets first octets)) e).1
@@ -334,7 +334,7 @@ replay_ends goes c plan trace workers s text e =
 told_verdict : {p : Network} {s : Status} {text : List ℕ} (taken taken' : Option (List ℕ)) → taken' ≡ append_known taken text → IsVerdict p s text → Tells p s taken taken'
 told_verdict taken taken' is v = record { verdict = v.verdict; lawful = v.lawful; status = v.status; text = is ∙ ap (λ t. append_known taken t) v.whole }
 
--- a refusal tells a lawful verdict
+-- a refusal gives a lawful verdict
 pub verdict_ends : (goes : Goes) (c : Contents) (plan trace : List ℕ) (workers : ℕ) (s : Status) (text : List ℕ) (taken taken' : Option (List ℕ)) → taken' ≡ append_known taken text
     → (IsOnRefusal s → Ends (Some c) (replay_work plan trace workers) s text) → ReplayTells c plan s taken taken'
 verdict_ends goes c plan trace workers s text taken taken' is ends = λ on.

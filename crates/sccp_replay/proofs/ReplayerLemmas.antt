@@ -22,7 +22,7 @@ use Rattle.sccp_replay.specs.Replay.{Standing, accepted, latest, plan_at, journe
 use Rattle.sccp_replay.specs.Replayers.{IsRouted, IsStanding}
 use Rattle.sccp_replay.specs.Routings.{Routing, ArePlans, AtMostOneMore, HasRoom, IsPlanOf, ahead, plan_in, routing, standing}
 
--- ---- the first plan alone
+-- only the first plan
 
 first_length : (place : ℕ) (nodes : List Node) → length (first_states_from place nodes) ≡ length nodes
 first_length place [] = refl
@@ -64,11 +64,11 @@ comes_or_not (Ok done) at coming coming' plan room is same e =
     (subst (λ (a : Standing). AtMostOneMore at.first (ahead at coming).later a.later) (sym (more_ahead at coming plan)) (one_more_plan at.first (ahead at coming).later plan.plan room is same))
 comes_or_not (Err fault) at coming coming' plan room is same e = tt
 
--- no plan comes
+-- no plan is added
 pub none_more : (first : Network) (later : List Network) → HasRoom first later → AtMostOneMore first later later
 none_more first later room = record { plans = room.plans; few = omega arith }
 
--- the plans that come in a batch are accepted
+-- the plans of a batch are accepted
 pub all_ahead : (workers : ℕ) (first : Verified) (later coming : List Verified) (states : List State) → standing (routing workers first (later ++ coming)) states ≡ ahead (standing (routing workers first later) states) coming
 all_ahead workers first later coming states = ap (λ l. record (standing (routing workers first later) states) { later = l }) (map-append plan_in later coming)
 
@@ -134,7 +134,7 @@ due_length : (plan : Network) (states : List State) (d : Option Due) → length 
 due_length plan states None = refl
 due_length plan states (Some d) = applied_length plan states d.node d.what
 
--- the states changed, or didn't
+-- the states changed, or did not
 states_standing : (at : Standing) (states : List State) → IsStanding at → length states ≡ length at.states → IsStanding (record at { states = states })
 states_standing at states is same = record { plans = is.plans; states = same ∙ is.states }
 

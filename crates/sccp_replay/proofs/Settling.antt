@@ -21,7 +21,7 @@ use Rattle.sccp_address.specs.declared.address.Address.{Address}
 use Rattle.sccp_message.specs.Reading.{reading}
 use Rattle.sccp_message.specs.declared.fault.DecodeFault.{DecodeFault}
 use Rattle.sccp_message.specs.declared.message.Message.{Message}
-use Rattle.sccp_scrc.specs.Unitdata.{called_of}
+use Rattle.sccp_message.specs.Unitdata.{called_of}
 use Rattle.sccp_report.specs.Roles.{Role, routed, later, aside, alone, role_of, role_by_called, role_of_message, role_at, is_for_management, management_data, status_due, named}
 use Rattle.sccp_report.specs.Verdicts.{verdict_text}
 use Rattle.trace_text.specs.declared.line.Line.{Line}
@@ -46,7 +46,7 @@ Same [] (s ∷ ss) = ⊥
 Same (l ∷ ls) [] = ⊥
 Same (l ∷ ls) (s ∷ ss) = Same ls ss
 
--- the line and what it settled to stand at one place
+-- the line and what it settled to are at one place
 abbrev pub At : List Numbered → List Settled → Numbered → Settled → Type 0
 At [] ss l s = ⊥
 At (m ∷ ms) [] l s = ⊥
@@ -116,7 +116,7 @@ abbrev pub InRange : ℕ → Settled → Type 0
 InRange most (prints text) = Unit {0}
 InRange most (routes n x before) = (1 ≤ before) × (before ≤ most)
 
--- so much of a batch was settled
+-- these lines of a batch were settled to these
 pub record Settles (z : Scene) (pieces : List Piece) (least : ℕ) (ls : List Numbered) (ss : List Settled) (at : Standing) : Type 0 where
   pub first : at.first ≡ z.first
   pub same : Same ls ss
@@ -285,7 +285,7 @@ named_fits c l name is_line octets there few n e = subst (Fits c) (same (sym is_
   same : {m n : List ℕ} → Plan m ≡ Plan n → m ≡ n
   same f = cc
 
--- a line that isn't of that role names none
+-- a line that is not of that role names none
 unnamed : (c : Contents) (first : Network) (l : Numbered) (r : Role) → role_of first l.line ≡ r → ((name : List ℕ) → r ≡ later name → ⊥) → LineFits c l
 unnamed c first l r is never name e = absurd (never name (sym is ∙ ap (role_of first) e))
 

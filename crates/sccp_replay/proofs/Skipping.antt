@@ -43,7 +43,7 @@ nothing_told at markings states (routes line x before ∷ front) back (number �
 nothing_before : (front back : List Settled) → filter_map accepted_before (front ++ prints [] ∷ back) ≡ filter_map accepted_before (front ++ back)
 nothing_before front back = filter_map-append accepted_before front (prints [] ∷ back) ∙ sym (filter_map-append accepted_before front back)
 
--- what follows the settling of a batch doesn't see it
+-- what follows the settling of a batch does not see it
 abbrev pub Overlooks : (Standing → List Settled → Work) → Type 0
 Overlooks next = (at : Standing) (front back : List Settled) → next at (front ++ prints [] ∷ back) ≡ next at (front ++ back)
 
@@ -97,13 +97,13 @@ pub same_batch : (at : Standing) (front : List Numbered) (number : ℕ) (back : 
 unfolding batch_work
 same_batch at front number back next = skipped_within at [] front number back (served_with at next) (overlooks at next)
 
--- ---- the lines behind a batch that has begun
+-- the lines after a batch that has begun
 
 still_full : (front : List Numbered) (number : ℕ) (back : List Numbered) → is_full (front ++ skipped number ∷ back) ≡ is_full (front ++ back)
 still_full front number back =
     ap (λ messages. nat_le 1024 (length messages)) (filter-append has_message front (skipped number ∷ back) ∙ sym (filter-append has_message front back))
 
--- what follows doesn't see a skipped line of the batch
+-- what follows does not see a skipped line of the batch
 abbrev pub OverlooksLine : (Standing → List Numbered → Work) → Standing → List Numbered → ℕ → Type 0
 OverlooksLine next at front number = (back : List Numbered) → next at (front ++ skipped number ∷ back) ≡ next at (front ++ back)
 

@@ -1,4 +1,4 @@
--- A trace that comes in pieces.
+-- A trace that is read in pieces.
 use Rattle.std.proofs.Common.{◌≡◌, ℕ, ◌+◌, List, [], ◌∷◌, ◌++◌, length, Bool, true, false, cond, Option, refl, sym, ◌∙◌, ap, append_assoc, arith, inl}
 use Rattle.std.proofs.lemmas.List.{length-append}
 use Rattle.sccp_report.specs.Roles.{Role, routed, later, aside, alone, role_of}
@@ -39,7 +39,7 @@ line_reads k at batch line (routed x) next h = gathered_reads k at (batch ++ lin
 line_reads k at batch line (later name) next h = gathered_reads k at (batch ++ line ∷ []) next h
 line_reads k at batch line aside next h = gathered_reads k at (batch ++ line ∷ []) next h
 
--- whatever lines are still to come, the trace is read on before anything more is written
+-- whatever lines are still to follow, the trace is read on before anything more is written
 pub reads_on : (k : Option Contents) (closing : Status × List ℕ) (lines : List Numbered) (at : Standing) (batch : List Numbered) → ComesToReading k (lines_work closing at batch lines) []
 unfolding lines_work
 reads_on k closing [] at batch = inl refl

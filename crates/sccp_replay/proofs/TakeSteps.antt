@@ -1,4 +1,4 @@
--- The lines of a trace, one after the other, whatever comes behind them.
+-- The lines of a trace, one after the other, whatever follows them.
 use Rattle.std.proofs.Common.{◌≡◌, ℕ, ◌+◌, List, [], ◌∷◌, ◌++◌, length, true, false, cond, Option, Some, None, Result, Ok, Err, refl, sym, ◌∙◌, ap, subst, append-nil, arith}
 use Rattle.std.specs.Prelude.{OnOk, IfOk}
 use Rattle.std.proofs.lemmas.List.{map-append}
@@ -52,7 +52,7 @@ printed t w (Err stop) b m writes k =
     (record { contents = k.contents; sound = k.sound; read_faults = omega (arith, k.read_faults); write_faults = writes.later; taken = writes.appends })
     k.read_faults (λ e. writes.failed (ap Err e)) (λ e. writes.no_reading (ap Err e)) (λ s e. writes.no_answer s (ap Err e))
 
--- ---- a batch, behind which the trace is read on
+-- a batch, after which the trace is read on
 
 pub batch_stopped : (at : Standing) (batch : List Numbered) (stop : Stop) (first now : Moment) → BatchStops at batch (Err stop) first now → (next : Standing → List ℕ → Work) → Works (read_on (batch_work at batch next)) (Err stop) first now
 batch_stopped at batch stop first now stops next = Works-read_on (batch_work at batch next) (Err stop) first first now (still first) (λ s. refl) (stops next)
@@ -74,7 +74,7 @@ batch_written at at' batch text (Ok done) first mid now gives writes k = λ next
 batch_written at at' batch text (Err stop) first mid now gives writes k = λ next.
     batch_went at at' batch text first mid gives (λ a t. print t (next a)) (Err stop) now (printed text (next at') (Err stop) mid now writes k)
 
--- a line that stands alone behind it is written with it
+-- a line that ends it is written with it
 pub alone_written : (at mid_at at' : Standing) (batch : List Numbered) (line : Numbered) (d : Option Due) (text whole : List ℕ) (r : Result (Unit {0}) Stop) (first mid now : Moment) → BatchGives at batch mid_at text first mid
     → whole ≡ text ++ event_text mid_at.first line (done_alone mid_at d).outcomes → at' ≡ record mid_at { states = (done_alone mid_at d).states }
     → Writes whole r mid.taken now.taken mid.write_faults now.write_faults → Kept mid now → StandsAlone at batch line d r at' first now
@@ -134,7 +134,7 @@ takes_alone at at' batch batch' line d (Ok done) first now e stands none = λ ne
 takes_alone at at' batch batch' line d (Err stop) first now e stands none = λ next.
     subst (λ k. Works (line_work at (lines_in batch) line k next) (Err stop) first now) e (stands (λ a. next a []))
 
--- by itself, whatever lines come behind
+-- by itself, whatever lines follow
 pub one_taken : (at at' : Standing) (batch batch' : List Numbered) (line : Numbered) (r : Result (Unit {0}) Stop) (first now : Moment) → TakesLine at batch line r at' batch' first now
     → TakesLines at batch (line ∷ []) r at' batch' first now
 unfolding lines_work
@@ -159,7 +159,7 @@ line_stopped at at' at'' batch batch' batch'' lines left line stop first mid now
 
 -- ---- a piece of the trace
 
--- something may still come
+-- something may still follow
 pub may_come : (left : Option (List ℕ)) → (rest : List ℕ) × MayCome left rest
 may_come None = ([], tt)
 may_come (Some octets) = (octets, refl)
@@ -194,7 +194,7 @@ fault_ends work count at batch reader left fault result first mid now all stands
     let may = may_come left in
     all may.0 may.1 result now (subst (λ w. Works w result mid now) (sym (ap (work_behind count at batch []) (stands may.0) ∙ behind_nothing count at batch fault)) h)
 
--- the last lines were told and taken
+-- the last lines were given and taken
 pub last_taken : (count : ℕ) (at at' : Standing) (batch batch' : List Numbered) (reader : reading.Standing) (fed : Fed) (n : ℕ) (result : Result Status Stop) (first mid now : Moment) → fed ≡ ahead reader true []
     → TakesLines at batch fed.lines (Ok n) at' batch' first mid → n ≡ count + length fed.lines → Works (lines_work (closing_of n fed.fault) at' batch' []) result mid now
     → Works (rest_work count at batch [] reader []) result first now

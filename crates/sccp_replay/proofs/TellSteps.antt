@@ -1,4 +1,4 @@
--- What is told of the lines of a batch, one after the other.
+-- The text of the lines of a batch, one after the other.
 use Rattle.std.proofs.Common.{◌≡◌, ℕ, List, [], ◌∷◌, ◌++◌, length, map, refl, sym, ◌∙◌, ap, subst, append_assoc, append-nil}
 use Rattle.sccp_base.specs.declared.mark.Mark.{Mark}
 use Rattle.relay_net.specs.Batches.{applied_after}
@@ -10,7 +10,7 @@ use Rattle.sccp_replay.specs.Replay.{Standing, Settled, prints, routes, Told, af
 use Rattle.sccp_replay.specs.Replayers.{AreRouted, CanFollow, left_of, number_in, settled_in, told_of}
 use Rattle.sccp_replay.specs.declared.settled as code
 
--- what the line leaves is as the definition tells it
+-- what the line leaves is as in the definition
 one_told : (at : Standing) (markings : List (List Mark)) (states : List State) (s : Settled) (ss : List Settled) (served : List Served) → AreRouted at markings (s ∷ ss) served
     → tell at markings states (s ∷ ss) (map number_in served)
     ≡ after_text (told_of at.first states s served).text (tell at markings (told_of at.first states s served).states ss (map number_in (left_of s served)))
@@ -35,7 +35,7 @@ can_follow at markings (routes line x before) ss (one ∷ served) routed = route
 abbrev with_states : Standing → List State → Standing
 with_states s states = record s { states = states }
 
--- so much was told of a batch, and these lines and answers are left of it
+-- The text of a part of a batch was made, and these lines and answers are left of it.
 pub record Telling (first now : Standing) (text : List ℕ) (all left : List code.Settled.Settled) (served waiting : List Served) : Type 0 where
   pub at : now ≡ record first { states = now.states }
   pub routed : AreRouted first (markings_of first.states) (map settled_in left) waiting

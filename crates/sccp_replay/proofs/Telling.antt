@@ -133,7 +133,7 @@ pieces_prints at mk st (l ∷ ls) (routes line x before ∷ ss) (n ∷ ns) k tex
     let a : Applied = applied_after at.first st x (journey_by at mk x n) in
     there (pieces_of at mk a.states ls ss ns) (piece_of l (served_text at.first line n (journey_by at mk x n) a.outcomes)) (piece_of k text) (pieces_prints at mk a.states ls ss ns k text h)
 
--- ---- what each piece tells
+-- what each piece says
 
 -- the headline of journeys, as a premise
 abbrev pub Goes : Type 0

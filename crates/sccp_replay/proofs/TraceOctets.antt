@@ -15,7 +15,7 @@ use Rattle.sccp_base.specs.Text.{point_code_of}
 use Rattle.sccp_message.specs.Reading.{reading}
 use Rattle.sccp_message.specs.declared.fault.DecodeFault.{DecodeFault}
 use Rattle.sccp_message.specs.declared.message.Message.{Message}
-use Rattle.sccp_scrc.specs.Unitdata.{called_of}
+use Rattle.sccp_message.specs.Unitdata.{called_of}
 use Rattle.plan_model.specs.Network.{Network}
 use Rattle.relay_net.specs.Batches.{Incoming}
 use Rattle.sccp_report.specs.Roles.{routed, alone, role_by_called, role_of_message, role_at, is_for_management, management_data, status_due, named}

@@ -1,4 +1,4 @@
--- The steps of the loop over a trace that comes in pieces.
+-- The steps of the loop over a trace that is read in pieces.
 use Rattle.std.proofs.Common.{◌≡◌, ℕ, ◌+◌, List, [], ◌++◌, length, take, Bool, true, false, Option, Some, None, Result, Ok, Err, IsTrue, refl, sym, ◌∙◌, ap, subst}
 use Rattle.std.specs.Prelude.{is_some}
 use Rattle.std.specs.Io.KnownBytes.{prepend_known}
@@ -25,7 +25,7 @@ use Rattle.sccp_replay.proofs.Streaming.{at_beginning, piece_taken, reads_on}
 use Rattle.sccp_replay.proofs.TakeSteps.{may_come, may_end, fault_ends}
 use Rattle.sccp_work.proofs.WorkLemmas.{Moved, Works-read, Works-reading, Works-moved, Works-failed}
 
--- what was begun may come whole
+-- what was begun may follow whole
 pub told_whole : (k : Option Contents) (name rest : List ℕ) (left : Option (List ℕ)) → lacks k name ≡ false → left ≡ whole k name → MayCome left rest → Reads k name rest
 told_whole None name rest left there is may = tt
 told_whole (Some c) name rest left there is may = by (c name) left there is may where
@@ -53,7 +53,7 @@ piece_waits work count at batch waiting reader reader' left left' piece lines fi
     (Works-moved (rest_work count at batch waiting reader (piece ++ rest)) result before now after moved spared
     (subst (λ w. Works w result now after) (sym (piece_taken count at batch waiting reader reader' piece rest lines (fed rest))) h))
 
--- the trace failed where no line waits, or memory was wanting
+-- the trace could not be read on, or memory was wanting
 pub piece_fails : (work : Work) (count : ℕ) (at : Standing) (batch waiting : List Numbered) (reader : reading.Standing) (left : Option (List ℕ)) (rest : List ℕ) (stop : Stop) (first before now : Moment)
     → GoesOn work count at batch waiting reader left first before → MayCome left rest → Moved before now → (IsTrue before.sound → now.read_faults ≡ before.read_faults) → (stop ≡ Read → Rose before.read_faults now.read_faults) → (stop ≡ Write → ⊥) → ((s : Status) → stop ≡ Answered s → ⊥)
     → Works work (Err stop) first now
@@ -73,7 +73,7 @@ pub record Untouched (b m : Moment) : Type 0 where
 moves : {T : Type 0} (r : Result T IoFault) (b m : Moment) → HasCause b.read_faults m.read_faults r → Untouched b m → Moved b m
 moves r b m cause u = record { contents = u.contents; sound = u.sound; read_faults = cause.later; taken = u.taken; write_faults = u.write_faults }
 
--- the trace couldn't be begun
+-- the trace could not be begun
 pub begin_fails : (name : List ℕ) (f : List ℕ → Work) (fault : IoFault) (stop : Stop) (left left' : Option (List ℕ)) (b m : Moment) → BeginsFile {T = Unit {0}} name (Err fault) b.contents b.sound left left' b.read_faults m.read_faults
     → Untouched b m → stop ≡ reading_stop fault → Works (read name f) (Err stop) b m
 begin_fails name f fault stop left left' b m begins u is =
@@ -88,7 +88,7 @@ trace_begun name at batch reader left left' b m begins u none starts =
     let goes : GoesOn work 0 at [] [] beginning left' b m = begun name at left' b m (moves {T = Unit {0}} (Ok tt) b m begins.cause u) (λ sound there. (begins.spared sound there).same) begins.found begins.all_left in
     subst (λ s. GoesOn work 0 at batch [] s left' b m) (sym starts) (subst (λ l. GoesOn work 0 at l [] beginning left' b m) (sym none) goes)
 
--- a piece couldn't be taken
+-- a piece could not be taken
 pub take_fails : (work : Work) (count : ℕ) (at : Standing) (batch : List Numbered) (reader : reading.Standing) (fault : IoFault) (stop : Stop) (buffer : List ℕ) (left left' : Option (List ℕ)) (first b m : Moment)
     → GoesOn work count at batch [] reader left first b → TakesNext buffer (Err fault) b.sound left left' b.read_faults m.read_faults → Untouched b m → stop ≡ reading_stop fault → Works work (Err stop) first m
 take_fails work count at batch reader fault stop buffer left left' first b m all takes u is =
@@ -122,12 +122,12 @@ end_found work count at batch reader n buffer left left' result first b m after 
     let may : MayCome left [] = subst (λ l. MayCome l []) (sym takes.next) (subst (λ p. MayCome (prepend_known p left') []) (sym nothing) (may_more [] [] left' (may_end left' (takes.end none)))) in
     all [] may result after (Works-moved (rest_work count at batch [] reader []) result b m after (moves (Ok n) b m takes.cause u) (λ sound. (takes.spared sound).same) h)
 
--- no fault was told
+-- no fault was reported
 pub no_fault : (fault : Option LineFault) → false ≡ is_some fault → fault ≡ None
 no_fault None e = refl
 no_fault (Some fault) e = absurd cc
 
--- a fault stands, and the last batch is done
+-- there is a fault, and the last batch is done
 pub fault_stands : (work : Work) (count : ℕ) (at : Standing) (batch : List Numbered) (reader : reading.Standing) (left : Option (List ℕ)) (fault : Option LineFault) (result : Result Status Stop) (first mid now : Moment)
     → GoesOn work count at batch [] reader left first mid → true ≡ is_some fault → reader.fault ≡ fault → Works (lines_work (closing_of count fault) at batch []) result mid now → Works work result first now
 fault_stands work count at batch reader left fault result first mid now all some stands h =

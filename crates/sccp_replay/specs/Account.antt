@@ -1,4 +1,4 @@
--- What a replay prints, line by line, and where each message went.
+-- What a replay prints, line by line, and the journey of each message.
 use Rattle.std.specs.Prelude.{◌≡◌, ◌⊎◌, ℕ, ◌≤◌, List, [], ◌++◌, length, take, map, codes, Some, Ok, IsTrue, IsSomeAnd}
 use Rattle.std.specs.Io.{StartsWith}
 use Rattle.std.specs.List.{Contains, flat_map}
@@ -48,7 +48,8 @@ pub record Piece : Type 0 where
 abbrev pub piece : ℕ → Line → List ℕ → Piece
 piece number line text = record { line = record { number = number; line = line }; text = text }
 
--- a plan of the first one's relays, whose file a line of the trace names, and of which that line's text says that it was accepted under this number
+-- A plan of the first one's relays, whose file a line of the trace names. That line's text says that it was accepted under
+-- this number.
 pub record IsLaterPlan (c : Contents) (first : Network) (pieces : List Piece) (number : ℕ) (plan : Network) (bound : ℕ) : Type 0 where
   pub line : ℕ
   pub name : List ℕ
@@ -61,8 +62,8 @@ abbrev pub IsPublished : Contents → Network → ℕ → List Piece → ℕ →
 IsPublished c first bound pieces number plan bound' =
     ((number ≡ 1) × (plan ≡ first) × (bound' ≡ bound)) ⊎ IsLaterPlan c first pieces number plan bound'
 
--- What is printed of a message that is routed: its whole journey was under one published plan. If that plan covers the message, with room and a hop counter
--- above the plan's bound, then it went well, whatever the relays held prohibited.
+-- What is printed of a message that is routed: its whole journey was under one published plan. If that plan covers the
+-- message, with room and a hop counter above the plan's bound, then it went well, whatever the relays held prohibited.
 pub record TellsJourney (published : ℕ → Network → ℕ → Type 0) (first : Network) (line : ℕ) (x : Incoming) (text : List ℕ) : Type 0 where
   pub number : ℕ
   pub plan : Network
@@ -75,7 +76,7 @@ pub record TellsJourney (published : ℕ → Network → ℕ → Type 0) (first 
   pub told : text ≡ served_text first line number way outcomes
   pub well : (m : Message) (s : Spot) → IsCoveredMessage plan bound x.entry x.octets m s → GoesWell plan prohibited bound m s way.path way.end
 
--- the line is a message that is routed only where its text tells its journey
+-- if the line is a message that is routed, its text gives its journey
 abbrev pub TellsLine : (ℕ → Network → ℕ → Type 0) → Network → Piece → Type 0
 TellsLine published first p = (x : Incoming) → role_of first p.line.line ≡ routed x → TellsJourney published first p.line.number x p.text
 
@@ -89,7 +90,7 @@ pub record Account (c : Contents) (plan_name : List ℕ) (lines : List Numbered)
   pub each : (p : Piece) → Contains pieces p → TellsLine (IsPublished c first bound pieces) first p
   pub whole : text ≡ first_plan_line plan_name bound ++ (flat_map (λ p. p.text) pieces ++ last)
 
--- the last line under an answer; under Done and BadTrace all lines are told
+-- the last line under an answer; under Done and BadTrace all lines are printed
 abbrev pub IsLastLine : Contents → List ℕ → List Numbered → List ℕ → Status → Type 0
 IsLastLine c trace_name lines last Done = (lines ≡ lines_in c trace_name) × (last ≡ end_line (length lines))
 IsLastLine c trace_name lines last BadTrace = (lines ≡ lines_in c trace_name) × IsSomeAnd (fault_in c trace_name) (λ fault. last ≡ bad_line fault)
@@ -97,7 +98,7 @@ IsLastLine c trace_name lines last TooLong = last ≡ too_long
 IsLastLine c trace_name lines last ReadFault = last ≡ read_fault
 IsLastLine c trace_name lines last status = ⊥
 
--- The text is the account of so many first lines of the trace. Where the sink failed or memory was wanting, it is a front of one.
+-- The text is the account of some first lines of the trace. If the sink failed or memory was wanting, it is a front of one.
 abbrev pub IsTextUnder : Contents → List ℕ → List Numbered → List ℕ → List ℕ → List ℕ → Status → Type 0
 IsTextUnder c trace_name lines last whole text WriteFault = StartsWith whole text × ((last ≡ []) ⊎ ((s : Status) × IsLastLine c trace_name lines last s))
 IsTextUnder c trace_name lines last whole text NoMemory = StartsWith whole text × ((last ≡ []) ⊎ ((s : Status) × IsLastLine c trace_name lines last s))
@@ -110,7 +111,7 @@ pub record IsTold (c : Contents) (plan_name trace_name : List ℕ) (given : Stat
   pub account : Account c plan_name (take count (lines_in c trace_name)) last whole
   pub so : IsTextUnder c trace_name (take count (lines_in c trace_name)) last whole text given
 
--- wherever it is printed that the first plan was accepted; under Done and BadTrace it is
+-- whenever it is printed that the first plan was accepted; under Done and BadTrace it is
 pub record TellsReplay (c : Contents) (plan_name trace_name : List ℕ) (given : Status) (text : List ℕ) : Type 0 where
   pub told : StartsWith text (codes "plan 1 ") → IsTold c plan_name trace_name given text
   pub begins : (given ≡ Done) ⊎ (given ≡ BadTrace) → StartsWith text (codes "plan 1 ")

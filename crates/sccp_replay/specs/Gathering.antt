@@ -17,7 +17,7 @@ joining_role (Routed entry origin octets) = routed (incoming entry origin octets
 joining_role (Later name) = later name
 joining_role Aside = aside
 
--- It is the role of the line to a plan, and a message comes to a node of that plan.
+-- It is the role of the line to a plan, and a message arrives at a node of that plan.
 abbrev pub IsJoined : Network → Joined → Type 0
 IsJoined plan one = (joining_role one.joining ≡ role_of plan one.line.line) × StandsIn plan (joining_role one.joining)
 
@@ -33,7 +33,7 @@ has_message line = is_message line.line
 abbrev pub messages_in : List Numbered → ℕ
 messages_in lines = length (filter has_message lines)
 
--- so many of them are messages, 1,024 at most
+-- this number of them are messages, 1,024 at most
 pub record AreGathered (batch : List Joined) (messages : ℕ) : Type 0 where
   pub count : messages ≡ messages_in (lines_in batch)
   pub few : messages ≤ 1024
@@ -55,17 +55,17 @@ pub record MayBeDone (at : Standing) (batch : List Joined) : Type 0 where
   pub joined : All (IsJoined at.first) batch
   pub few : length at.later + length batch ≤ 1000000
 
--- a batch that so many more lines may join or end
+-- a batch that this number of further lines may join or end
 pub record MayTake (lines : ℕ) (at : Standing) (batch : List Joined) : Type 0 where
   pub begun : IsBegun at.first batch
   pub few : length at.later + length batch + lines ≤ 1000000
 
--- so many lines joined or ended it
+-- this number of lines joined or ended it
 pub record HasTaken (lines : ℕ) (at : Standing) (batch : List Joined) (at' : Standing) (batch' : List Joined) : Type 0 where
   pub begun : IsBegun at'.first batch'
   pub few : length at'.later + length batch' ≤ length at.later + length batch + lines
 
--- so many lines of the trace were taken so far
+-- this number of lines of the trace was taken so far
 pub record IsCounted (count : ℕ) (at : Standing) (batch : List Joined) : Type 0 where
   pub begun : IsBegun at.first batch
   pub few : length at.later + length batch ≤ count

@@ -16,13 +16,13 @@ first_plan_line name bound = numbered_plan 1 name bound
 unfoldable pub accepted_plan_line : ℕ → ℕ → List ℕ → ℕ → List ℕ
 accepted_plan_line line number name bound = decimal line ++ codes " " ++ numbered_plan number name bound
 
--- what stands before the words on a later plan that wasn't
+-- the words before those on a later plan that was not accepted
 unfoldable pub refused_plan_head : ℕ → List ℕ → List ℕ
 refused_plan_head line name = decimal line ++ codes " plan " ++ name ++ codes " "
 
 unfoldable pub bad_plan_line : ℕ → List ℕ → PlanFault → List ℕ
 bad_plan_line line name fault = refused_plan_head line name ++ bad_plan fault
 
--- its relays aren't those of the first plan
+-- its relays are not those of the first plan
 unfoldable pub other_nodes_line : ℕ → List ℕ → List ℕ
 other_nodes_line line name = refused_plan_head line name ++ codes "other nodes\n"

@@ -1,3 +1,4 @@
+-- The definitions of this crate, one file a subject.
 pub mod Account
 pub mod Gathering
 pub mod LaterPlans

@@ -33,7 +33,7 @@ use Rattle.sccp_work.specs.Work.{Work, print, read, read_on, judge, serve, answe
 use Rattle.sccp_work.specs.declared.status.Status.{Status}
 use Rattle.sccp_work.specs.declared.status.Status.TheVariants.{Done, BadTrace}
 
--- where a replay stands: its first plan, the later ones that were accepted so far in their order, and what the nodes keep
+-- the state of a replay: its first plan, the later ones that were accepted so far in their order, and what the nodes keep
 pub record Standing : Type 0 where
   pub workers : ℕ
   pub first : Network
@@ -53,7 +53,8 @@ latest at = plan_at at (accepted at)
 
 -- ---- the plan lines of a batch are settled before it begins
 
--- a line of a batch that is settled: what is printed of it; or a message that is to be routed, with the number of plans accepted before its line
+-- A line of a batch that is settled: what is printed of it, or a message that is to be routed, with the number of plans
+-- accepted before its line.
 pub data Settled : Type 0 where
   prints : List ℕ → Settled
   routes : ℕ → Incoming → ℕ → Settled
@@ -78,7 +79,7 @@ settle_line at line (routed x) next = next at (routes line.number x (accepted at
 settle_line at line aside next = next at (prints (event_text at.first line []))
 settle_line at line (alone d) next = next at (prints (event_text at.first line []))
 
--- behind what was settled before
+-- after what was settled before
 unfoldable pub settle : Standing → List Settled → List Numbered → (Standing → List Settled → Work) → Work
 settle at done [] next = next at done
 settle at done (line ∷ lines) next =
@@ -105,7 +106,8 @@ after_text text t = record { text = text ++ t.text; states = t.states }
 abbrev pub journey_by : Standing → List (List Mark) → Incoming → ℕ → Journey
 journey_by at markings x number = journey (plan_at at number) markings x.entry x.origin x.octets
 
--- Each message has its journey under the plan of its number and what the nodes held prohibited before the batch; what its end leaves to be done is done line by line.
+-- Each message has its journey under the plan of its number and what the nodes held prohibited before the batch. What its
+-- end leaves to be done is done line by line.
 unfoldable pub tell : Standing → List (List Mark) → List State → List Settled → List ℕ → Told
 tell at markings states [] numbers = record { text = []; states = states }
 tell at markings states (prints text ∷ settled) numbers = after_text text (tell at markings states settled numbers)
@@ -118,7 +120,7 @@ tell at markings states (routes line x before ∷ settled) (number ∷ numbers) 
 abbrev pub told_at : Standing → List Settled → List ℕ → Told
 told_at at settled numbers = tell at (markings_of at.states) at.states settled numbers
 
--- the batch's text, and where the replay stands behind it
+-- the batch's text, and the state of the replay after it
 unfoldable pub batch_work : Standing → List Numbered → (Standing → List ℕ → Work) → Work
 batch_work at lines next =
     settle at [] lines (λ at' settled. serve (batch_of at at' settled) (λ numbers.
@@ -134,7 +136,7 @@ is_message line = false
 abbrev pub is_full : List Numbered → Bool
 is_full batch = nat_le 1024 (length (filter (λ line. is_message line.line) batch))
 
--- what a line that stands alone does is done under the latest plan
+-- what a line that ends a batch asks for is done under the latest plan
 abbrev pub done_alone : Standing → Option Due → Applied
 done_alone at d = applied_if_due (latest at) at.states d
 
@@ -148,14 +150,15 @@ batch_printed at batch next = read_on (batch_work at batch (λ at' text. print t
 abbrev pub gathered : Standing → List Numbered → (Standing → List Numbered → Work) → Work
 gathered at batch next = if is_full batch then batch_printed at batch (λ at'. next at' []) else next at batch
 
--- one more line: it joins the batch that has begun, or stands alone behind it
+-- one more line: it joins the batch that has begun, or ends it
 abbrev pub line_work : Standing → List Numbered → Numbered → Role → (Standing → List Numbered → Work) → Work
 line_work at batch line (alone d) next = read_on (batch_work at batch (alone_work line d (λ at'. next at' [])))
 line_work at batch line (routed x) next = gathered at (batch ++ line ∷ []) next
 line_work at batch line (later name) next = gathered at (batch ++ line ∷ []) next
 line_work at batch line aside next = gathered at (batch ++ line ∷ []) next
 
--- the lines behind the batch that has begun; what is left at the end is a last batch, and its text and the closing line are printed
+-- The lines after the batch that has begun. What is left at the end is a last batch, and its text and the closing line are
+-- printed.
 unfoldable pub lines_work : Status × List ℕ → Standing → List Numbered → List Numbered → Work
 lines_work closing at batch [] = read_on (batch_work at batch (λ at' text. answered (closing.0, text ++ closing.1)))
 lines_work closing at batch (line ∷ lines) =
@@ -164,7 +167,7 @@ lines_work closing at batch (line ∷ lines) =
 unfoldable pub end_line : ℕ → List ℕ
 end_line lines = numbered (codes "end ") lines ++ codes "\n"
 
--- the number of lines, or the fault of the line behind them
+-- the number of lines, or the fault of the line after them
 abbrev pub closing_of : ℕ → Option LineFault → Status × List ℕ
 closing_of lines None = (Done, end_line lines)
 closing_of lines (Some fault) = (BadTrace, bad_line fault)
@@ -175,7 +178,7 @@ trace_work at trace = lines_work (closing_of (length trace.lines) trace.fault) a
 abbrev pub start : ℕ → Network → Standing
 start workers plan = record { workers = workers; first = plan; later = []; states = first_states plan }
 
--- the first plan that is accepted is told, and then the trace is read
+-- the line of an accepted first plan is printed, and then the trace is read
 abbrev pub replayed : List ℕ → List ℕ → ℕ → Network → Verdict → Work
 replayed plan_name trace_name workers plan (Accepted a) =
     print (first_plan_line plan_name a.bound) (read trace_name (λ octets. trace_work (start workers plan) (trace_of octets)))

@@ -28,8 +28,8 @@ LaterPlansThere c lines = (number : ℕ) (name : List ℕ) → NamesPlan lines n
 abbrev pub SomeLaterPlanIsLong : Contents → List Numbered → Type 0
 SomeLaterPlanIsLong c lines = (number : ℕ) × (name : List ℕ) × NamesPlan lines number name × HasLongFile (Some c) name
 
--- An accepted first plan, of which this holds; a trace that is there and has no faulty line, or one that has one; later plans whose files fit.
--- Too long is the file of the first plan or, behind an accepted first plan, that of a later one.
+-- An accepted first plan, of which this holds; a trace that is there and has no faulty line, or one that has one; later
+-- plans whose files fit. Too long is the file of the first plan or, after an accepted first plan, that of a later one.
 abbrev pub EndsWhere : (Network → Type 0) → Contents → List ℕ → List ℕ → Status → Type 0
 EndsWhere accepted c plan trace Done = HasPlan (Some c) plan accepted × IsSome (c trace) × (fault_in c trace ≡ None) × LaterPlansFit c (lines_in c trace)
 EndsWhere accepted c plan trace BadTrace = HasPlan (Some c) plan accepted × IsSome (fault_in c trace) × LaterPlansFit c (lines_in c trace)
@@ -43,10 +43,10 @@ ReplayCause c plan trace Refused = HasPlan (Some c) plan IsBad
 ReplayCause c plan trace TooWide = HasPlan (Some c) plan IsWide
 ReplayCause c plan trace answer = EndsWhere IsSafe c plan trace answer
 
--- What brings an answer for sure: a first plan that is both safe and wide may be told to be too wide as well.
+-- What gives an answer for sure: a first plan that is both safe and wide may be reported as too wide as well.
 abbrev pub ReplaySure : Contents → List ℕ → List ℕ → Status → Type 0
 ReplaySure c plan trace answer = EndsWhere (λ p. IsSafe p × (IsWide p → ⊥)) c plan trace answer
 
--- such an answer tells a lawful verdict on the first plan
+-- such an answer gives a lawful verdict on the first plan
 abbrev pub ReplayTells : Contents → List ℕ → Status → Option (List ℕ) → Option (List ℕ) → Type 0
 ReplayTells c plan given taken taken' = IsOnRefusal given → HasPlan (Some c) plan (λ p. Tells p given taken taken')

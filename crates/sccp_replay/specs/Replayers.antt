@@ -1,4 +1,4 @@
--- What the code of a replay keeps, as a standing, and what it makes of a batch.
+-- What the code of a replay keeps, as a `Standing`, and what it makes of a batch.
 use Rattle.std.specs.Prelude.{◌≡◌, ℕ, ◌+◌, ◌<◌, ◌≤◌, List, [], ◌∷◌, ◌++◌, length, map}
 use Rattle.std.specs.List.{All, filter_map}
 use Rattle.plan_model.specs.Network.{Network}
@@ -25,12 +25,12 @@ abbrev pub settled_in : code.Settled.Settled → Settled
 settled_in (Prints text) = prints text
 settled_in (Routes line entry origin octets before) = routes line (incoming entry origin octets) before
 
--- the message comes to a node of the plan
+-- the message arrives at a node of the plan
 abbrev pub ComesToNode : Network → code.Settled.Settled → Type 0
 ComesToNode plan (Prints text) = Unit {0}
 ComesToNode plan (Routes line entry origin octets before) = entry < length plan.nodes
 
--- each message comes to a node of the plan, and a batch has no more lines than a trace
+-- each message arrives at a node of the plan, and a batch has no more lines than a trace
 pub record MayBeRouted (plan : Network) (settled : List code.Settled.Settled) : Type 0 where
   pub fits : All (ComesToNode plan) settled
   pub few : length settled ≤ 1000000
@@ -53,7 +53,8 @@ jobs_from index (routes line x before ∷ settled) = job_of index x ∷ jobs_fro
 abbrev pub number_in : Served → ℕ
 number_in served = served.number
 
--- A message had its journey under the plan of the number that the answer names, and what the journey's end leaves to be done can be done.
+-- A message had its journey under the plan of the number that the answer names. What the journey's end leaves to be done can
+-- be done.
 pub record IsRouted (at : Standing) (markings : List (List Mark)) (x : Incoming) (served : Served) : Type 0 where
   pub journey : served.journey ≡ journey_by at markings x served.number
   pub due : CanBeDone (length at.first.nodes) (due_after x served.journey.path served.journey.end)
@@ -71,12 +72,12 @@ pub record RoutesBatch (at at' : Standing) (settled : List Settled) (served : Li
   pub routed : AreRouted at' (markings_of at.states) settled served
   pub numbers : AreNumbers (batch_of at at' settled) (map number_in served)
 
--- what one worker leaves of the answers when it comes to a line
+-- what one worker leaves of the answers when it reaches a line
 abbrev pub RoutesLine : Standing → List (List Mark) → Settled → List Served → List Served → Type 0
 RoutesLine at markings (prints text) before after = after ≡ before
 RoutesLine at markings (routes line x number) before after = (one : Served) × (after ≡ before ++ one ∷ []) × (one.number ≡ number) × IsRouted at markings x one
 
--- ---- what is told of a settled line, where these answers are left
+-- the text of a settled line, if these answers are left
 
 abbrev pub CanFollow : ℕ → Settled → List Served → Type 0
 CanFollow nodes (prints text) served = Unit {0}

@@ -19,7 +19,7 @@ EndsAs whole left first now = (result : Result Status Stop) (after : Moment) →
 abbrev pub SettlesTo : Standing → List Numbered → Standing → List Settled → List Numbered → Moment → Moment → Type 0
 SettlesTo at lines at' settled left first now = (next : Standing → List Settled → Work) → EndsAs (settle at [] lines next) (settle at' settled left next) first now
 
--- a batch is done: its text, and where the replay stands behind it
+-- a batch is done: its text, and the state of the replay after it
 abbrev pub BatchGives : Standing → List Numbered → Standing → List ℕ → Moment → Moment → Type 0
 BatchGives at lines at' text first now = (next : Standing → List ℕ → Work) → EndsAs (batch_work at lines next) (next at' text) first now
 
@@ -27,7 +27,7 @@ BatchGives at lines at' text first now = (next : Standing → List ℕ → Work)
 abbrev pub BatchStops : Standing → List Numbered → Result Status Stop → Moment → Moment → Type 0
 BatchStops at lines result first now = (next : Standing → List ℕ → Work) → Works (batch_work at lines next) result first now
 
--- what may still come of a file: what is left of it, where that is told
+-- what may still follow of a file: what is left of it, if that is known
 abbrev pub MayCome : Option (List ℕ) → List ℕ → Type 0
 MayCome None rest = Unit {0}
 MayCome (Some octets) rest = octets ≡ rest
@@ -35,16 +35,17 @@ MayCome (Some octets) rest = octets ≡ rest
 abbrev pub work_behind : ℕ → Standing → List Numbered → List Numbered → Fed → Work
 work_behind count at batch waiting fed = lines_work (closing_of (count + length fed.lines) fed.fault) at batch (waiting ++ fed.lines)
 
--- So many lines were read. Those of a batch that has begun are gathered, others wait; the reader has the rest of the trace to come.
+-- This number of lines was read. Those of a batch that has begun are gathered, others wait; the reader has the rest of the
+-- trace to read.
 abbrev pub rest_work : ℕ → Standing → List Numbered → List Numbered → reading.Standing → List ℕ → Work
 rest_work count at batch waiting reader rest = work_behind count at batch waiting (ahead reader true rest)
 
--- the loop over the pieces of a trace: whatever may still come of it
+-- the loop over the pieces of a trace: whatever may still follow of it
 abbrev pub GoesOn : Work → ℕ → Standing → List Numbered → List Numbered → reading.Standing → Option (List ℕ) → Moment → Moment → Type 0
 GoesOn whole count at batch waiting reader left first now =
     (rest : List ℕ) → MayCome left rest → EndsAs whole (rest_work count at batch waiting reader rest) first now
 
--- the reader was fed this text in so many pieces of at least one octet: it told so many lines, and no fault
+-- The reader was fed this text in this number of pieces of at least one octet: it gave this number of lines, and no fault.
 pub record HasFed (reader : reading.Standing) (count pieces : ℕ) (text : List ℕ) : Type 0 where
   pub read : HasRead reader text
   pub lines : count ≡ length (told false text).lines
@@ -55,7 +56,8 @@ pub record HasFed (reader : reading.Standing) (count pieces : ℕ) (text : List 
 abbrev pub IsFed : reading.Standing → ℕ → ℕ → Type 0
 IsFed reader count pieces = (text : List ℕ) × HasFed reader count pieces text
 
--- what a call of the reader gives, whatever it was fed before: behind the text and this piece these lines follow those before
+-- What a call of the reader gives, whatever it was fed before: of the text and this piece after it, these lines follow those
+-- before.
 abbrev pub FeedsOn : reading.Standing → reading.Standing → List ℕ → Fed → Type 0
 FeedsOn reader reader' piece fed =
     (text : List ℕ) → HasRead reader text → HasRead reader' (text ++ piece) × (told false (text ++ piece) ≡ with_front (told false text).lines fed)

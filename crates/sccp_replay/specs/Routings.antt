@@ -18,15 +18,15 @@ routing workers first later = record { workers = workers; first = first; later =
 abbrev pub plan_in : Verified → Network
 plan_in accepted = accepted.plan
 
--- where a replay stands with it
+-- the state of a replay with it
 abbrev pub standing : Routing → List State → Standing
 standing r states = record { workers = r.workers; first = r.first.plan; later = map plan_in r.later; states = states }
 
--- with plans that come in a batch and aren't published yet
+-- with plans of a batch that are not published yet
 abbrev pub ahead : Standing → List Verified → Standing
 ahead at coming = record at { later = at.later ++ map plan_in coming }
 
--- a plan with so many nodes
+-- a plan with this number of nodes
 abbrev pub IsPlanOf : ℕ → Network → Type 0
 IsPlanOf nodes plan = IsPlan plan × (length plan.nodes ≡ nodes)
 
@@ -36,12 +36,12 @@ pub record ArePlans (first : Network) (later : List Network) : Type 0 where
   pub sound : IsPlan first
   pub alike : All (IsPlanOf (length first.nodes)) later
 
--- one more later plan may come: each has a line of its own in a trace of at most 1,000,000 lines
+-- one more later plan may follow: each has a line of its own in a trace of at most 1,000,000 lines
 pub record HasRoom (first : Network) (later : List Network) : Type 0 where
   pub plans : ArePlans first later
   pub few : length later < 1000000
 
--- at most one more came
+-- at most one more followed
 pub record AtMostOneMore (first : Network) (before later : List Network) : Type 0 where
   pub plans : ArePlans first later
   pub few : length later ≤ length before + 1
@@ -49,7 +49,7 @@ pub record AtMostOneMore (first : Network) (before later : List Network) : Type 
 abbrev pub IsRouting : Routing → Type 0
 IsRouting r = ArePlans r.first.plan (map plan_in r.later)
 
--- of several workers: the first plan begins the publisher's list, and each plan has so many nodes
+-- of several workers: the first plan begins the publisher's list, and each plan has this number of nodes
 pub record IsCrew (plans : List Verified) (nodes workers : ℕ) (first : Verified) (later : List Verified) : Type 0 where
   pub several : 1 < workers
   pub few : workers ≤ 16

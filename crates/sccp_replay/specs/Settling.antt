@@ -59,7 +59,7 @@ abbrev pub Gathers : {T : Type 0} → Standing → List Numbered → Numbered �
 Gathers at batch line (Ok done) at' batch' first now = (next : Standing → List Numbered → Work) → EndsAs (gathered at (batch ++ line ∷ []) next) (next at' batch') first now
 Gathers at batch line (Err stop) at' batch' first now = (next : Standing → List Numbered → Work) → Works (gathered at (batch ++ line ∷ []) next) (Err stop) first now
 
--- a line stands alone behind it
+-- a line ends it
 abbrev pub StandsAlone : {T : Type 0} → Standing → List Numbered → Numbered → Option Due → Result T Stop → Standing → Moment → Moment → Type 0
 StandsAlone at batch line d (Ok done) at' first now = (next : Standing → Work) → EndsAs (read_on (batch_work at batch (alone_work line d next))) (next at') first now
 StandsAlone at batch line d (Err stop) at' first now = (next : Standing → Work) → Works (read_on (batch_work at batch (alone_work line d next))) (Err stop) first now
@@ -74,7 +74,7 @@ abbrev pub TakesLine : {T : Type 0} → Standing → List Numbered → Numbered 
 TakesLine at batch line (Ok done) at' batch' first now = (next : Standing → List Numbered → Work) → EndsAs (line_work at batch line (role_of at.first line.line) next) (next at' batch') first now
 TakesLine at batch line (Err stop) at' batch' first now = (next : Standing → List Numbered → Work) → Works (line_work at batch line (role_of at.first line.line) next) (Err stop) first now
 
--- more of them, whatever lines come behind
+-- more of them, whatever lines follow
 abbrev pub TakesLines : {T : Type 0} → Standing → List Numbered → List Numbered → Result T Stop → Standing → List Numbered → Moment → Moment → Type 0
 TakesLines at batch lines (Ok done) at' batch' first now = (closing : Status × List ℕ) (more : List Numbered) → EndsAs (lines_work closing at batch (lines ++ more)) (lines_work closing at' batch' more) first now
 TakesLines at batch lines (Err stop) at' batch' first now = (closing : Status × List ℕ) (more : List Numbered) → Works (lines_work closing at batch (lines ++ more)) (Err stop) first now

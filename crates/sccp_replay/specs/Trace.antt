@@ -11,10 +11,10 @@ use Rattle.trace_text.specs.declared.line_fault.LineFault.{LineFault}
 abbrev pub trace_of : List ℕ → Fed
 trace_of text = told true text
 
--- the lines of a trace file up to the first that has a fault; none where there is no such file
+-- the lines of a trace file up to the first that has a fault; none if there is no such file
 abbrev pub lines_in : Contents → List ℕ → List Numbered
 lines_in c name = option_map_or (λ text. (trace_of text).lines) (c name) []
 
--- the fault of the line behind them
+-- the fault of the line after them
 abbrev pub fault_in : Contents → List ℕ → Option LineFault
 fault_in c name = option_and_then (λ text. (trace_of text).fault) (c name)

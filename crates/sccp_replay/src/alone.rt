@@ -1,4 +1,4 @@
-//! One worker.
+//! One worker, who routes the messages of a replay in turn.
 ghost use Rattle.std.specs.Prelude.{◌≡◌, ◌+◌, ◌^◌, ◌<◌, [], ◌++◌, All, map, length, IfOk, OnOk};
 ghost use Rattle.relay_net.specs.States.{markings_of};
 ghost use Rattle.sccp_report.specs.Roles.{incoming};
@@ -43,7 +43,7 @@ fn plan_of_number<'a>(first: &'a Accepted, later: &'a [Accepted], number: u32) -
     }
 }
 
-/// A message has its journey under the plan of this number.
+/// Routes one message under the plan of this number.
 fn route_one(
     alloc: Global,
     first: &Accepted,
@@ -61,13 +61,13 @@ fn route_one(
     ensures routed { IfOk result (IsRouted (standing (routing 1 first.now later.now) states.now) (markings_of states.now) (incoming entry origin octets.now)) }
 {
     let accepted = plan_of_number(first, later, number);
-    // It ensures that this is a plan.
+    // This call ensures that the plan is sound.
     let _plan = accepted.plan();
     let journey = journey(alloc, accepted, states, entry, origin, octets)?;
     Ok(Served { number, journey })
 }
 
-/// One more line of a batch.
+/// Routes the message of one more line of a batch, if it has one.
 fn route_line(
     alloc: Global,
     first: &Accepted,
@@ -99,7 +99,7 @@ fn route_line(
     }
 }
 
-/// The messages of a batch, one after the other.
+/// Routes the messages of a batch, one after the other.
 fn route_all(
     alloc: Global,
     first: &Accepted,
@@ -121,11 +121,11 @@ fn route_all(
 }
 
 impl Alone {
-    /// The first plan alone was accepted.
+    /// A worker for whom only the first plan was accepted.
     pub fn new(alloc: Global, first: Accepted) -> Alone
         ensures { result ≡ routing 1 first [] }
     {
-        // It ensures that this is a plan.
+        // This call ensures that the plan is sound.
         let _plan = first.plan();
         Alone {
             first,
@@ -156,7 +156,7 @@ impl Alone {
         plan_of_number(&self.first, self.later.as_slice(), number)
     }
 
-    /// The messages of a batch are routed, and the plans that come in it are accepted.
+    /// Routes the messages of a batch, and accepts the plans that are in it.
     pub fn route(
         &mut self,
         alloc: Global,

@@ -1,4 +1,4 @@
-//! A batch of lines.
+//! A batch of lines: its plans, its messages, and its text.
 ghost use Rattle.std.specs.Prelude.{◌≡◌, ◌+◌, ◌≤◌, length, OnOk};
 ghost use Rattle.sccp_replay.specs.Gathering.{MayBeDone, lines_in};
 ghost use Rattle.sccp_work.specs.Moment.{moment};
@@ -17,8 +17,9 @@ use std::alloc::Global;
 use std::sync::Wait;
 use std::thread::Threads;
 
-/// The text of a batch. Its plan lines are settled first; then its messages are routed, each under a number that its worker may
-/// take and the markings that stood before the batch, and what the ends leave to be done is done in the order of the lines.
+/// The text of a batch. Its plan lines are settled first. Then its messages are routed, each under a number that its worker
+/// may take and the markings that were held before the batch. What the ends leave to be done is done in the order of the
+/// lines.
 #[tactic(auto, using(crate::proofs::BatchSteps::settled_memory, crate::proofs::BatchSteps::batch_told))]
 pub fn batch_text<R: Threads + Wait + Sync, G: Gate + Sync, F: Files, K: Sink>(
     rt: &R,
@@ -37,7 +38,7 @@ pub fn batch_text<R: Threads + Wait + Sync, G: Gate + Sync, F: Files, K: Sink>(
     ensures few { OnOk result (length at.new.later ≤ length at.old.later + length joined) }
     ensures left { F.left files.new ≡ F.left files.old }
 {
-    // It ensures that the plans are sound.
+    // This call ensures that the plans are sound.
     let _first = at.first();
     let mut coming = List::new(alloc);
     let settled = settle(alloc, at, &mut coming, joined, files, out)?;

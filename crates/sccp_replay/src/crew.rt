@@ -1,4 +1,4 @@
-//! Several workers.
+//! Several workers, who route the messages of a replay beside each other.
 ghost use Rattle.std.specs.Prelude.{◌≡◌, ◌+◌, ◌^◌, ◌<◌, ◌≤◌, [], ◌∷◌, ◌++◌, map, length, IfOk, OnOk};
 ghost use Rattle.sccp_replay.specs.Replay.{latest};
 ghost use Rattle.sccp_replay.specs.Replayers.{MayBeRouted, RoutesBatch, jobs_from, settled_in};
@@ -14,8 +14,8 @@ use std::marker::Model;
 use std::sync::Wait;
 use std::thread::Threads;
 
-/// Several workers, who route messages beside each other while the plans that come in a batch are published. It can't be
-/// dropped: `end` ends it.
+/// Several workers, who route messages beside each other while the plans of a batch are published. It cannot be dropped:
+/// `end` ends it.
 pub struct Crew {
     first: Entry,
     teller: Teller,
@@ -35,7 +35,7 @@ impl Model for Crew {
     ghost invariant = { λ c. IsCrew (plans_of c.teller) c.teller.nodes (length c.workers) (entry_plan c.first) (drop 1 (plans_of c.teller)) × All (λ w. w.place.nodes ≡ c.teller.nodes) c.workers };
 }
 
-/// A message that is to be routed becomes the next job.
+/// Makes a message that is to be routed the next job.
 fn add_job(alloc: Global, one: &Settled, jobs: &mut List<Job>) -> Result<(), OutOfMemory>
     requires { length jobs.old < 2 ^ 32 }
     ensures { OnOk result (jobs.new ≡ jobs.old ++ jobs_from (length jobs.old) (settled_in one.now ∷ [])) }
@@ -72,7 +72,7 @@ fn jobs_of(alloc: Global, settled: &[Settled]) -> Result<List<Job>, OutOfMemory>
 }
 
 impl Crew {
-    /// So many workers, and the first plan alone.
+    /// This number of workers, with only the first plan accepted.
     pub fn new<R: Wait>(
         rt: &R,
         alloc: Global,
@@ -82,7 +82,7 @@ impl Crew {
         requires { (1 < workers) × (workers ≤ 16) }
         ensures { IfOk result (λ c. c ≡ routing workers first []) }
     {
-        // It ensures that this is a plan.
+        // This call ensures that the plan is sound.
         let _plan = first.plan();
         let (teller, workers) = Live::new(rt, alloc, first, workers)?;
         match teller.last_entry() {
@@ -120,7 +120,7 @@ impl Crew {
         self.teller.latest()
     }
 
-    /// The messages of a batch are routed, and the plans that come in it are published beside that.
+    /// Routes the messages of a batch, and publishes its plans at the same time.
     pub fn route<R: Threads + Wait + Sync, G: Gate + Sync>(
         &mut self,
         rt: &R,
@@ -138,7 +138,7 @@ impl Crew {
         ensures at { OnOk result (standing self.new states.now ≡ ahead (standing self.old states.now) coming) }
         ensures served { IfOk result (RoutesBatch (standing self.old states.now) (ahead (standing self.old states.now) coming) (map settled_in settled.now)) }
     {
-        // It ensures that the plans are sound.
+        // This call ensures that the plans are sound.
         let _first = self.first();
         let jobs = jobs_of(alloc, settled)?;
         serve_jobs(
@@ -153,7 +153,7 @@ impl Crew {
         )
     }
 
-    /// The workers have done.
+    /// Ends the workers. It may wait for them.
     pub fn end<R: Wait>(self, rt: &R) {
         let Crew {
             first: _,

@@ -39,7 +39,7 @@ fn is_message(line: &Line) -> bool
 }
 
 impl Gathered {
-    /// No line. It takes no memory.
+    /// A batch without a line. It takes no memory.
     pub fn new(alloc: Global) -> Gathered
         ensures { result ≡ [] }
     {
@@ -49,7 +49,7 @@ impl Gathered {
         }
     }
 
-    /// The lines, for a batch that is done. The next one has none yet.
+    /// Takes the lines, for a batch that is done. The next one has none yet.
     pub fn take(&mut self, alloc: Global) -> List<Joined>
         ensures gives { result ≡ self.old }
         ensures none { self.new ≡ [] }
@@ -65,7 +65,7 @@ impl Gathered {
         self.messages >= MOST_MESSAGES
     }
 
-    /// One more line, of a batch that isn't full.
+    /// Adds one more line, to a batch that is not full.
     pub fn push(&mut self, one: Joined) -> Result<(), OutOfMemory>
         requires { is_full (lines_in self.old) ≡ false }
         ensures { OnOk result (self.new ≡ self.old ++ one ∷ []) }

@@ -15,7 +15,7 @@ use sccp_report::{Text, accepted_text};
 use sccp_work::{bad_plan, lawful_text, plan_of};
 use std::alloc::Global;
 
-// The plan of this number was accepted, whose file has this name.
+// The line on an accepted plan of this number, whose file has this name.
 fn put_numbered_plan(
     alloc: Global,
     text: &mut Text,
@@ -33,7 +33,7 @@ fn put_numbered_plan(
     text.put(accepted_text(alloc, accepted)?.as_slice())
 }
 
-/// The first plan was accepted.
+/// The line on the first plan, which was accepted.
 #[tactic(auto, unfolding(crate::specs::LaterPlans::first_plan_line))]
 pub fn first_plan_line(
     alloc: Global,
@@ -47,7 +47,7 @@ pub fn first_plan_line(
     Ok(text.into_octets())
 }
 
-/// The later plan of this line was accepted.
+/// The line on the later plan of this line of the trace, which was accepted.
 #[tactic(auto, unfolding(crate::specs::LaterPlans::accepted_plan_line))]
 pub fn accepted_plan_line(
     alloc: Global,
@@ -65,7 +65,7 @@ pub fn accepted_plan_line(
     Ok(text.into_octets())
 }
 
-// What stands before the words on a later plan that wasn't accepted.
+// The words before those on a later plan that was not accepted.
 #[tactic(auto, unfolding(crate::specs::LaterPlans::refused_plan_head))]
 fn put_head(text: &mut Text, line: u32, name: &str) -> Result<(), OutOfMemory>
     ensures { OnOk result (text.new ≡ text.old ++ refused_plan_head line name.now) }
@@ -76,7 +76,7 @@ fn put_head(text: &mut Text, line: u32, name: &str) -> Result<(), OutOfMemory>
     text.put(b" ")
 }
 
-/// Its text is no plan. Want of memory while it was read says nothing of the text.
+/// The line on a later plan whose text is no plan. Want of memory while it was read says nothing of the text.
 #[tactic(auto, unfolding(crate::specs::LaterPlans::bad_plan_line))]
 pub fn bad_plan_line(
     alloc: Global,
@@ -93,7 +93,7 @@ pub fn bad_plan_line(
     Ok(text.into_octets())
 }
 
-/// Its relays aren't those of the first plan.
+/// The line on a later plan whose relays are not those of the first plan.
 #[tactic(auto, unfolding(crate::specs::LaterPlans::other_nodes_line))]
 pub fn other_nodes_line(alloc: Global, line: u32, name: &str) -> Result<Octets, OutOfMemory>
     ensures { IfOk result (λ text. text ≡ other_nodes_line line name.now) }
@@ -104,7 +104,7 @@ pub fn other_nodes_line(alloc: Global, line: u32, name: &str) -> Result<Octets, 
     Ok(text.into_octets())
 }
 
-/// Its verdict is another one.
+/// The text on a later plan that is not accepted, with its verdict.
 pub fn refused_plan_text(
     alloc: Global,
     line: u32,

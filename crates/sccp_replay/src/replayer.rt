@@ -1,4 +1,4 @@
-//! Where a replay stands.
+//! The state of a replay that is under way.
 ghost use Rattle.std.specs.Prelude.{◌≡◌, ◌<◌, ◌≤◌, ◌+◌, ◌^◌, ◌++◌, [], ◌∷◌, map, length, IfOk, OnOk, OnErr, Some};
 ghost use Rattle.plan_model.specs.Network.{IsPlan};
 ghost use Rattle.plan_model.specs.SameNodes.{SameNodes};
@@ -23,8 +23,8 @@ use std::marker::Model;
 use std::sync::Wait;
 use std::thread::Threads;
 
-/// A replay that is under way: who routes its messages, under the plans that were accepted, and what the nodes keep. It can't
-/// be dropped: `end` ends it.
+/// A replay that is under way: who routes its messages, under the plans that were accepted, and what the nodes keep. It
+/// cannot be dropped: `end` ends it.
 pub struct Replayer {
     alloc: Global,
     by: Router,
@@ -44,7 +44,7 @@ impl Model for Replayer {
     ghost invariant = { λ r. IsStanding (standing (routing_of r.by) r.net) };
 }
 
-/// What is due is done under the latest plan.
+/// Does what is due under the latest plan.
 fn apply(by: &Router, net: &mut Net, due: Due) -> Result<List<Outcome>, OutOfMemory>
     requires standing { IsStanding (standing (routing_of by.now) net.old) }
     requires due { StandsIn (routing_of by.now).first.plan (alone (Some (as_due due))) }
@@ -57,7 +57,7 @@ fn apply(by: &Router, net: &mut Net, due: Due) -> Result<List<Outcome>, OutOfMem
 }
 
 impl Replayer {
-    /// Where a replay stands whose first plan was accepted. It keeps the allocator for all that it does later.
+    /// The state of a replay whose first plan was accepted. It keeps the allocator for all that it does later.
     pub fn new<R: Wait>(
         rt: &R,
         alloc: Global,
@@ -91,7 +91,7 @@ impl Replayer {
         self.by.first().plan()
     }
 
-    /// How many plans were accepted so far, with those that come in this batch.
+    /// How many plans were accepted so far, with those of this batch.
     pub fn accepted(&self, coming: &List<Accepted>) -> u32
         requires { ArePlans self.now.first (ahead self.now coming.now).later }
         ensures value { result ≡ accepted (ahead self.now coming.now) }
@@ -100,19 +100,19 @@ impl Replayer {
         self.by.accepted() + coming.as_slice().len() as u32
     }
 
-    /// One more plan comes in this batch.
+    /// Adds one more plan to those of this batch.
     pub fn accept(&self, coming: &mut List<Accepted>, plan: Accepted) -> Result<(), OutOfMemory>
         requires plans { HasRoom self.now.first (ahead self.now coming.old).later }
         requires same { SameNodes self.now.first plan.plan }
         ensures plans { OnOk result (AtMostOneMore self.now.first (ahead self.now coming.old).later (ahead self.now coming.new).later) }
         ensures ok { OnOk result (ahead self.now coming.new ≡ record (ahead self.now coming.old) { later = (ahead self.now coming.old).later ++ plan.plan ∷ [] }) }
     {
-        // It ensures that this is a plan.
+        // This call ensures that the plan is sound.
         let _plan = plan.plan();
         coming.push(plan)
     }
 
-    /// The messages of a batch are routed under what the nodes hold prohibited, and the plans that come in it are accepted.
+    /// Routes the messages of a batch under what the nodes hold prohibited, and accepts the plans of the batch.
     pub fn route<R: Threads + Wait + Sync, G: Gate + Sync>(
         &mut self,
         rt: &R,
@@ -129,7 +129,7 @@ impl Replayer {
             .route(rt, gate, self.alloc, self.net.states(), settled, coming)
     }
 
-    /// What the end of a journey leaves to be done is done.
+    /// Does what the end of a journey leaves to be done.
     pub fn apply_after(
         &mut self,
         entry: u8,
@@ -146,7 +146,7 @@ impl Replayer {
             .apply_after(first.plan(), entry, origin, octets, journey)
     }
 
-    /// What a line that stands alone does is done, under the latest plan.
+    /// Does what a line that ends a batch asks for, under the latest plan.
     pub fn apply_alone(&mut self, due: Option<Due>) -> Result<List<Outcome>, OutOfMemory>
         requires { StandsIn self.old.first (alone (option_map as_due due)) }
         ensures ok { OnOk result (self.new ≡ record self.old { states = (done_alone self.old (option_map as_due due)).states }) }
@@ -158,7 +158,7 @@ impl Replayer {
         }
     }
 
-    /// The replay is done with. It may wait for workers.
+    /// Ends the replay. It may wait for workers.
     pub fn end<R: Wait>(self, rt: &R) {
         let Replayer {
             alloc: _,

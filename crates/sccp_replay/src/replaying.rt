@@ -21,7 +21,7 @@ use std::alloc::Global;
 use std::sync::Wait;
 use std::thread::Threads;
 
-/// Replays the trace of the second file under the plan of the first one, with so many workers.
+/// Replays the trace of the second file under the plan of the first one, with this number of workers.
 #[tactic(auto, unfolding(crate::specs::Replay::replay_work))]
 pub fn replay<R: Threads + Wait + Sync, G: Gate + Sync, F: Files, K: Sink>(
     rt: &R,
@@ -42,7 +42,7 @@ pub fn replay<R: Threads + Wait + Sync, G: Gate + Sync, F: Files, K: Sink>(
     replay_judged(rt, gate, alloc, verdict, plan, trace, workers, files, out)
 }
 
-/// What follows the verdict on the first plan.
+/// Does what follows the verdict on the first plan.
 fn replay_judged<R: Threads + Wait + Sync, G: Gate + Sync, F: Files, K: Sink>(
     rt: &R,
     gate: &G,
@@ -72,7 +72,7 @@ fn replay_judged<R: Threads + Wait + Sync, G: Gate + Sync, F: Files, K: Sink>(
     }
 }
 
-/// The first plan was accepted: its line is written, and the trace is replayed.
+/// Writes the line of the first plan, which was accepted, and replays the trace.
 fn replay_accepted<R: Threads + Wait + Sync, G: Gate + Sync, F: Files, K: Sink>(
     rt: &R,
     gate: &G,

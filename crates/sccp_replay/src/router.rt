@@ -1,3 +1,4 @@
+//! Who routes the messages of a replay: one worker or several.
 ghost use Rattle.std.specs.Prelude.{◌≡◌, ◌+◌, ◌≤◌, [], map, length, IfOk, OnOk};
 ghost use Rattle.sccp_replay.specs.Replay.{latest};
 ghost use Rattle.sccp_replay.specs.Replayers.{MayBeRouted, RoutesBatch, settled_in};
@@ -24,7 +25,7 @@ pub enum Router {
 }
 
 impl Router {
-    /// So many workers, and the first plan alone.
+    /// This number of workers, with only the first plan accepted.
     pub fn new<R: Wait>(
         rt: &R,
         alloc: Global,
@@ -72,7 +73,7 @@ impl Router {
         }
     }
 
-    /// The messages of a batch are routed under these states of the nodes, and the plans that come in it are accepted.
+    /// Routes the messages of a batch under these states of the nodes, and accepts the plans that are in it.
     pub fn route<R: Threads + Wait + Sync, G: Gate + Sync>(
         &mut self,
         rt: &R,
@@ -96,7 +97,7 @@ impl Router {
         }
     }
 
-    /// The workers have done.
+    /// Ends the workers. It may wait for them.
     pub fn end<R: Wait>(self, rt: &R) {
         match self {
             Router::Alone(_) => {}

@@ -1,4 +1,4 @@
-//! The plan lines of a batch are settled before its messages are routed.
+//! The plan lines of a batch, which are settled before its messages are routed.
 ghost use Rattle.std.specs.Prelude.{◌≡◌, ◌+◌, ◌≤◌, ◌++◌, [], ◌∷◌, length, IfOk, OnOk};
 ghost use Rattle.plan_model.specs.Network.{IsPlan, Network};
 ghost use Rattle.plan_model.specs.SameNodes.{SameNodes};
@@ -29,7 +29,7 @@ use sccp_work::{Opened, Stop, within_limit};
 use std::alloc::Global;
 use trace_text::Numbered;
 
-/// A later plan was accepted, and counts from its line on.
+/// Accepts a later plan, which counts from its line on.
 fn accept_later(
     alloc: Global,
     at: &Replayer,
@@ -57,7 +57,7 @@ fn accept_later(
     }
 }
 
-/// A later plan wasn't accepted.
+/// Refuses a later plan.
 fn refuse_later(
     alloc: Global,
     line: u32,
@@ -100,8 +100,8 @@ fn judge_later(
     }
 }
 
-/// What a plan line is settled to, whose file has this text: the text is refused where it is no plan, a plan of other relays
-/// next, and then by its verdict.
+/// What a plan line is settled to if its file has this text. It is refused first if it is no plan, next for other relays, and
+/// then by its verdict.
 #[tactic(auto, using(crate::proofs::LaterSteps::same_reads, crate::proofs::LaterSteps::other_reads, crate::proofs::LaterSteps::bad_reads, crate::proofs::ReplayerLemmas::none_more))]
 fn read_later(
     alloc: Global,
@@ -129,7 +129,7 @@ fn read_later(
     }
 }
 
-/// A plan line: its file is read beside the trace.
+/// Settles a plan line: its file is read beside the trace.
 fn settle_plan<F: Files, K: Sink>(
     alloc: Global,
     at: &Replayer,
@@ -151,7 +151,7 @@ fn settle_plan<F: Files, K: Sink>(
     Ok(read_later(alloc, at, coming, line, name, &text)?)
 }
 
-/// A line that is printed and no more.
+/// Settles a line that is only printed.
 fn settle_aside(alloc: Global, at: &Replayer, line: &Numbered) -> Result<Settled, OutOfMemory>
     ensures text { IfOk result (λ s. settled_in s ≡ prints (event_text at.now.first line.now [])) }
     ensures fits { IfOk result (ComesToNode at.now.first) }
@@ -161,7 +161,7 @@ fn settle_aside(alloc: Global, at: &Replayer, line: &Numbered) -> Result<Settled
     Ok(Settled::Prints(text.into_octets()))
 }
 
-/// A plan line whose file has this name. A file name of a trace has visible octets of ASCII alone.
+/// Settles a plan line whose file has this name. A file name of a trace has only visible octets of ASCII.
 #[tactic(auto, using(crate::proofs::TakeSteps::works_memory))]
 fn settle_named<F: Files, K: Sink>(
     alloc: Global,

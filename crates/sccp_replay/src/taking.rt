@@ -1,4 +1,4 @@
-//! One line of a trace after the other.
+//! The lines of a trace, one after the other.
 ghost use Rattle.std.specs.Prelude.{◌≡◌, ◌+◌, ◌≤◌, ◌++◌, [], ◌∷◌, length, IfOk, OnOk};
 ghost use Rattle.std.specs.Option.{option_map};
 ghost use Rattle.sccp_report.specs.Events.{event_text};
@@ -22,7 +22,7 @@ use std::sync::Wait;
 use std::thread::Threads;
 use trace_text::{Line, Numbered};
 
-/// A full batch is done, and its text written.
+/// Does a full batch, and writes its text.
 #[tactic(auto, using(crate::proofs::TakeSteps::batch_stopped, crate::proofs::TakeSteps::batch_written))]
 fn write_full<R: Threads + Wait + Sync, G: Gate + Sync, F: Files, K: Sink>(
     rt: &R,
@@ -45,7 +45,7 @@ fn write_full<R: Threads + Wait + Sync, G: Gate + Sync, F: Files, K: Sink>(
     put_all(out, text.into_octets().as_slice())
 }
 
-/// A line joins the batch that has begun, which is done where it is full.
+/// Adds a line to the batch that has begun. The batch is done if it is full then.
 #[tactic(auto, using(crate::proofs::TakeSteps::gathers_full, crate::proofs::TakeSteps::gathers_more, crate::proofs::TakeSteps::works_memory, crate::proofs::Gathering::more_joined, crate::proofs::Gathering::more_begun, crate::proofs::Gathering::full_begun))]
 fn gather<R: Threads + Wait + Sync, G: Gate + Sync, F: Files, K: Sink>(
     rt: &R,
@@ -74,7 +74,7 @@ fn gather<R: Threads + Wait + Sync, G: Gate + Sync, F: Files, K: Sink>(
     }
 }
 
-/// What a line does that stands alone is done, and is told behind the text of the batch before it.
+/// Does what a line asks for that ends a batch, and puts its text after that of the batch before it.
 fn alone_text(
     alloc: Global,
     at: &mut Replayer,
@@ -93,7 +93,7 @@ fn alone_text(
     Ok(text.into_octets())
 }
 
-/// A line stands alone: the batch before it is done, then what the line does, and both are written.
+/// Takes a line that ends a batch: the batch before it is done, then what the line asks for, and both texts are written.
 #[tactic(auto, using(crate::proofs::TakeSteps::batch_stopped, crate::proofs::TakeSteps::batch_memory, crate::proofs::TakeSteps::alone_written))]
 fn stand_alone<R: Threads + Wait + Sync, G: Gate + Sync, F: Files, K: Sink>(
     rt: &R,
@@ -132,7 +132,7 @@ fn stand_alone<R: Threads + Wait + Sync, G: Gate + Sync, F: Files, K: Sink>(
 enum Place {
     /// It joins it, as this.
     Joins(Joining),
-    /// It stands alone behind it, and this happens then.
+    /// It ends it, and then this happens, if anything.
     Alone(Option<Due>),
 }
 
@@ -156,7 +156,7 @@ fn place_of(alloc: Global, at: &Replayer, line: &Numbered) -> Result<Place, OutO
     }
 }
 
-/// One more line of a trace, which isn't skipped.
+/// Takes one more line of a trace, which is not skipped.
 #[tactic(auto, using(crate::proofs::TakeSteps::takes_gathered, crate::proofs::TakeSteps::takes_alone, crate::proofs::TakeSteps::works_memory, crate::proofs::Gathering::may_be_done, crate::proofs::Gathering::alone_begun))]
 fn take_kept<R: Threads + Wait + Sync, G: Gate + Sync, F: Files, K: Sink>(
     rt: &R,
@@ -190,7 +190,7 @@ fn is_skipped(line: &Line) -> bool
     matches!(line, Line::Skip)
 }
 
-/// One more line of a trace. A skipped one adds nothing to a batch, and isn't kept.
+/// Takes one more line of a trace. A skipped one adds nothing to a batch, and is not kept.
 #[tactic(auto, using(crate::proofs::Skipping::skipped_taken, crate::proofs::TakeSteps::one_taken, crate::proofs::Gathering::none_taken))]
 fn take_line<R: Threads + Wait + Sync, G: Gate + Sync, F: Files, K: Sink>(
     rt: &R,
@@ -216,7 +216,7 @@ fn take_line<R: Threads + Wait + Sync, G: Gate + Sync, F: Files, K: Sink>(
     take_kept(rt, gate, alloc, at, batch, line, files, out)
 }
 
-/// More lines of a trace, in their order.
+/// Takes more lines of a trace, in their order.
 #[tactic(auto, using(crate::proofs::Gathering::begun_taken))]
 pub fn take_lines<R: Threads + Wait + Sync, G: Gate + Sync, F: Files, K: Sink>(
     rt: &R,

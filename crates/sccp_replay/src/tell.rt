@@ -1,4 +1,4 @@
-//! What becomes of the messages of a batch is told.
+//! The text on what becomes of the messages of a batch.
 ghost use Rattle.std.specs.Prelude.{◌≡◌, ◌<◌, ◌++◌, ◌∷◌, [], All, map, length, IfOk, OnOk};
 ghost use Rattle.relay_net.specs.Batches.{CanBeDone, due_after};
 ghost use Rattle.relay_net.specs.States.{markings_of};
@@ -13,7 +13,7 @@ use sccp_base::{OutOfMemory, PointCode};
 use sccp_report::{Text, put_served};
 use std::alloc::Global;
 
-/// What the end of a message's journey leaves to be done is done, and told.
+/// Does what the end of a message's journey leaves to be done, and appends the text of the journey.
 fn tell_served(
     at: &mut Replayer,
     text: &mut Text,
@@ -31,7 +31,7 @@ fn tell_served(
     put_served(text, at.first(), line, served, &outcomes)
 }
 
-/// What is told of a line that is settled, where these answers are left. It answers those that are left behind it.
+/// Appends the text of a settled line, if these answers are left. It gives back the answers that are left after it.
 fn tell_line<'a>(
     at: &mut Replayer,
     text: &mut Text,

@@ -26,7 +26,7 @@ use trace_text::{LineFault, Numbered, Reader};
 /// How many octets are taken at a time.
 const PIECE: usize = 4096;
 
-/// More than the octets of any trace: before so many were read, a line is too long or one too many.
+/// More than the octets of any trace: before that number is read, a line is too long or there is one too many.
 const MOST_PIECES: u64 = 8_200_000_000;
 
 #[tactic(auto, unfolding(crate::specs::Replay::end_line))]
@@ -37,7 +37,7 @@ fn put_end(text: &mut Text, count: usize) -> Result<(), OutOfMemory>
     text.put(b"\n")
 }
 
-/// The last line: how many lines the trace has, or the fault of the line behind them.
+/// Appends the last line: how many lines the trace has, or the fault of the line after them.
 fn put_closing(
     alloc: Global,
     text: &mut Text,
@@ -59,7 +59,7 @@ fn put_closing(
     }
 }
 
-/// The last batch is done, and its text written with the last line.
+/// Does the last batch, and writes its text with the last line.
 #[tactic(auto, using(crate::proofs::TakeSteps::closing_stopped, crate::proofs::TakeSteps::closing_memory, crate::proofs::TakeSteps::closing_written))]
 fn write_last<R: Threads + Wait + Sync, G: Gate + Sync, F: Files, K: Sink>(
     rt: &R,
@@ -82,7 +82,7 @@ fn write_last<R: Threads + Wait + Sync, G: Gate + Sync, F: Files, K: Sink>(
     print_last(out, text.into_octets().as_slice(), status)
 }
 
-/// Lines that were told are taken, and counted.
+/// Takes the lines that a reader gave, and counts them.
 #[tactic(auto, using(crate::proofs::Gathering::may_take, crate::proofs::Gathering::counted))]
 fn take_told<R: Threads + Wait + Sync, G: Gate + Sync, F: Files, K: Sink>(
     rt: &R,
@@ -109,7 +109,7 @@ fn take_told<R: Threads + Wait + Sync, G: Gate + Sync, F: Files, K: Sink>(
     Ok(more)
 }
 
-/// The end of the trace: its last line, where no line feed ends it, and what is written then.
+/// Takes the end of the trace: its last line, if no line feed ends it, and what is written then.
 #[tactic(auto, using(crate::proofs::TakeSteps::last_taken, crate::proofs::TakeSteps::last_stopped, crate::proofs::TakeSteps::works_memory))]
 fn take_end<R: Threads + Wait + Sync, G: Gate + Sync, F: Files, K: Sink>(
     rt: &R,

@@ -1,3 +1,4 @@
+//! The number of workers of a replay or a load.
 ghost use Rattle.std.specs.Prelude.{◌≡◌, ◌≤◌, option_map};
 ghost use Rattle.sccp_replay.specs.Workers.{workers_in};
 
@@ -12,7 +13,7 @@ pub struct Workers {
 }
 
 impl Workers {
-    /// One to ten decimal digits that spell 1 to 16.
+    /// The number that one to ten decimal digits spell, if it is 1 to 16; otherwise none.
     pub fn parse(word: &[u8]) -> Option<Workers>
         ensures { option_map (λ (w : _). w.count) result ≡ workers_in word.now }
     {
@@ -30,6 +31,7 @@ impl Workers {
         }
     }
 
+    /// The number of workers, 1 to 16.
     pub fn count(&self) -> u32
         ensures value { result ≡ self.now.count }
         ensures some { 1 ≤ result }

@@ -1,4 +1,4 @@
--- The text of hops tells each title and what was held prohibited there.
+-- The text of hops gives each title and what was held prohibited there.
 use Rattle.std.specs.Prelude.{ℕ, ◌<◌, true, not, ◌==◌, List, [], ◌∷◌, ◌++◌, length, take, codes, decimal, Option, Some, None}
 use Rattle.std.specs.List.{All, list_all}
 use Rattle.std.proofs.Common.{◌≡◌, refl, sym, subst, ◌∙◌, ap, arith, append_assoc}
@@ -26,7 +26,7 @@ use Rattle.sccp_report.proofs.Parted.{Stops, decimal_digits, rest_same, parted}
 use Rattle.sccp_report.proofs.MarkTexts.{marks_parted}
 use Rattle.sccp_report.proofs.SpotTexts.{node_named, spot_parted}
 
--- ---- a step's text stands in one line
+-- a step's text is within one line
 
 abbrev InLine : ℕ → Type 0
 InLine c = c ≡ 10 → ⊥

@@ -42,7 +42,7 @@ tagged_in plan (hop ∷ hops) [] all = All-nil (IsMixedHopIn plan)
 tagged_in plan (hop ∷ hops) (turn ∷ turns) all =
     All-cons (IsMixedHopIn plan) (record { which = turn.which; hop = hop }) (tagged hops turns) (All-head (IsHopIn plan) hop hops all) (tagged_in plan hops turns (All-tail (IsHopIn plan) hop hops all))
 
--- each hop of a mixed route is at a node of the plan, and so is where it leads
+-- each hop of a mixed route is at a node of the plan, and leads to one if it leads anywhere
 pub mixed_in : (old new : Network) (s : Spot) (turns : List Turn) → IsPlan old → IsPlan new → length old.nodes ≡ length new.nodes → s.node < length old.nodes → All (IsMixedHopIn old) (tagged (mixed old new s turns) turns)
 mixed_in old new s turns is also same here =
     tagged_in old (mixed old new s turns) turns (route_by_in old (made old new) s turns (λ turn at. stays_in old new at turn is also same) here)

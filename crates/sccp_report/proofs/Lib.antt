@@ -1,3 +1,4 @@
+-- The proofs of the printed texts, by subject.
 pub mod ByKind
 pub mod DigitTexts
 pub mod HopLines

@@ -1,4 +1,4 @@
--- The text of marks tells the marks.
+-- The text of marks gives the marks.
 use Rattle.std.specs.Prelude.{ℕ, List, [], ◌∷◌, ◌++◌, codes, decimal}
 use Rattle.std.specs.List.{All, flat_map}
 use Rattle.std.proofs.Common.{◌≡◌, refl, sym, ◌∙◌, ap, arith, append_assoc}
@@ -36,7 +36,7 @@ mark_parted (Subsystem a t) (Subsystem b u) r s ha hb er es e =
     let q = number_parted t u r s (omega (arith, ha.1)) (omega (arith, hb.1)) er es (rest_same 47 47 _ _ p.1) in
     ((λ i. Subsystem (p.0 i) (q.0 i)), q.1)
 
--- the marks behind the first one, and a blank behind them
+-- the marks after the first one, and a blank after them
 next_more : (m : Mark) (ms : List Mark) (r : List ℕ) → flat_map next_mark_text (m ∷ ms) ++ r ≡ 44 ∷ (mark_text m ++ (flat_map next_mark_text ms ++ r))
 unfolding next_mark_text
 next_more m ms r = append_assoc (44 ∷ mark_text m) (flat_map next_mark_text ms) r

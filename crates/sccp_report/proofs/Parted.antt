@@ -1,4 +1,5 @@
--- A text that begins with a piece and goes on with what no piece has: the piece ends in one place only. Numbers and point codes.
+-- A text that begins with a piece and goes on with what no piece has: the piece ends in one place only.
+-- Its uses are numbers and point codes.
 use Rattle.std.specs.Prelude.{ℕ, ◌/◌, ◌%◌, ◌^◌, ◌<◌, ◌≤◌, ◌==◌, if◌then◌else◌, true, false, List, [], ◌∷◌, ◌++◌, drop, decimal}
 use Rattle.std.specs.List.{All}
 use Rattle.std.specs.Fmt.{digits, digits_onto, digit_glyph}
@@ -76,7 +77,7 @@ number_before c a b r s ha hb apart e =
     let p = number_parted a b (c ∷ r) (c ∷ s) ha hb apart apart e in
     (p.0, rest_same c c r s p.1)
 
--- texts that are put one behind another, from the left
+-- texts that are put one after another, from the left
 pub glued : (t : List ℕ) (c : ℕ) (p r : List ℕ) → t ++ (c ∷ []) ++ p ++ r ≡ t ++ c ∷ (p ++ r)
 glued t c p r = append_assoc (t ++ c ∷ []) p r ∙ append_assoc t (c ∷ []) (p ++ r)
 

@@ -1,4 +1,4 @@
--- The text of a title at a node tells the node, the selector, the subsystem number and the digits.
+-- The text of a title at a node gives the node, the selector, the subsystem number and the digits.
 use Rattle.std.specs.Prelude.{ℕ, ◌+◌, ◌<◌, ◌≤◌, ◌≢◌, true, List, [], ◌∷◌, ◌++◌, length, map, slice_index, slice_get, codes, decimal, Some, is_some}
 use Rattle.std.specs.List.{All, AllPairs}
 use Rattle.std.specs.Option.{option_map_or, unwrap_or}
@@ -149,7 +149,7 @@ node_named plan node h =
     (λ p. absurd (omega (arith, h, p.0)))
     (slice_get_cases plan.nodes node).1
 
--- names are told apart, so nodes are
+-- names differ, so nodes do
 pub node_parted : (plan : Network) (a b : ℕ) (q t : List ℕ) → All (λ n. IsName n.name) plan.nodes → AllPairs (λ x y. x.name ≢ y.name) plan.nodes → a < length plan.nodes → b < length plan.nodes
     → node_text plan a ++ 32 ∷ q ≡ node_text plan b ++ 32 ∷ t → (a ≡ b) × (q ≡ t)
 node_parted plan a b q t names apart ha hb e =

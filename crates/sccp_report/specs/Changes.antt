@@ -1,4 +1,4 @@
--- The printed text of what is told of a changeover between two plans of the same nodes.
+-- The printed text of the answer on a changeover between two plans of the same nodes.
 use Rattle.std.specs.Prelude.{ℕ, List, [], ◌∷◌, ◌++◌, Option, Some, None, codes}
 use Rattle.sccp_base.specs.declared.mark.Mark.{Mark}
 use Rattle.plan_model.specs.declared.kind.Kind.{Kind}
@@ -20,7 +20,7 @@ unfoldable pub which_words : Which → List ℕ
 which_words Old = codes "old "
 which_words New = codes "new "
 
--- a hop under a marking, behind the plan that its relay held
+-- a hop under a marking, after the plan that its relay held
 unfoldable pub mixed_hop_line : Network → MixedHop → List Mark → List ℕ
 mixed_hop_line plan hop marking = which_words hop.which ++ hop_line plan hop.hop marking
 
@@ -48,12 +48,12 @@ broken_line old_cover new_cover kind = broken_words ++ kind_words kind ++ covers
 unfoldable pub wide_change_line : List ℕ
 wide_change_line = codes "change " ++ too_wide_line
 
--- the longest mixed route, where some title is covered by both plans
+-- the longest mixed route, if some title is covered by both plans
 abbrev pub longest_hops_text : Network → Network → Option Spot → List Turn → List ℕ
 longest_hops_text old new None turns = []
 longest_hops_text old new (Some spot) turns = mixed_hops_text old (tagged (mixed old new spot turns) turns) turns
 
--- the answer, and the mixed route that shows it: the longest one of a mixture that is kept, the bad one of a broken one
+-- The answer, and the mixed route that shows it: the longest one of a mixture that is kept, the bad one of a broken one.
 abbrev pub change_text : Network → Network → Change → List ℕ
 change_text old new (Kept bound spot turns) = kept_line bound ++ longest_hops_text old new spot turns
 change_text old new (Broken old_cover new_cover spot turns hops kind) = broken_line old_cover new_cover kind ++ mixed_hops_text old hops turns

@@ -9,7 +9,7 @@ unfoldable pub cut_text : Option DecodeFault → List ℕ
 cut_text None = codes "ok\n"
 cut_text (Some fault) = undecodable_line fault
 
--- the same behind their number
+-- the same after their number
 unfoldable pub cut_line : ℕ → Option DecodeFault → List ℕ
 cut_line n fault = decimal n ++ codes " " ++ cut_text fault
 

@@ -5,11 +5,11 @@ use Rattle.sccp_message.specs.Reading.{reading}
 use Rattle.sccp_message.specs.declared.fault.DecodeFault.{DecodeFault}
 use Rattle.sccp_message.specs.declared.message.Message.{Message}
 use Rattle.sccp_message.specs.declared.message.Message.TheVariants as messages
+use Rattle.sccp_message.specs.Unitdata.{called_of}
 use Rattle.sccp_manage.specs.Statuses.{status_of}
 use Rattle.sccp_manage.specs.declared.status.StatusKind.{StatusKind}
 use Rattle.sccp_manage.specs.declared.status.StatusKind.TheVariants.{Allowed, Prohibited, Test, OutOfServiceRequest, OutOfServiceGrant, Congested}
 use Rattle.sccp_manage.specs.declared.status.StatusMessage.{StatusMessage}
-use Rattle.sccp_scrc.specs.Unitdata.{called_of}
 use Rattle.plan_model.specs.Network.{Network}
 use Rattle.relay_net.specs.declared.outcome.Outcome.{Outcome}
 use Rattle.trace_text.specs.declared.line.Line.{Line}
@@ -21,7 +21,7 @@ use Rattle.sccp_report.specs.Roles.{named, management_data}
 use Rattle.sccp_report.specs.Served.{sent_lines}
 use Rattle.sccp_report.specs.Values.{numbered, point_code_text}
 
--- the types of connection-oriented messages, behind a blank
+-- the types of connection-oriented messages, after a blank
 unfoldable pub connection_words : Message → List ℕ
 connection_words (messages.Cr slr class called params) = codes " CR"
 connection_words (messages.Cc dlr slr class params) = codes " CC"
@@ -61,7 +61,7 @@ management_words m = codes "management" ++ status_words (option_and_then status_
 unfoldable pub coupling_words : Message → List ℕ
 coupling_words m = codes "connection" ++ connection_words m
 
--- a message that isn't routed: a connectionless one is for management
+-- a message that is not routed: a connectionless one is for management
 unfoldable pub message_words : Message → List ℕ
 message_words m = if is_some (called_of m) then management_words m else coupling_words m
 
@@ -96,7 +96,7 @@ node_in (Plan file) = None
 node_in Fence = None
 node_in Skip = None
 
--- what is printed of a line behind its number
+-- what is printed of a line after its number
 unfoldable pub line_words : Line → List ℕ
 line_words (Msg name origin octets) = message_line (reading octets)
 line_words (Pause name pc) = point_words (codes " pause ") name pc
@@ -109,11 +109,11 @@ line_words (Plan file) = []
 line_words Fence = []
 line_words Skip = []
 
--- A fence and a skipped line print nothing. The line on a later plan isn't made here.
+-- A fence and a skipped line print nothing. The line on a later plan is not made here.
 unfoldable pub event_line : Network → ℕ → Option (List ℕ) → List ℕ → List ℕ
 event_line plan number None words = []
 event_line plan number (Some name) words = at_node (named plan name) number words
 
--- the line, and behind it a line for each message that is sent because of it
+-- the line, and after it a line for each message that is sent because of it
 abbrev pub event_text : Network → Numbered → List Outcome → List ℕ
 event_text plan line outcomes = event_line plan line.number (node_in line.line) (line_words line.line) ++ sent_lines line.number outcomes

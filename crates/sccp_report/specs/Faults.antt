@@ -25,7 +25,7 @@ address_fault_words addresses.Extra = codes "extra"
 address_fault_words addresses.OddWithoutDigits = codes "odd without digits"
 address_fault_words addresses.OutOfMemory = []
 
--- why octets aren't a message. Want of memory is no fault of theirs, and has no words.
+-- why octets are no message. Want of memory is no fault of theirs, and has no words.
 abbrev pub fault_words : DecodeFault → List ℕ
 fault_words (faults.Split fault) = split_fault_words fault
 fault_words (faults.Address i fault) = numbered (codes "address ") i ++ codes " " ++ address_fault_words fault

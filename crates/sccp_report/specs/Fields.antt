@@ -44,12 +44,12 @@ more_line more = if more then codes "more yes\n" else codes "more no\n"
 unfoldable pub class_line : ℕ → List ℕ
 class_line class = codes "class " ++ decimal (bits class 1 4) ++ codes " options " ++ decimal (bits class 5 8) ++ codes "\n"
 
--- a text behind a blank, or nothing
+-- a text after a blank, or nothing
 abbrev pub after_blank : Option (List ℕ) → List ℕ
 after_blank None = []
 after_blank (Some text) = codes " " ++ text
 
--- a cause, and its text where its table has one
+-- a cause, and its text if its table has one
 unfoldable pub cause_line : List ℕ → CauseTable → ℕ → List ℕ
 cause_line name table cause = numbered name cause ++ after_blank (text_of table cause) ++ codes "\n"
 
@@ -82,7 +82,7 @@ title_text (Raw kind octets) = raw_title_text kind octets
 unfoldable pub route_words : Bool → List ℕ
 route_words by_ssn = if by_ssn then codes " route ssn" else codes " route title"
 
--- the end of the line, behind a word where the bit for national use is set
+-- the end of the line, after a word if the bit for national use is set
 unfoldable pub national_words : Bool → List ℕ
 national_words national = if national then codes " national\n" else codes "\n"
 

@@ -16,7 +16,7 @@ use Rattle.sccp_report.specs.Values.{numbered, digits_text, point_code_text, sel
 unfoldable pub destination_text : ℕ → ℕ → List ℕ
 destination_text pc ssn = point_code_text pc ++ codes "/" ++ decimal ssn
 
--- what is prohibited, and where
+-- what is prohibited, and at which point
 unfoldable pub mark_text : Mark → List ℕ
 mark_text (PointCode pc) = codes "point:" ++ point_code_text pc
 mark_text (Sccp pc) = codes "sccp:" ++ point_code_text pc

@@ -1,3 +1,4 @@
+-- The printed texts that this crate promises, by subject.
 pub mod Values
 pub mod Fields
 pub mod Faults

@@ -59,7 +59,7 @@ is_of_data (messages.Ed dlr payload) = true
 is_of_data (messages.It dlr slr class sent received more window) = true
 is_of_data _ = false
 
--- references, and a cause where there is one
+-- references, and a cause if there is one
 abbrev pub is_of_references : Message → Bool
 is_of_references (messages.Rlc dlr slr) = true
 is_of_references (messages.Ea dlr) = true

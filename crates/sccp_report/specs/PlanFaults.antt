@@ -11,7 +11,7 @@ use Rattle.plan_model.specs.declared.plan_fault.PlanFault.{PlanFault}
 use Rattle.plan_model.specs.declared.plan_fault.PlanFault.TheVariants as faults
 use Rattle.sccp_report.specs.Values.{numbered}
 
--- where a fault is: at the top, at a node, at a row of a node, or at a cover, counted from 0, and under which key
+-- The place of a fault: the top, a node, a row of a node, or a cover, counted from 0, and the key.
 unfoldable pub place_text : Place → List ℕ
 place_text (Top key) = word_of key
 place_text (Node i key) = numbered (codes "node ") i ++ codes " " ++ word_of key

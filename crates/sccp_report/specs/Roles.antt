@@ -7,9 +7,9 @@ use Rattle.sccp_message.specs.Reading.{reading}
 use Rattle.sccp_message.specs.declared.fault.DecodeFault.{DecodeFault}
 use Rattle.sccp_message.specs.declared.message.Message.{Message}
 use Rattle.sccp_message.specs.declared.message.Message.TheVariants.{Udt, Xudt, Ludt}
+use Rattle.sccp_message.specs.Unitdata.{called_of}
 use Rattle.sccp_manage.specs.declared.event.Event.{Event}
 use Rattle.sccp_manage.specs.declared.event.Event.TheVariants as events
-use Rattle.sccp_scrc.specs.Unitdata.{called_of}
 use Rattle.plan_model.specs.Network.{Network, has_name}
 use Rattle.relay_net.specs.Batches.{Incoming, Due, due}
 use Rattle.relay_net.specs.States.{CanHappen}
@@ -26,10 +26,10 @@ pub data Role : Type 0 where
   later : List ℕ → Role
   -- nothing happens, and a batch goes on
   aside : Role
-  -- it stands alone behind a batch, and this happens then
+  -- the line ends the batch before it, and then this happens, if anything
   alone : Option Due → Role
 
--- what a message for management has as data, where that can be a status message: the service messages have none
+-- the data of a message for management, if they can be a status message: the service messages have none
 abbrev pub management_data : Message → Option (List ℕ)
 management_data (Udt class called calling payload) = Some payload
 management_data (Xudt class hops called calling payload params) = Some payload
@@ -40,14 +40,14 @@ management_data m = None
 abbrev pub is_for_management : Address → Bool
 is_for_management a = a.by_ssn && option_map_or (λ ssn. ssn == 1) a.ssn false
 
--- a message for management comes to a node from a point
+-- a message for management arrives at a node from a point
 abbrev pub status_at : ℕ → ℕ → List ℕ → Due
 status_at entry origin payload = due entry (Managed (events.Status origin payload))
 
 abbrev pub status_due : Incoming → List ℕ → Due
 status_due x = status_at x.entry x.origin
 
--- by the called address, which connectionless messages alone have to be routed on
+-- by the called address; only connectionless messages have one to be routed on
 abbrev pub role_by_called : Incoming → Message → Option Address → Role
 role_by_called x m None = alone (Some (due x.entry (Connected x.origin m)))
 role_by_called x m (Some a) = if is_for_management a then alone (option_map (status_due x) (management_data m)) else routed x
@@ -83,7 +83,7 @@ role_of plan (Plan file) = later file
 role_of plan Fence = alone None
 role_of plan Skip = aside
 
--- The nodes are those of the plan, and what is to happen at them can.
+-- The nodes are those of the plan, and what is to happen at them can happen.
 abbrev pub StandsIn : Network → Role → Type 0
 StandsIn plan (routed x) = x.entry < length plan.nodes
 StandsIn plan (later file) = Unit {0}

@@ -59,30 +59,30 @@ back_end_words ends.Cut = codes " cut"
 back_end_words (ends.Connection m) = []
 back_end_words (ends.Undecodable fault) = []
 
--- where a service message goes
+-- the destination of a service message
 unfoldable pub way_words : Network → Way → List ℕ → Option End → List ℕ
 way_words plan (Direct pc) path end = codes " sent " ++ point_code_text pc
 way_words plan (Shut mark) path end = codes " closed " ++ mark_text mark
 way_words plan ByTitle path end = codes " via " ++ path_text plan path ++ option_map_or back_end_words end []
 
--- the service message, where there is one
+-- the service message, if there is one
 unfoldable pub back_words : Network → Option Back → List ℕ
 back_words plan None = codes " no service"
 back_words plan (Some back) = codes " service " ++ octets_text back.octets ++ way_words plan back.way back.path back.end
 
--- the data of a message; nothing where its type has none
+-- the data of a message; nothing if its type has none
 abbrev pub data_of : Message → List ℕ
 data_of m = unwrap_or (content m).payload []
 
--- a message that comes to a subsystem of its last node, and what became of the segment that it is, if it is one
+-- a message that is for a subsystem of its last node, and what became of it if it is a segment
 unfoldable pub local_words : ℕ → Message → List Outcome → List ℕ
 local_words ssn m outcomes = numbered (codes " local ") ssn ++ codes " data " ++ octets_text (data_of m) ++ flat_map segment_words outcomes
 
--- a message that can't be delivered, the marks that close its way, and the service message
+-- a message that cannot be delivered, the marks that close its way, and the service message
 unfoldable pub returned_words : Network → ℕ → List Mark → Option Back → List ℕ
 returned_words plan cause marks back = numbered (codes " returned ") cause ++ codes " marks " ++ marks_text marks ++ back_words plan back
 
--- How the message ends. Other ends than these aren't those of a message that is routed.
+-- How the message ends. The other ends are not those of a message that is routed.
 unfoldable pub end_words : Network → Option Back → List Outcome → End → List ℕ
 end_words plan back outcomes (ends.Ended pc ssn octets) = ended_words pc ssn octets
 end_words plan back outcomes (ends.Local ssn m) = local_words ssn m outcomes
@@ -101,7 +101,7 @@ sent_line line PoolFull = []
 abbrev pub sent_lines : ℕ → List Outcome → List ℕ
 sent_lines line outcomes = flat_map (sent_line line) outcomes
 
--- the number of its line in the trace, the number of its plan, the relays that it came to, and its end
+-- the number of its line in the trace, the number of its plan, the relays that it reached, and its end
 unfoldable pub journey_line : Network → ℕ → ℕ → Journey → List Outcome → List ℕ
 journey_line plan line number j outcomes =
     decimal line ++ numbered (codes " by ") number ++ codes " via " ++ path_text plan j.path ++ end_words plan j.back outcomes j.end ++ codes "\n"

@@ -1,4 +1,4 @@
--- What a printed text tells: the number that a point code's text is of, and the hops and the prohibited marks that a route's text is of.
+-- What a printed text determines: a point code's text its number, and a route's text its hops and prohibited marks.
 use Rattle.std.specs.Prelude.{ℕ, ◌≡◌, ◌<◌, ◌^◌, List, length, take}
 use Rattle.std.specs.List.{All}
 use Rattle.sccp_base.specs.declared.mark.Mark.{Mark}
@@ -10,12 +10,12 @@ use Rattle.plan_model.specs.Spots.{IsInRange}
 use Rattle.sccp_report.specs.Values.{point_code_text}
 use Rattle.sccp_report.specs.Hops.{hops_text}
 
--- no two numbers of up to 64 bits have the same text as point codes, those that are none included
+-- no two numbers of up to 64 bits have the same text as point codes, not even numbers that are none
 abbrev pub TextTellsPointCode : Type 0
 TextTellsPointCode = (a b : ℕ) → a < 2 ^ 64 → b < 2 ^ 64 → point_code_text a ≡ point_code_text b → a ≡ b
 
--- Two routes of a plan that are printed alike, with numbers in range, are the same hops under the same markings. The plan's nodes have
--- names, as those of every plan have that is built.
+-- Two routes of a plan that are printed alike, with numbers in range, are the same hops under the same markings.
+-- The plan's nodes have names, as those of every plan have that is built.
 abbrev pub TextTellsRoute : Type 0
 TextTellsRoute =
     (plan : Network) (s t : Spot) (ms ns : List (List Mark)) → IsPlan plan → All (λ node. IsName node.name) plan.nodes → IsInRange plan s ms → IsInRange plan t ns

@@ -20,7 +20,7 @@ kind_words (Forbidden pc ssn) = codes "forbidden " ++ destination_text pc ssn
 kind_words (NoRow cause) = numbered (codes "no row ") cause
 kind_words Overgrown = codes "overgrown"
 
--- whether the hops are the same where each relay holds all the marks of the route
+-- whether the hops are the same if each relay holds all the marks of the route
 unfoldable pub steady_words : Bool → List ℕ
 steady_words steady = if steady then codes " steady yes\n" else codes " steady no\n"
 

@@ -1,3 +1,4 @@
+//! The lines of the called and the calling address.
 ghost use Rattle.std.specs.Prelude.{◌≡◌, ◌++◌, OnOk};
 ghost use Rattle.sccp_report.specs.Fields.{raw_title_text, title_text, route_words, national_words, address_line, called as called_line, calling as calling_line};
 
@@ -46,7 +47,7 @@ fn put_route(text: &mut Text, by_ssn: bool) -> Result<(), OutOfMemory>
     })
 }
 
-// The end of the line, behind a word where the bit for national use is set.
+// The end of the line, after a word if the bit for national use is set.
 #[tactic(auto, unfolding(crate::specs::Fields::national_words))]
 fn put_national(text: &mut Text, national: bool) -> Result<(), OutOfMemory>
     ensures { OnOk result (text.new ≡ text.old ++ national_words national) }
@@ -69,7 +70,7 @@ fn put_address(text: &mut Text, name: &[u8], address: &Address) -> Result<(), Ou
     put_national(text, address.national)
 }
 
-/// The called address (Q.713 section 3.4).
+/// Appends the line of the called address (Q.713 section 3.4).
 #[tactic(auto, unfolding(crate::specs::Fields::called))]
 pub fn put_called(text: &mut Text, address: &Address) -> Result<(), OutOfMemory>
     ensures { OnOk result (text.new ≡ text.old ++ called_line address.now) }
@@ -77,7 +78,7 @@ pub fn put_called(text: &mut Text, address: &Address) -> Result<(), OutOfMemory>
     put_address(text, b"called", address)
 }
 
-/// The calling address (Q.713 section 3.5).
+/// Appends the line of the calling address (Q.713 section 3.5).
 #[tactic(auto, unfolding(crate::specs::Fields::calling))]
 pub fn put_calling(text: &mut Text, address: &Address) -> Result<(), OutOfMemory>
     ensures { OnOk result (text.new ≡ text.old ++ calling_line address.now) }

@@ -1,3 +1,4 @@
+//! The words for the service message that returns a message to its sender.
 ghost use Rattle.std.specs.Prelude.{◌≡◌, ◌++◌, OnOk};
 ghost use Rattle.std.specs.Option.{option_map_or};
 ghost use Rattle.std.specs.Prelude.{[]};
@@ -48,7 +49,7 @@ fn put_back_end_if_any(text: &mut Text, end: &Option<End>) -> Result<(), OutOfMe
     }
 }
 
-// Where a service message goes.
+// The destination of a service message.
 #[tactic(auto, unfolding(crate::specs::Served::way_words))]
 fn put_way(text: &mut Text, plan: &Plan, back: &Back) -> Result<(), OutOfMemory>
     ensures { OnOk result (text.new ≡ text.old ++ way_words plan.now back.now.way back.now.path back.now.end) }

@@ -1,3 +1,4 @@
+//! The text of the answer on a changeover between two plans.
 ghost use Rattle.std.specs.Prelude.{◌≡◌, ◌≤◌, ◌++◌, length, All, OnOk, IfOk};
 ghost use Rattle.plan_model.specs.Covered.{Covered};
 ghost use Rattle.plan_model.specs.Network.{IsPlan};
@@ -74,7 +75,7 @@ fn put_broken_words(text: &mut Text) -> Result<(), OutOfMemory>
     text.put(b"change refused ")
 }
 
-/// Appends the places of a cover of each plan, which end the line.
+/// Appends the places of two covers, one of each plan, which end the line.
 #[tactic(auto, unfolding(crate::specs::Changes::covers_words))]
 fn put_covers(text: &mut Text, old_cover: u16, new_cover: u16) -> Result<(), OutOfMemory>
     ensures { OnOk result (text.new ≡ text.old ++ covers_words old_cover new_cover) }
@@ -127,7 +128,7 @@ fn put_mixed_route(
     put_mixed_hops(text, old, hops.as_slice(), turns)
 }
 
-/// Appends the longest mixed route, where there is one.
+/// Appends the longest mixed route, if there is one.
 fn put_longest(
     alloc: Global,
     text: &mut Text,
@@ -149,8 +150,8 @@ fn put_longest(
     }
 }
 
-/// What is told of two plans of the same nodes that are to be exchanged: whether they may be mixed, and the mixed route that
-/// shows it, each hop behind `old ` or `new ` for the plan that its relay held.
+/// The answer on two plans of the same nodes that are to be exchanged: whether they may be mixed, and the mixed route
+/// that shows it. Each hop follows `old ` or `new ` for the plan that its relay held.
 pub fn change_text(
     alloc: Global,
     old: &Plan,

@@ -1,3 +1,4 @@
+//! The lines on every cut of octets.
 ghost use Rattle.std.specs.Prelude.{◌≡◌, ◌++◌, OnOk, IfOk};
 ghost use Rattle.sccp_report.specs.CutsText.{cut_text, cut_line, cut_lines, cuts_text};
 
@@ -18,7 +19,7 @@ fn put_cut(text: &mut Text, fault: &Option<DecodeFault>) -> Result<(), OutOfMemo
     }
 }
 
-// The line of so many octets.
+// The line of the first n octets.
 #[tactic(auto, unfolding(crate::specs::CutsText::cut_line))]
 fn put_cut_line(text: &mut Text, n: usize, fault: &Option<DecodeFault>) -> Result<(), OutOfMemory>
     ensures { OnOk result (text.new ≡ text.old ++ cut_line n fault.now) }
@@ -38,8 +39,8 @@ fn put_cuts(text: &mut Text, faults: &[Option<DecodeFault>]) -> Result<(), OutOf
     Ok(())
 }
 
-/// A line for each number of octets, from none to all: the number, and `ok` where the first so many are a message, or the
-/// line of `message_text` that says why they are none.
+/// A line for each number of octets, from none to all. It has the number, and `ok` if that number of first octets is a
+/// message. Otherwise it has the line of `message_text` that says why they are none.
 #[tactic(auto, unfolding(crate::specs::CutsText::cuts_text))]
 pub fn cuts_text(alloc: Global, octets: &[u8]) -> Result<Octets, OutOfMemory>
     ensures { IfOk result (λ text. text ≡ cuts_text octets.now) }

@@ -1,3 +1,4 @@
+//! The text of a line of a trace that is neither a later plan nor a message that is routed.
 ghost use Rattle.std.specs.Prelude.{◌≡◌, ◌++◌, codes, IfOk, OnOk};
 ghost use Rattle.std.specs.Option.{option_and_then, option_copied};
 ghost use Rattle.sccp_manage.specs.Statuses.{status_of};
@@ -6,7 +7,7 @@ ghost use Rattle.sccp_report.specs.Roles.{named, management_data};
 ghost use Rattle.sccp_report.specs.Events.{connection_words, kind_word, status_words, management_words, coupling_words, message_words, message_line, at_node, point_words, ssn_words, tick_words, node_in, line_words, event_line, event_text};
 
 use crate::mark::put_destination;
-use crate::message_parts::{is_connectionless, management_data};
+use crate::message_parts::management_data;
 use crate::report::put_undecodable;
 use crate::sent::put_sent_lines;
 use crate::text::Text;
@@ -108,18 +109,18 @@ fn put_coupling(text: &mut Text, message: &Message) -> Result<(), OutOfMemory>
     put_connection(text, message)
 }
 
-// A message that isn't routed: a connectionless one is for management.
+// A message that is not routed: a connectionless one is for management.
 #[tactic(auto, unfolding(crate::specs::Events::message_words))]
 fn put_message(text: &mut Text, message: &Message) -> Result<(), OutOfMemory>
     ensures { OnOk result (text.new ≡ text.old ++ message_words message.now) }
 {
-    if is_connectionless(message) {
+    if message.is_connectionless() {
         return put_management(text, message);
     }
     put_coupling(text, message)
 }
 
-/// Appends what is told of a message, to the end of the line.
+/// Appends the words for a message, to the end of the line.
 fn put_words_line(text: &mut Text, message: &Message) -> Result<(), OutOfMemory>
     ensures { OnOk result (text.new ≡ text.old ++ codes " " ++ message_words message.now ++ codes "\n") }
 {
@@ -194,7 +195,7 @@ fn node_in(line: &Line) -> Option<&Name>
     }
 }
 
-// What is printed of a line behind its number.
+// What is printed of a line after its number.
 #[tactic(auto, unfolding(crate::specs::Events::line_words))]
 fn put_line_words(alloc: Global, text: &mut Text, line: &Line) -> Result<(), OutOfMemory>
     ensures { OnOk result (text.new ≡ text.old ++ line_words line.now) }
@@ -246,7 +247,7 @@ fn put_event_line(
     }
 }
 
-/// Appends the text of `event_text`.
+/// Appends the text that `event_text` gives.
 pub fn put_event(
     alloc: Global,
     text: &mut Text,
@@ -260,10 +261,12 @@ pub fn put_event(
     put_sent_lines(text, line.number, outcomes.as_slice())
 }
 
-/// The text of a line of a trace that is neither a later plan nor a message that is routed: the line's number and its
-/// words, or that the plan has no node of that name; behind it a line for each message that was sent because of it
-/// (`outcomes`). A fence and a skipped line have no text, nor has the line of a later plan, whose text tells more than the
-/// line does.
+/// The text of a line of a trace that is neither a later plan nor a message that is routed. It has the line's number and
+/// its words, or says that the plan has no node of that name. After it follows a line for each message that was sent
+/// because of it (`outcomes`).
+///
+/// A fence and a skipped line have no text. The line of a later plan has none here, since its text says more than the
+/// line.
 pub fn event_text(
     alloc: Global,
     plan: &Plan,

@@ -1,3 +1,4 @@
+//! The words for why octets are no message.
 ghost use Rattle.std.specs.Prelude.{◌≡◌, ◌++◌, OnOk};
 ghost use Rattle.sccp_report.specs.Faults.{split_fault_words, address_fault_words, fault_words};
 
@@ -32,7 +33,7 @@ fn put_address_fault(text: &mut Text, fault: AddressFault) -> Result<(), OutOfMe
     }
 }
 
-/// Why octets aren't a message. Want of memory is no fault of theirs, and has no words.
+/// Appends why octets are no message. Want of memory is no fault of theirs, and has no words.
 pub fn put_fault(text: &mut Text, fault: DecodeFault) -> Result<(), OutOfMemory>
     ensures { OnOk result (text.new ≡ text.old ++ fault_words fault) }
 {

@@ -1,3 +1,4 @@
+//! The line of each field of a message, with its line feed.
 ghost use Rattle.std.specs.Prelude.{◌≡◌, ◌++◌, OnOk};
 ghost use Rattle.std.specs.Option.{option_copied};
 ghost use Rattle.sccp_report.specs.Fields.{number_line, source, destination, send, receive, credit, hops, more_line, class_line, after_blank, cause_line, return_cause, refusal_cause, error_cause, release_cause, reset_cause, data_line, parameter_line, parameter_lines};
@@ -16,7 +17,7 @@ fn put_number_line(text: &mut Text, name: &[u8], number: u32) -> Result<(), OutO
     text.put(b"\n")
 }
 
-/// The source local reference (Q.713 section 3.3).
+/// Appends the line of the source local reference (Q.713 section 3.3).
 #[tactic(auto, unfolding(crate::specs::Fields::source))]
 pub fn put_source(text: &mut Text, slr: Reference) -> Result<(), OutOfMemory>
     ensures { OnOk result (text.new ≡ text.old ++ source slr) }
@@ -24,7 +25,7 @@ pub fn put_source(text: &mut Text, slr: Reference) -> Result<(), OutOfMemory>
     put_number_line(text, b"source ", slr.value())
 }
 
-/// The destination local reference (Q.713 section 3.2).
+/// Appends the line of the destination local reference (Q.713 section 3.2).
 #[tactic(auto, unfolding(crate::specs::Fields::destination))]
 pub fn put_destination(text: &mut Text, dlr: Reference) -> Result<(), OutOfMemory>
     ensures { OnOk result (text.new ≡ text.old ++ destination dlr) }
@@ -32,7 +33,7 @@ pub fn put_destination(text: &mut Text, dlr: Reference) -> Result<(), OutOfMemor
     put_number_line(text, b"destination ", dlr.value())
 }
 
-/// The send sequence number P(S) (Q.713 section 3.9).
+/// Appends the line of the send sequence number P(S) (Q.713 section 3.9).
 #[tactic(auto, unfolding(crate::specs::Fields::send))]
 pub fn put_send(text: &mut Text, number: Seven) -> Result<(), OutOfMemory>
     ensures { OnOk result (text.new ≡ text.old ++ send number) }
@@ -40,7 +41,7 @@ pub fn put_send(text: &mut Text, number: Seven) -> Result<(), OutOfMemory>
     put_number_line(text, b"send ", u32::from(number.value()))
 }
 
-/// The receive sequence number P(R) (Q.713 sections 3.8 and 3.9).
+/// Appends the line of the receive sequence number P(R) (Q.713 sections 3.8 and 3.9).
 #[tactic(auto, unfolding(crate::specs::Fields::receive))]
 pub fn put_receive(text: &mut Text, number: Seven) -> Result<(), OutOfMemory>
     ensures { OnOk result (text.new ≡ text.old ++ receive number) }
@@ -48,7 +49,7 @@ pub fn put_receive(text: &mut Text, number: Seven) -> Result<(), OutOfMemory>
     put_number_line(text, b"receive ", u32::from(number.value()))
 }
 
-/// The credit (Q.713 section 3.10).
+/// Appends the line of the credit (Q.713 section 3.10).
 #[tactic(auto, unfolding(crate::specs::Fields::credit))]
 pub fn put_credit(text: &mut Text, number: u8) -> Result<(), OutOfMemory>
     ensures { OnOk result (text.new ≡ text.old ++ credit number) }
@@ -56,7 +57,7 @@ pub fn put_credit(text: &mut Text, number: u8) -> Result<(), OutOfMemory>
     put_number_line(text, b"credit ", u32::from(number))
 }
 
-/// The hop counter (Q.713 section 3.18).
+/// Appends the line of the hop counter (Q.713 section 3.18).
 #[tactic(auto, unfolding(crate::specs::Fields::hops))]
 pub fn put_hops(text: &mut Text, number: u8) -> Result<(), OutOfMemory>
     ensures { OnOk result (text.new ≡ text.old ++ hops number) }
@@ -64,7 +65,7 @@ pub fn put_hops(text: &mut Text, number: u8) -> Result<(), OutOfMemory>
     put_number_line(text, b"hops ", u32::from(number))
 }
 
-/// Whether more data follows (Q.713 sections 3.7 and 3.9).
+/// Appends the line that says whether more data follows (Q.713 sections 3.7 and 3.9).
 #[tactic(auto, unfolding(crate::specs::Fields::more_line))]
 pub fn put_more(text: &mut Text, more: bool) -> Result<(), OutOfMemory>
     ensures { OnOk result (text.new ≡ text.old ++ more_line more) }
@@ -72,7 +73,7 @@ pub fn put_more(text: &mut Text, more: bool) -> Result<(), OutOfMemory>
     text.put(if more { b"more yes\n" } else { b"more no\n" })
 }
 
-/// The protocol class, and the options in the upper four bits as a number (Q.713 section 3.6).
+/// Appends the line of the protocol class, with the options in the upper four bits as a number (Q.713 section 3.6).
 #[tactic(auto, unfolding(crate::specs::Fields::class_line))]
 pub fn put_class(text: &mut Text, class: u8) -> Result<(), OutOfMemory>
     ensures { OnOk result (text.new ≡ text.old ++ class_line class) }
@@ -97,7 +98,7 @@ fn put_after_blank(text: &mut Text, words: Option<&str>) -> Result<(), OutOfMemo
     }
 }
 
-/// A cause behind its name, and its text where its table has one, as a line.
+/// Appends a line: the name of a cause, its number, and its text if its table has one.
 #[tactic(auto, unfolding(crate::specs::Fields::cause_line))]
 pub fn put_cause(
     text: &mut Text,
@@ -112,7 +113,7 @@ pub fn put_cause(
     text.put(b"\n")
 }
 
-/// Why a message is returned (Q.713 section 3.12).
+/// Appends the line of the return cause (Q.713 section 3.12).
 #[tactic(auto, unfolding(crate::specs::Fields::return_cause))]
 pub fn put_return_cause(text: &mut Text, cause: u8) -> Result<(), OutOfMemory>
     ensures { OnOk result (text.new ≡ text.old ++ return_cause cause) }
@@ -120,7 +121,7 @@ pub fn put_return_cause(text: &mut Text, cause: u8) -> Result<(), OutOfMemory>
     put_cause(text, b"return cause ", CauseTable::Return, cause)
 }
 
-/// Why a connection is refused (Q.713 section 3.15).
+/// Appends the line of the refusal cause (Q.713 section 3.15).
 #[tactic(auto, unfolding(crate::specs::Fields::refusal_cause))]
 pub fn put_refusal_cause(text: &mut Text, cause: u8) -> Result<(), OutOfMemory>
     ensures { OnOk result (text.new ≡ text.old ++ refusal_cause cause) }
@@ -128,7 +129,7 @@ pub fn put_refusal_cause(text: &mut Text, cause: u8) -> Result<(), OutOfMemory>
     put_cause(text, b"refusal cause ", CauseTable::Refusal, cause)
 }
 
-/// What is wrong with a message of a connection (Q.713 section 3.14).
+/// Appends the line of the error cause (Q.713 section 3.14).
 #[tactic(auto, unfolding(crate::specs::Fields::error_cause))]
 pub fn put_error_cause(text: &mut Text, cause: u8) -> Result<(), OutOfMemory>
     ensures { OnOk result (text.new ≡ text.old ++ error_cause cause) }
@@ -136,7 +137,7 @@ pub fn put_error_cause(text: &mut Text, cause: u8) -> Result<(), OutOfMemory>
     put_cause(text, b"error cause ", CauseTable::Fault, cause)
 }
 
-/// Why a connection is released (Q.713 section 3.11); it has no text.
+/// Appends the line of the release cause (Q.713 section 3.11), which has no text.
 #[tactic(auto, unfolding(crate::specs::Fields::release_cause))]
 pub fn put_release_cause(text: &mut Text, cause: u8) -> Result<(), OutOfMemory>
     ensures { OnOk result (text.new ≡ text.old ++ release_cause cause) }
@@ -144,7 +145,7 @@ pub fn put_release_cause(text: &mut Text, cause: u8) -> Result<(), OutOfMemory>
     put_number_line(text, b"release cause ", u32::from(cause))
 }
 
-/// Why a connection is reset (Q.713 section 3.13); it has no text.
+/// Appends the line of the reset cause (Q.713 section 3.13), which has no text.
 #[tactic(auto, unfolding(crate::specs::Fields::reset_cause))]
 pub fn put_reset_cause(text: &mut Text, cause: u8) -> Result<(), OutOfMemory>
     ensures { OnOk result (text.new ≡ text.old ++ reset_cause cause) }
@@ -152,7 +153,7 @@ pub fn put_reset_cause(text: &mut Text, cause: u8) -> Result<(), OutOfMemory>
     put_number_line(text, b"reset cause ", u32::from(cause))
 }
 
-/// The data of a message (Q.713 sections 3.16 and 3.20).
+/// Appends the line of the data of a message, in hexadecimal digits (Q.713 sections 3.16 and 3.20).
 #[tactic(auto, unfolding(crate::specs::Fields::data_line))]
 pub fn put_data(text: &mut Text, payload: &Octets) -> Result<(), OutOfMemory>
     ensures { OnOk result (text.new ≡ text.old ++ data_line payload.now) }
@@ -173,7 +174,7 @@ fn put_parameter(text: &mut Text, param: &Param) -> Result<(), OutOfMemory>
     text.put(b"\n")
 }
 
-/// The optional parameters in their order.
+/// Appends a line for each optional parameter, in their order.
 pub fn put_parameters(text: &mut Text, params: &List<Param>) -> Result<(), OutOfMemory>
     ensures { OnOk result (text.new ≡ text.old ++ parameter_lines params.now) }
 {

@@ -1,3 +1,4 @@
+//! The text of a route: a line for each hop.
 ghost use Rattle.std.specs.Prelude.{◌≡◌, ◌<◌, ◌≤◌, ◌++◌, length, All, OnOk, IfOk};
 ghost use Rattle.plan_model.specs.Routes.{StaysIn};
 ghost use Rattle.sccp_report.specs.Hops.{spot_text, target_text, step_text, hop_line, hops_text, IsHopIn};
@@ -91,8 +92,8 @@ pub fn put_hops(
     Ok(())
 }
 
-/// A line for each hop of a route: its title, what was held prohibited there, and what happened. Each hop has its marking at
-/// the same place in the list.
+/// A line for each hop of a route: its title, what was held prohibited there, and what happened. Each hop has its
+/// marking at the same place in the list.
 pub fn hops_text(
     alloc: Global,
     plan: &Plan,

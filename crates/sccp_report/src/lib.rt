@@ -1,19 +1,21 @@
-//! The printed text of SCCP messages, of the routes that titles take through a plan, of the verdicts on plans, and of a replay.
+//! The printed text of SCCP messages, of the routes of titles through a plan, of the verdicts on plans, and of a replay.
 //!
-//! `message_text` gives the lines of the message that octets are: its type, a line for each field in the order of the message type (ITU-T Q.713 section 4),
-//! and a line for each optional parameter. Octets that are no message give one line that says why. The crate above may rely on the whole text being exactly
-//! that of `specs/MessageText`, which is built from a text for each field (`specs/Fields`) and for each value (`specs/Values`). `cuts_text` gives a line for each
-//! cut of octets, whether it is a message or why it is none (`specs/CutsText`).
+//! `message_text` gives the lines of the message that octets are: its type, a line for each field in the order of the
+//! message type (ITU-T Q.713 section 4), and a line for each optional parameter. Octets that are no message give one line
+//! that says why. The crate above may rely on the whole text being exactly that of `specs/MessageText`. It is built from
+//! a text for each field (`specs/Fields`) and for each value (`specs/Values`). `cuts_text` gives a line for each cut of
+//! octets, whether it is a message or why it is none (`specs/CutsText`).
 //!
-//! `hops_text` gives a line for each hop of a route: the title, what was held prohibited, and what the relay did with it (Q.714 section 2).
-//! `plan_fault_text` says why a text is no plan, and where. `verdict_text` gives the verdict on a plan and the route that shows it, `accepted_text` the one line
-//! that a plan is accepted. These texts are exactly those of `specs/Hops`, `specs/PlanFaults` and `specs/Verdicts`. The text of a route's hops
-//! tells the hops (`text_tells_route`), and that of a point code the number (`text_tells_point_code`). `change_text` tells whether relays may hold
-//! either of two plans, and the mixed route that shows it, exactly as `specs/Changes` says.
+//! `hops_text` gives a line for each hop of a route: the title, what was held prohibited, and what the relay did with it
+//! (Q.714 section 2). `plan_fault_text` says why a text is no plan, and at which place. `verdict_text` gives the verdict
+//! on a plan and the route that shows it, `accepted_text` the one line that a plan is accepted. These texts are exactly
+//! those of `specs/Hops`, `specs/PlanFaults` and `specs/Verdicts`. The text of a route's hops determines the hops
+//! (`text_tells_route`), and that of a point code the number (`text_tells_point_code`). `change_text` says whether relays
+//! may hold either of two plans, and shows the mixed route, exactly as in `specs/Changes`.
 //!
-//! `role_of` says what a line of a trace is to a replay (`specs/Roles`). `served_text` gives the text of a message that was routed (`specs/Served`), and
-//! `event_text` that of any other line but a later plan (`specs/Events`); `put_served` and `put_event` append the same to a `Text` that the caller keeps, so
-//! that the texts of many lines are put together without a copy of each.
+//! `role_of` says what a line of a trace is to a replay (`specs/Roles`). `served_text` gives the text of a message that
+//! was routed (`specs/Served`), and `event_text` that of any other line but a later plan (`specs/Events`). `put_served`
+//! and `put_event` append the same to a `Text` that the caller keeps, so the texts of many lines need no copy of each.
 #![tactic(auto)]
 
 mod address;

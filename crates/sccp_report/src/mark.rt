@@ -1,3 +1,4 @@
+//! The text of what is held prohibited.
 ghost use Rattle.std.specs.Prelude.{◌≡◌, ◌++◌, OnOk};
 ghost use Rattle.std.specs.List.{flat_map};
 ghost use Rattle.sccp_report.specs.Hops.{destination_text, mark_text, next_mark_text, marks_text};
@@ -16,7 +17,7 @@ pub fn put_destination(text: &mut Text, pc: PointCode, ssn: u8) -> Result<(), Ou
     text.put_number(u32::from(ssn))
 }
 
-/// Appends what is prohibited, and where.
+/// Appends what is prohibited, and at which point.
 #[tactic(auto, unfolding(crate::specs::Hops::mark_text))]
 pub fn put_mark(text: &mut Text, mark: &Mark) -> Result<(), OutOfMemory>
     ensures { OnOk result (text.new ≡ text.old ++ mark_text mark.now) }
@@ -37,7 +38,7 @@ pub fn put_mark(text: &mut Text, mark: &Mark) -> Result<(), OutOfMemory>
     }
 }
 
-// A mark behind a comma.
+// A mark after a comma.
 #[tactic(auto, unfolding(crate::specs::Hops::next_mark_text))]
 fn put_next_mark(text: &mut Text, mark: &Mark) -> Result<(), OutOfMemory>
     ensures { OnOk result (text.new ≡ text.old ++ next_mark_text mark.now) }
@@ -46,7 +47,7 @@ fn put_next_mark(text: &mut Text, mark: &Mark) -> Result<(), OutOfMemory>
     put_mark(text, mark)
 }
 
-// Marks behind a comma each.
+// Marks, each after a comma.
 fn put_next_marks(text: &mut Text, marks: &[Mark]) -> Result<(), OutOfMemory>
     ensures { OnOk result (text.new ≡ text.old ++ flat_map next_mark_text marks.now) }
 {

@@ -1,3 +1,4 @@
+//! The lines of a message, field by field.
 ghost use Rattle.std.specs.Prelude.{◌≡◌, ◌++◌, OnOk};
 ghost use Rattle.sccp_report.specs.Fields.{hops as hops_line, called as called_line, calling as calling_line, data_line, parameter_lines};
 ghost use Rattle.sccp_report.specs.MessageText.{message_lines, lines_if, is_unit, has_parameters, is_of_data, is_of_references};
@@ -28,7 +29,7 @@ fn put_unit(
     put_data(text, payload)
 }
 
-// The same with a hop counter before and parameters behind.
+// The same, after a hop counter and before the parameters.
 fn put_counted_unit(
     text: &mut Text,
     hops: u8,
@@ -44,8 +45,8 @@ fn put_counted_unit(
     put_parameters(text, params)
 }
 
-// What is appended for a message of a kind: a line for each type, with its name and what is put for its fields in their order.
-// The last of these, behind the arrow, gives the answer. Nothing is appended for another kind.
+// What is appended for a message of a kind: a line for each type, with its name and what is put for its fields in order.
+// The last of these, after the arrow, gives the answer. Nothing is appended for another kind.
 macro_rules! by_type {
     ($text:ident, $message:ident; $($variant:ident { $($field:ident),* } $name:literal: $($put:ident($($value:expr),*)),* => $last:ident($($end:expr),*);)*) => {
         match $message {
@@ -107,7 +108,7 @@ fn put_of_references(text: &mut Text, message: &Message) -> Result<(), OutOfMemo
     }
 }
 
-/// The type of a message, and a line for each field and each parameter in their order (Q.713 section 4).
+/// Appends the type of a message, and a line for each field and each parameter in their order (Q.713 section 4).
 #[tactic(auto, using(crate::proofs::ByKind::by_kind))]
 pub fn put_message(text: &mut Text, message: &Message) -> Result<(), OutOfMemory>
     ensures { OnOk result (text.new ≡ text.old ++ message_lines message.now) }

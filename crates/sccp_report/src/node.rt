@@ -1,3 +1,4 @@
+//! The names of a plan's nodes.
 ghost use Rattle.std.specs.Prelude.{◌≡◌, ◌++◌, OnOk};
 ghost use Rattle.std.specs.List.{flat_map};
 ghost use Rattle.sccp_report.specs.Hops.{node_text};
@@ -7,7 +8,7 @@ use crate::text::Text;
 use plan_model::Plan;
 use sccp_base::OutOfMemory;
 
-/// Appends the name of the node at a place of the plan. A place without a node has no name.
+/// Appends the name of the node at a place of the plan, from 0. A place without a node has no name.
 #[tactic(auto, unfolding(crate::specs::Hops::node_text))]
 pub fn put_node(text: &mut Text, plan: &Plan, node: u8) -> Result<(), OutOfMemory>
     ensures { OnOk result (text.new ≡ text.old ++ node_text plan.now node) }
@@ -18,7 +19,7 @@ pub fn put_node(text: &mut Text, plan: &Plan, node: u8) -> Result<(), OutOfMemor
     }
 }
 
-// The name of a node behind a comma.
+// The name of a node after a comma.
 #[tactic(auto, unfolding(crate::specs::Served::next_node_text))]
 fn put_next_node(text: &mut Text, plan: &Plan, node: u8) -> Result<(), OutOfMemory>
     ensures { OnOk result (text.new ≡ text.old ++ next_node_text plan.now node) }
@@ -27,7 +28,7 @@ fn put_next_node(text: &mut Text, plan: &Plan, node: u8) -> Result<(), OutOfMemo
     put_node(text, plan, node)
 }
 
-// The names of nodes behind a comma each.
+// The names of nodes, each after a comma.
 fn put_next_nodes(text: &mut Text, plan: &Plan, nodes: &[u8]) -> Result<(), OutOfMemory>
     ensures { OnOk result (text.new ≡ text.old ++ flat_map (next_node_text plan.now) nodes.now) }
 {

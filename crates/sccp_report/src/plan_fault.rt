@@ -1,3 +1,4 @@
+//! The words for why a text is no plan.
 ghost use Rattle.std.specs.Prelude.{◌≡◌, ◌++◌, OnOk, IfOk};
 ghost use Rattle.sccp_report.specs.PlanFaults.{place_text, counted_words, rule_words, plan_fault_words, plan_fault_text};
 
@@ -7,7 +8,7 @@ use plan_rules::RuleFault;
 use sccp_base::{Octets, OutOfMemory};
 use std::alloc::Global;
 
-// Where a fault is.
+// The place of a fault.
 #[tactic(auto, unfolding(crate::specs::PlanFaults::place_text))]
 fn put_place(text: &mut Text, place: &Place) -> Result<(), OutOfMemory>
     ensures { OnOk result (text.new ≡ text.old ++ place_text place.now) }
@@ -57,7 +58,7 @@ fn put_counted_words(text: &mut Text, counted: &Counted) -> Result<(), OutOfMemo
     }
 }
 
-// Words, and where a fault is.
+// Words, and the place of a fault.
 fn put_placed(text: &mut Text, words: &[u8], place: &Place) -> Result<(), OutOfMemory>
     ensures { OnOk result (text.new ≡ text.old ++ (words.now ++ place_text place.now)) }
 {
@@ -90,7 +91,7 @@ fn put_plan_fault(text: &mut Text, fault: &PlanFault) -> Result<(), OutOfMemory>
     }
 }
 
-/// Why a text is no plan, with a line feed at the end: the fault, and where it is.
+/// Why a text is no plan, with a line feed at the end: the fault, and its place.
 #[tactic(auto, unfolding(crate::specs::PlanFaults::plan_fault_text))]
 pub fn plan_fault_text(alloc: Global, fault: &PlanFault) -> Result<Octets, OutOfMemory>
     ensures { IfOk result (λ text. text ≡ plan_fault_text fault.now) }

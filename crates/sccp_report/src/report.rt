@@ -1,3 +1,4 @@
+//! The text of the message that octets are, or why they are none.
 ghost use Rattle.std.specs.Prelude.{◌≡◌, ◌++◌, Ok, IfOk, OnOk};
 ghost use Rattle.sccp_message.specs.Encoding.{canonical};
 ghost use Rattle.sccp_message.specs.Reading.{reading};

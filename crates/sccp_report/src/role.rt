@@ -1,11 +1,12 @@
+//! What a line of a trace is to a replay: a message to route, a later plan, or an event at a node.
 ghost use Rattle.std.specs.Prelude.{◌≡◌, ◌<◌, length, IfOk, IfSome};
 ghost use Rattle.std.specs.Option.{option_copied, option_map};
 ghost use Rattle.sccp_message.specs.Reading.{reading};
 ghost use Rattle.sccp_message.specs.Reads.{Reads};
-ghost use Rattle.sccp_scrc.specs.Unitdata.{called_of};
+ghost use Rattle.sccp_message.specs.Unitdata.{called_of};
 ghost use Rattle.sccp_report.specs.Roles.{StandsIn, alone, as_role, event_role, incoming, named, is_for_management, role_by_called, role_of, role_of_message, status_at};
 
-use crate::message_parts::{called, management_data};
+use crate::message_parts::management_data;
 use plan_model::Plan;
 use relay_net::Happening;
 use sccp_address::Address;
@@ -16,7 +17,7 @@ use sccp_message::{DecodeFault, Message, decode};
 use std::alloc::Global;
 use trace_text::Line;
 
-/// What is to happen at the node at a place of the plan.
+/// What is to happen at a node, which is given by its place in the plan.
 #[derive(Drop)]
 pub struct Due {
     pub node: u8,
@@ -26,7 +27,7 @@ pub struct Due {
 /// What a line of a trace is to a replay.
 #[derive(Drop)]
 pub enum Role {
-    /// A connectionless message that is to be routed: the node that it comes to, the point that it comes from, its octets.
+    /// A connectionless message that is to be routed: the node that it arrives at, the point that it is from, its octets.
     Routed {
         entry: u8,
         origin: PointCode,
@@ -34,9 +35,9 @@ pub enum Role {
     },
     /// A later plan, in the file of this name.
     Later(Octets),
-    /// Nothing happens: a line that is skipped, a message that doesn't read, or one for a node that the plan doesn't have.
+    /// Nothing happens: a skipped line, a message that does not read, or one for a node that the plan does not have.
     Aside,
-    /// The line ends what stands before it, and this happens then, if anything.
+    /// The line ends the batch before it, and then this happens, if anything.
     Alone(Option<Due>),
 }
 
@@ -73,7 +74,7 @@ fn management_role(
     }
 }
 
-// A message that reads, by its called address.
+// The role of a message that reads, by its called address.
 fn role_of_message(
     alloc: Global,
     plan: &Plan,
@@ -87,7 +88,7 @@ fn role_of_message(
     ensures stands { IfOk result (λ role. StandsIn plan.now (as_role role)) }
     ensures value { IfOk result (λ role. as_role role ≡ role_by_called (incoming entry origin octets.now) message (called_of message)) }
 {
-    match called(&message) {
+    match message.called() {
         Some(address) => {
             if is_for_management(address) {
                 let role = management_role(alloc, plan, entry, origin, management_data(&message));
@@ -111,7 +112,7 @@ fn role_of_message(
     }
 }
 
-// Octets that come to a node of the plan.
+// The role of octets that arrive at a node of the plan.
 fn role_of_octets(
     alloc: Global,
     plan: &Plan,
@@ -154,11 +155,11 @@ fn event_role(plan: &Plan, name: &Name, event: Event) -> Role
 
 /// What a line of a trace is to a replay over the nodes of a plan.
 ///
-/// A message is looked at once. One that routes on subsystem number 1 is for SCCP management, and its data are the status
-/// message, where its type is UDT, XUDT or LUDT; each other connectionless message is to be routed; one of a
+/// A message is read once. One that is routed on subsystem number 1 is for SCCP management; its data are the status
+/// message, if its type is UDT, XUDT or LUDT. Each other connectionless message is to be routed. One of a
 /// connection-oriented type is for the connection sections of its node.
 pub fn role_of(alloc: Global, plan: &Plan, line: &Line) -> Result<Role, OutOfMemory>
-    // Its nodes are those of the plan, and what is to happen at them can.
+    // Its nodes are those of the plan, and what is to happen at them can happen.
     ensures stands { IfOk result (λ role. StandsIn plan.now (as_role role)) }
     ensures value { IfOk result (λ role. as_role role ≡ role_of plan.now line.now) }
 {

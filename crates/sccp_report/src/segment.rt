@@ -1,3 +1,4 @@
+//! The words for what became of a segment (Q.714 section 4.1).
 ghost use Rattle.std.specs.Prelude.{◌≡◌, ◌++◌, OnOk};
 ghost use Rattle.std.specs.List.{flat_map};
 ghost use Rattle.sccp_report.specs.Served.{why_number, taken_words, segment_words};
@@ -7,7 +8,7 @@ use relay_net::Outcome;
 use sccp_base::OutOfMemory;
 use sccp_segment::{Taken, Why};
 
-// The numbers of the reasons to give a segment up.
+// The number that the text has for each reason to give a segment up.
 fn why_number(why: Why) -> u32
     ensures { result ≡ why_number why }
 {

@@ -1,3 +1,4 @@
+//! The lines of the messages that are sent because of a line of the trace.
 ghost use Rattle.std.specs.Prelude.{◌≡◌, ◌++◌, OnOk};
 ghost use Rattle.sccp_report.specs.Served.{sent_line, sent_lines};
 

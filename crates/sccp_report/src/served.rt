@@ -1,10 +1,10 @@
+//! The text of a message that was routed.
 ghost use Rattle.std.specs.Prelude.{◌≡◌, ◌++◌, IfOk, OnOk};
 ghost use Rattle.sccp_report.specs.Served.{data_of, local_words, returned_words, end_words, journey_line, served_text};
 ghost use Rattle.sccp_report.specs.Values.{octets_text};
 
 use crate::back::{put_back, put_ended};
 use crate::mark::put_marks;
-use crate::message_parts::payload;
 use crate::node::put_path;
 use crate::segment::put_segments;
 use crate::sent::put_sent_lines;
@@ -15,17 +15,17 @@ use sccp_base::{Boxed, List, Mark, Octets, OutOfMemory};
 use sccp_message::Message;
 use std::alloc::Global;
 
-// The data of a message, where its type has any.
+// The data of a message, if its type has any.
 fn put_data_of(text: &mut Text, message: &Message) -> Result<(), OutOfMemory>
     ensures { OnOk result (text.new ≡ text.old ++ octets_text (data_of message.now)) }
 {
-    match payload(message) {
+    match message.payload() {
         Some(payload) => text.put_octets(payload.as_slice()),
         None => text.put_octets(&[]),
     }
 }
 
-// A message that comes to a subsystem of its last node.
+// A message that is for a subsystem of its last node.
 #[tactic(auto, unfolding(crate::specs::Served::local_words))]
 fn put_local(
     text: &mut Text,
@@ -41,7 +41,7 @@ fn put_local(
     put_segments(text, outcomes)
 }
 
-// A message that can't be delivered.
+// A message that cannot be delivered.
 #[tactic(auto, unfolding(crate::specs::Served::returned_words))]
 fn put_returned(
     text: &mut Text,
@@ -100,7 +100,7 @@ fn put_journey_line(
     text.put(b"\n")
 }
 
-/// Appends the text of `served_text`.
+/// Appends the text that `served_text` gives.
 pub fn put_served(
     text: &mut Text,
     plan: &Plan,
@@ -114,11 +114,12 @@ pub fn put_served(
     put_sent_lines(text, line, outcomes.as_slice())
 }
 
-/// The text of a message that was routed: the number of its line in the trace and of its plan, the names of the relays that
-/// it came to, and its end, with what its end left at a node (`outcomes`); behind it a line for each message that was sent.
+/// The text of a message that was routed: the number of its line in the trace and of its plan, the names of the relays
+/// that it reached, and its end. With the end is what it left at a node (`outcomes`). After it follows a line for each
+/// message that was sent.
 ///
-/// A message that is routed ends at a place, at a subsystem of its last node, as returned or as cut off. Another end has no
-/// words, nor has a place of the path that is no node of the plan.
+/// A message that is routed ends at a place, at a subsystem of its last node, as returned or as cut off. Another end has
+/// no words, nor has a place of the path that is no node of the plan.
 pub fn served_text(
     alloc: Global,
     plan: &Plan,

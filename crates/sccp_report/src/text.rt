@@ -1,3 +1,4 @@
+//! A text that is being written.
 ghost use Rattle.std.specs.Prelude.{◌≡◌, [], ◌∷◌, ◌++◌, decimal, OnOk};
 ghost use Rattle.hex.specs.Hex.{encode_upper};
 ghost use Rattle.sccp_report.specs.Values.{numbered, octets_text};
@@ -6,7 +7,7 @@ use sccp_base::{Octets, OutOfMemory};
 use std::alloc::Global;
 use std::marker::Model;
 
-/// A text that is being written, as octets. After an error its end isn't specified: it is to be dropped.
+/// A text that is being written, as octets. After an error its end is not specified: it is to be dropped.
 #[derive(Drop)]
 pub struct Text {
     alloc: Global,
@@ -22,6 +23,7 @@ impl Model for Text {
 }
 
 impl Text {
+    /// An empty text. What is appended takes its memory from this allocator.
     pub fn new(alloc: Global) -> Self
         ensures { result ≡ [] }
     {
@@ -31,19 +33,21 @@ impl Text {
         }
     }
 
+    /// The octets written so far. The text is used up.
     pub fn into_octets(self) -> Octets
         ensures { result ≡ self }
     {
         Octets::from_vec(self.octets)
     }
 
+    /// The octets written so far.
     pub fn as_slice(&self) -> &[u8]
         ensures { result.now ≡ self.now }
     {
         self.octets.as_slice()
     }
 
-    /// Appends words as they stand.
+    /// Appends words unchanged.
     pub fn put(&mut self, words: &[u8]) -> Result<(), OutOfMemory>
         ensures { OnOk result (self.new ≡ self.old ++ words.now) }
     {
@@ -65,7 +69,7 @@ impl Text {
         self.put(itoa::Buffer::new().format(count).as_bytes())
     }
 
-    /// Appends a name and a number behind it.
+    /// Appends a name and a number after it.
     #[tactic(auto, unfolding(crate::specs::Values::numbered))]
     pub fn put_numbered(&mut self, name: &[u8], number: u32) -> Result<(), OutOfMemory>
         ensures { OnOk result (self.new ≡ self.old ++ numbered name.now number) }
@@ -74,7 +78,7 @@ impl Text {
         self.put_number(number)
     }
 
-    /// Appends a name and a place or a count behind it.
+    /// Appends a name and a place or a count after it.
     #[tactic(auto, unfolding(crate::specs::Values::numbered))]
     pub fn put_counted(&mut self, name: &[u8], count: usize) -> Result<(), OutOfMemory>
         ensures { OnOk result (self.new ≡ self.old ++ numbered name.now count) }
@@ -98,7 +102,7 @@ impl Text {
         self.put_hexadecimal(&[octet])
     }
 
-    /// Appends octets in hexadecimal, or a dash where there is none.
+    /// Appends octets in hexadecimal, or a dash if there is none.
     #[tactic(auto, unfolding(crate::specs::Values::octets_text))]
     pub fn put_octets(&mut self, octets: &[u8]) -> Result<(), OutOfMemory>
         ensures { OnOk result (self.new ≡ self.old ++ octets_text octets.now) }

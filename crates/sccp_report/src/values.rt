@@ -1,3 +1,4 @@
+//! The texts of point codes, selectors, digits and numbers.
 ghost use Rattle.std.specs.Prelude.{◌≡◌, ◌++◌, decimal, map, slice_index, OnOk};
 ghost use Rattle.hex.specs.Hex.{upper_digits};
 ghost use Rattle.sccp_report.specs.Values.{or_dash, digits_text, point_code_text, selector_text};
@@ -66,7 +67,7 @@ fn put_each_digit(text: &mut Text, digits: &Digits) -> Result<(), OutOfMemory>
     Ok(())
 }
 
-/// Appends digits, or a dash where there is none.
+/// Appends digits, or a dash if there is none.
 #[tactic(auto, unfolding(crate::specs::Values::digits_text))]
 pub fn put_digits(text: &mut Text, digits: &Digits) -> Result<(), OutOfMemory>
     ensures { OnOk result (text.new ≡ text.old ++ digits_text digits.now) }
@@ -77,7 +78,7 @@ pub fn put_digits(text: &mut Text, digits: &Digits) -> Result<(), OutOfMemory>
     put_each_digit(text, digits)
 }
 
-/// Appends a point code, or a dash where there is none.
+/// Appends a point code, or a dash if there is none.
 pub fn put_point_code_or_dash(text: &mut Text, pc: Option<PointCode>) -> Result<(), OutOfMemory>
     ensures { OnOk result (text.new ≡ text.old ++ or_dash point_code_text pc) }
 {
@@ -87,7 +88,7 @@ pub fn put_point_code_or_dash(text: &mut Text, pc: Option<PointCode>) -> Result<
     }
 }
 
-/// Appends a number, or a dash where there is none.
+/// Appends a number, or a dash if there is none.
 pub fn put_number_or_dash(text: &mut Text, number: Option<u8>) -> Result<(), OutOfMemory>
     ensures { OnOk result (text.new ≡ text.old ++ or_dash decimal number) }
 {

@@ -1,3 +1,4 @@
+//! The text of a verdict on a plan, and of the route that shows it.
 ghost use Rattle.std.specs.Prelude.{◌≡◌, ◌≤◌, ◌++◌, length, All, OnOk, IfOk};
 ghost use Rattle.plan_verify.specs.Lawful.{plan_of};
 ghost use Rattle.plan_model.specs.Routes.{route};
@@ -30,7 +31,7 @@ pub fn put_kind(text: &mut Text, kind: Kind) -> Result<(), OutOfMemory>
     }
 }
 
-/// Appends whether the hops are the same where each relay holds all the marks of the route.
+/// Appends whether the hops are the same if each relay holds all the marks of the route.
 #[tactic(auto, unfolding(crate::specs::Verdicts::steady_words))]
 fn put_steady(text: &mut Text, steady: bool) -> Result<(), OutOfMemory>
     ensures { OnOk result (text.new ≡ text.old ++ steady_words steady) }
@@ -113,8 +114,8 @@ pub fn accepted_text(alloc: Global, accepted: &Accepted) -> Result<Octets, OutOf
     Ok(text.into_octets())
 }
 
-/// The verdict on a plan, and the route that shows it: the longest one of a plan that is accepted, the bad one of a plan that
-/// is refused.
+/// The verdict on a plan, and the route that shows it: the longest one of a plan that is accepted, the bad one of a plan
+/// that is refused.
 pub fn verdict_text(alloc: Global, plan: &Plan, verdict: &Verdict) -> Result<Octets, OutOfMemory>
     requires same { plan_of verdict.now ≡ plan.now }
     requires hops { HasHopsIn plan.now verdict.now }

@@ -1,4 +1,4 @@
--- the called address behind a step
+-- the called address after a step
 use Rattle.std.specs.Prelude.{◌≡◌, ℕ, zero, suc, ◌+◌, ◌-◌, ◌*◌, ◌%◌, ◌<◌, ◌≤◌, ◌==◌, ◌&&◌, Bool, true, false, List, [], ◌∷◌, ◌++◌, length, drop, Option, Some, None, slice_get, IfSome, unwrap_or, refl, nat_eq, if◌then◌else◌}
 use Rattle.std.specs.List.{AllByRecursion, All, starts_with}
 use Rattle.std.proofs.Common.{sym, ◌∙◌, ap, subst, arith, length-append}

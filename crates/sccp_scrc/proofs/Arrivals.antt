@@ -21,6 +21,7 @@ use Rattle.sccp_message.specs.Reads.{Reads}
 use Rattle.sccp_message.proofs.Laws.{message_takes}
 use Rattle.sccp_message.proofs.Made.{reads_kept, reads_sound}
 use Rattle.sccp_message.specs.Written.{message_octets, Writable, Sound, IsMessage}
+use Rattle.sccp_message.specs.Unitdata.{called_of, hops_of}
 use Rattle.plan_rules.specs.Rule.{Rule}
 use Rattle.plan_rules.specs.declared.target.Target.TheVariants.{Relay, Final}
 use Rattle.plan_model.specs.declared.node.Node.{Node}
@@ -28,7 +29,7 @@ use Rattle.plan_model.specs.declared.spot.Spot.{Spot}
 use Rattle.plan_model.specs.Network.{Network, IsPlan, LeadsOn, has_point, node_of}
 use Rattle.plan_model.specs.Steps.{step}
 use Rattle.plan_model.proofs.Leading.{IsSentBy, IsEndedBy}
-use Rattle.sccp_scrc.specs.Unitdata.{called_of, hops_of, redirected, octets_of, Room}
+use Rattle.sccp_scrc.specs.Unitdata.{redirected, octets_of, Room}
 use Rattle.sccp_scrc.specs.Rewriting.{one_less, to_relay, to_place, spot_of, title_spot}
 use Rattle.sccp_scrc.specs.Arriving.{point_of, after_step, translated, is_last_hop, at_title, by_called, of_message, arrival, at_subsystem}
 use Rattle.sccp_scrc.proofs.Redirected.{Sound-redirected, IsMessage-redirected, Writable-redirected, Room-redirected, called-redirected, reads_again, octets_written, called_kept}
@@ -112,7 +113,6 @@ Carries-relayed m a s next c is = record { titled = IsTitled-relayed m a s next 
 pub IsTitled-reads : (m : Message) (a : Address) (s : Spot) → IsTitled m a s → reading (message_octets m) ≡ Ok m
 IsTitled-reads m a s c = reads_again m c.message c.sound
 
--- what is read of octets, as a title's message
 -- the spot of an address keeps what titles keep
 pub is_spot : (node : ℕ) (a : Address) (s : Spot) → IsAddress a → spot_of node a ≡ Some s → IsSpot s
 is_spot node a s address at =
@@ -150,7 +150,7 @@ there plan pc lt =
     (λ (beyond : (length plan.nodes ≤ i) × (slice_get plan.nodes i ≡ None)). let le : length plan.nodes ≤ i = beyond.0 in absurd (omega (arith, le, lt)))
     (slice_get_cases plan.nodes i).1
 
--- where a title is sent: to the node with the target's point code, which is another one of the plan
+-- the next node of a title: the one with the target's point code, which is another one of the plan
 record IsNext (plan : Network) (s next : Spot) (pc : ℕ) : Type 0 where
   within : next.node < length plan.nodes
   point : point_of plan next.node ≡ pc

@@ -39,7 +39,7 @@ after_ended r plan node marking origin m address to o x pc ssn target own is at 
 pairs : (x y : Bool × Option ℕ) → Some x ≡ Some y → x ≡ y
 pairs x y e = cc
 
--- a message that isn't routed on SSN
+-- a message that is not routed on SSN
 pub titled : {E : Type 0} (r : Result Arrival E) (plan : Network) (node : ℕ) (marking : List Mark) (origin : ℕ) (m : Message) (o : Option Address) (b : Bool) (ssn : Option ℕ) →
     option_map {U = Bool × Option ℕ} (λ (a : Address). (a.by_ssn, a.ssn)) o ≡ Some (b, ssn) → b ≡ false → ((address : Address) → o ≡ Some address → IfOk r (λ a. a ≡ at_title plan node marking origin m address)) → IfOk r (λ a. a ≡ by_called plan node marking origin m o)
 titled r plan node marking origin m None b ssn e f h = absurd (cc)

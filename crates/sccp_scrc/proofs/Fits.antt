@@ -43,7 +43,7 @@ global_enough s digits n le =
 lengths : ℕ → List ℕ → List ℕ → List ℕ → List Parameter → Option ℕ
 lengths most called calling payload params = first_failed (nat_le (length called) 255) (nat_le (length calling) 255) (nat_le (length payload) most) (are_short params)
 
--- the pointers to the parts behind the first, whose places are these
+-- the pointers to the parts after the first, which are at these places
 pointers : ℕ → ℕ → ℕ → ℕ → Option ℕ
 pointers most second third last = first_failed true (nat_le second most) (nat_le third most) (nat_le last most)
 

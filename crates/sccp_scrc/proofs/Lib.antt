@@ -1,3 +1,4 @@
+-- The lemmas of this crate, one file a subject.
 pub mod Redirected
 pub mod Addresses
 pub mod Arrivals

@@ -13,6 +13,7 @@ use Rattle.sccp_message.specs.declared.message.Message.{Message}
 use Rattle.sccp_message.specs.declared.fault.DecodeFault.{DecodeFault}
 use Rattle.sccp_message.specs.Reading.{reading}
 use Rattle.sccp_message.specs.Written.{message_octets}
+use Rattle.sccp_message.specs.Unitdata.{called_of, hops_of}
 use Rattle.plan_rules.specs.declared.target.Target.{Target}
 use Rattle.plan_model.specs.declared.node.Node.{Node}
 use Rattle.plan_model.specs.declared.spot.Spot.{Spot}
@@ -25,7 +26,7 @@ use Rattle.plan_model.proofs.Leading.{Facts, step_facts}
 use Rattle.sccp_scrc.specs.declared.arrival.Arrival.{Arrival}
 use Rattle.sccp_scrc.specs.declared.arrival.Arrival.TheVariants.{Relayed, Ended, Local, Returned, Connection, Management, Undecodable}
 use Rattle.sccp_scrc.specs.declared.service.Service.{Service}
-use Rattle.sccp_scrc.specs.Unitdata.{called_of, hops_of, redirected, write_fault, octets_of}
+use Rattle.sccp_scrc.specs.Unitdata.{redirected, write_fault, octets_of}
 use Rattle.sccp_scrc.specs.Rewriting.{one_less, to_relay, to_place, spot_of}
 use Rattle.sccp_scrc.specs.Returning.{returned}
 use Rattle.sccp_scrc.specs.Unchanged.{SameData}
@@ -153,7 +154,7 @@ by_reading plan node marking origin b (Err fault) is e = tt
 pub means : (plan : Network) (node : ℕ) (marking : List Mark) (origin : ℕ) (b : List ℕ) → IsPlan plan → Means plan node marking b (arrival plan node marking origin b)
 means plan node marking origin b is = by_reading plan node marking origin b (reading b) is refl
 
--- an answer that is the arrival says so
+-- an answer that is the arrival says what the arrival says
 pub said : {E : Type 0} (r : Result Arrival E) (plan : Network) (node : ℕ) (marking : List Mark) (origin : ℕ) (b : List ℕ) → IsPlan plan → IfOk r (λ a. a ≡ arrival plan node marking origin b) → IfOk r (λ a. Means plan node marking b a)
 said (Ok a) plan node marking origin b is h = subst (Means plan node marking b) (sym h) (means plan node marking origin b is)
 said (Err e) plan node marking origin b is h = tt

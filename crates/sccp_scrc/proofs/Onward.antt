@@ -5,13 +5,14 @@ use Rattle.std.proofs.Common.{subst}
 use Rattle.sccp_base.specs.declared.mark.Mark.{Mark}
 use Rattle.sccp_address.specs.declared.address.Address.{Address}
 use Rattle.sccp_message.specs.declared.message.Message.{Message}
+use Rattle.sccp_message.specs.Unitdata.{called_of}
 use Rattle.plan_model.specs.declared.spot.Spot.{Spot}
 use Rattle.plan_model.specs.declared.hop.Step.{Step}
 use Rattle.plan_model.specs.declared.hop.Step.TheVariants as steps
 use Rattle.plan_model.specs.Network.{Network, IsPlan}
 use Rattle.plan_model.specs.Steps.{step}
 use Rattle.plan_model.proofs.Leading.{Facts, step_facts}
-use Rattle.sccp_scrc.specs.Unitdata.{called_of, redirected}
+use Rattle.sccp_scrc.specs.Unitdata.{redirected}
 use Rattle.sccp_scrc.specs.Rewriting.{one_less, to_relay, spot_of}
 use Rattle.sccp_scrc.specs.Passing.{sent_by, sent_from, sent_on, ReadsAgain}
 use Rattle.sccp_scrc.proofs.Redirected.{IsMessage-redirected, Sound-redirected, called_kept}

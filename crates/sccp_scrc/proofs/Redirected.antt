@@ -11,9 +11,10 @@ use Rattle.sccp_message.specs.declared.message.Message.{Message}
 use Rattle.sccp_message.specs.declared.message.Message.TheVariants.{Udt, Udts, Xudt, Xudts, Ludt, Ludts}
 use Rattle.sccp_message.specs.Reading.{reading}
 use Rattle.sccp_message.specs.Written.{message_octets, Writable, Sound, IsMessage}
+use Rattle.sccp_message.specs.Unitdata.{called_of, hops_of}
 use Rattle.sccp_message.proofs.Writing.{written_reads}
 use Rattle.sccp_message.proofs.Laws.{message_again}
-use Rattle.sccp_scrc.specs.Unitdata.{called_of, hops_of, redirected, write_fault, octets_of, Room}
+use Rattle.sccp_scrc.specs.Unitdata.{redirected, write_fault, octets_of, Room}
 
 pub Sound-redirected : (x : Address) (f : ℕ → ℕ) (m : Message) → Sound m → Sound (redirected x f m)
 Sound-redirected x f (Udt c a b d) h = h
@@ -101,7 +102,7 @@ reads_again m h sound = message_again (message_octets m) m (written_reads m h so
 pub octets_written : (m : Message) → Writable m → octets_of m ≡ Some (message_octets m)
 octets_written m h = rw h refl
 
--- what can't be written has no octets
+-- what cannot be written has no octets
 pub unwritten : (m : Message) → (Writable m → ⊥) → octets_of m ≡ None
 unwritten m never = by_fault (write_fault m) never
   where
@@ -109,7 +110,7 @@ unwritten m never = by_fault (write_fault m) never
     by_fault None never = absurd (never refl)
     by_fault (Some f) never = refl
 
--- a fault other than want of memory says that a message can't be written
+-- a fault other than want of memory says that a message cannot be written
 pub unwritten_for : (m : Message) (f : EncodeFault) → is_memory f ≡ false → (Writable m → MatchBool (is_memory f) ⊤ (Ok (message_octets m) ≡ Err f)) → octets_of m ≡ None
 unwritten_for m f is only = unwritten m (λ w. apart (subst (λ b. MatchBool b ⊤ (Ok (message_octets m) ≡ Err f)) is (only w)))
   where
@@ -126,7 +127,7 @@ called_kept x (Ludt c j a b d p) e h = let same : a ≡ x = cc in subst IsAddres
 called_kept x (Ludts c j a b d p) e h = let same : a ≡ x = cc in subst IsAddress same h.addresses.0
 called_kept x m e h = absurd cc
 
--- the hop counter as a number; 0 where there is none
+-- the hop counter as a number; 0 if there is none
 pub redirected_counted : (x : Address) (f : ℕ → ℕ) (m : Message) → redirected x (λ n. f (unwrap_or (hops_of m) 0)) m ≡ redirected x f m
 redirected_counted x f (Udt c a b d) = refl
 redirected_counted x f (Udts c a b d) = refl

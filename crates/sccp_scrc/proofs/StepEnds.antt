@@ -1,4 +1,4 @@
--- where a step ends
+-- how a step ends
 use Rattle.std.specs.Prelude.{ℕ, ◌≡◌, ◌==◌, ◌&&◌, not, Bool, true, false, nat_lt, if◌then◌else◌, List, [], ◌∷◌, length, Option, Some, None, slice_get, refl}
 use Rattle.std.specs.List.{list_any}
 use Rattle.std.specs.Option.{unwrap_or, option_map_or}
@@ -16,7 +16,7 @@ use Rattle.plan_model.specs.Network.{Network, node_of}
 use Rattle.plan_model.specs.Steps.{row_for, rewritten, led, taken, first_open, step_by, step_at, step}
 use Rattle.sccp_scrc.specs.Arriving.{point_of, subsystems_of}
 
--- a destination at the node itself is one of its subsystems; without a way on the cause is 0, 1 or 4
+-- a destination at the node itself is one of its subsystems; without a way on the cause is one of a return without marks
 abbrev pub EndsRightly : Network → ℕ → Step → Type 0
 EndsRightly plan node (Ended pc ssn place) = (pc == point_of plan node) ≡ true → list_any (λ own. own == ssn) (subsystems_of plan node) ≡ true
 EndsRightly plan node (NoRow cause) = list_any (λ n. n == cause) (0 ∷ 1 ∷ 4 ∷ 9 ∷ 12 ∷ []) ≡ true

@@ -9,26 +9,24 @@ use Rattle.sccp_address.specs.declared.address.Address.{Address}
 use Rattle.sccp_message.specs.declared.message.Message.{Message}
 use Rattle.sccp_message.specs.declared.fault.DecodeFault.{DecodeFault}
 use Rattle.sccp_message.specs.Reading.{reading}
+use Rattle.sccp_message.specs.Unitdata.{called_of, hops_of}
 use Rattle.plan_model.specs.declared.spot.Spot.{Spot}
 use Rattle.plan_model.specs.declared.hop.Step.{Step}
 use Rattle.plan_model.specs.declared.hop.Step.TheVariants as steps
 use Rattle.plan_model.specs.Network.{Network}
+pub use Rattle.plan_model.specs.Network.{point_of}
 use Rattle.plan_model.specs.Steps.{step}
 use Rattle.sccp_scrc.specs.declared.arrival.Arrival.{Arrival}
 use Rattle.sccp_scrc.specs.declared.arrival.Arrival.TheVariants.{Relayed, Ended, Local, Connection, Management, Undecodable}
-use Rattle.sccp_scrc.specs.Unitdata.{called_of, hops_of, octets_of}
+use Rattle.sccp_scrc.specs.Unitdata.{octets_of}
 use Rattle.sccp_scrc.specs.Rewriting.{rewritten, spot_of}
 use Rattle.sccp_scrc.specs.Returning.{returned}
-
--- the point code of a node, 0 for none
-abbrev pub point_of : Network → ℕ → ℕ
-point_of plan node = option_map_or (λ n. n.pc) (slice_get plan.nodes node) 0
 
 -- the subsystems of a node
 abbrev pub subsystems_of : Network → ℕ → List ℕ
 subsystems_of plan node = option_map_or (λ n. n.subsystems) (slice_get plan.nodes node) []
 
--- Routed on SSN: 1 is SCCP management; another is a subsystem of the node that isn't prohibited.
+-- Routed on SSN: 1 is SCCP management; another must be a subsystem of the node that is not prohibited.
 abbrev pub at_subsystem : Network → ℕ → List Mark → ℕ → Message → Option ℕ → Arrival
 at_subsystem plan node marking origin m None = returned marking origin m 4 []
 at_subsystem plan node marking origin m (Some ssn) =
@@ -37,7 +35,7 @@ at_subsystem plan node marking origin m (Some ssn) =
     else if holds marking (Subsystem (point_of plan node) ssn) then returned marking origin m 3 (Subsystem (point_of plan node) ssn ∷ [])
     else Local ssn m
 
--- a message that leaves the node, which it can't where it can't be written
+-- a message that leaves the node; if it cannot be written it is returned for cause 9
 abbrev pub leaving : List Mark → ℕ → Message → (List ℕ → Arrival) → Option (List ℕ) → Arrival
 leaving marking origin m as_octets (Some octets) = as_octets octets
 leaving marking origin m as_octets None = returned marking origin m 9 []
@@ -53,7 +51,7 @@ after_step plan node marking origin m a (steps.Blocked cause marks) = returned m
 after_step plan node marking origin m a (steps.NoRow cause) = returned marking origin m cause []
 after_step plan node marking origin m a steps.Overgrown = returned marking origin m 9 []
 
--- global title translation; without a global title there is none for an address of such nature
+-- global title translation; without a title of digits the message is returned for cause 0
 abbrev pub translated : Network → ℕ → List Mark → ℕ → Message → Address → Option Spot → Arrival
 translated plan node marking origin m a (Some spot) = after_step plan node marking origin m a (step plan spot marking)
 translated plan node marking origin m a None = returned marking origin m 0 []
@@ -68,15 +66,17 @@ at_title plan node marking origin m a =
     if is_last_hop (hops_of m) then returned marking origin m 12 []
     else translated plan node marking origin m a (spot_of node a)
 
+-- by the called address; a message without one is connection-oriented
 abbrev pub by_called : Network → ℕ → List Mark → ℕ → Message → Option Address → Arrival
 by_called plan node marking origin m None = Connection m
 by_called plan node marking origin m (Some a) =
     if a.by_ssn then at_subsystem plan node marking origin m a.ssn else at_title plan node marking origin m a
 
+-- by what reading gives
 abbrev pub of_message : Network → ℕ → List Mark → ℕ → Result Message DecodeFault → Arrival
 of_message plan node marking origin (Err fault) = Undecodable fault
 of_message plan node marking origin (Ok m) = by_called plan node marking origin m (called_of m)
 
--- what becomes of octets that arrive from an origin at a node that holds a marking
+-- what becomes of octets that arrive from an origin at a node which holds a marking
 abbrev pub arrival : Network → ℕ → List Mark → ℕ → List ℕ → Arrival
 arrival plan node marking origin b = of_message plan node marking origin (reading b)

@@ -8,7 +8,7 @@ pub record FitsShort (called calling payload : ℕ) : Type 0 where
   pub addresses : called + calling ≤ 252
   pub payload_fits : payload ≤ 255
 
--- of XUDT and XUDTS; only where there are parameters a pointer counts the data
+-- of XUDT and XUDTS; a pointer passes over the data only if there are parameters
 pub record FitsExtended (called calling payload : ℕ) (params : List Parameter) : Type 0 where
   pub addresses : called + calling ≤ 251
   pub payload_fits : payload ≤ 255

@@ -1,3 +1,4 @@
+-- The definitions of this crate, one file a subject.
 pub mod Unitdata
 pub mod Rewriting
 pub mod Next

@@ -9,11 +9,11 @@ use Rattle.plan_model.specs.declared.hop.Step.{Step}
 use Rattle.plan_model.specs.declared.hop.Step.TheVariants as steps
 use Rattle.sccp_scrc.specs.Unitdata.{redirected}
 
--- one less; a hop counter above 15 counts as 15 (profile)
+-- the hop counter after a translation: one less; a counter above 15 counts as 15 (profile)
 abbrev pub one_less : ℕ → ℕ
 one_less hops = (if nat_le hops 15 then hops else 15) - 1
 
--- the SSN behind a step: one that is absent counts as 0, and stays absent where no target names one (profile)
+-- the SSN after a step: one that is absent counts as 0, and stays absent if no target names one (profile)
 abbrev pub ssn_after : Option ℕ → ℕ → Option ℕ
 ssn_after old ssn = if is_none old && (ssn == 0) then None else Some ssn
 
@@ -29,7 +29,7 @@ to_relay a next = rerouted a false (ssn_after a.ssn next.ssn) (Global next.selec
 abbrev pub to_place : Address → ℕ → Address
 to_place a ssn = rerouted a true (Some ssn) a.title
 
--- the called address behind a step
+-- the called address after a step
 abbrev pub address_after : Address → Step → Address
 address_after a (steps.Sent next target) = to_relay a next
 address_after a (steps.Ended pc ssn target) = to_place a ssn
@@ -37,7 +37,7 @@ address_after a (steps.Blocked cause marks) = a
 address_after a (steps.NoRow cause) = a
 address_after a steps.Overgrown = a
 
--- all else is kept
+-- the message after a step: all but its called address and hop counter is kept
 abbrev pub rewritten : Address → Step → Message → Message
 rewritten a step m = redirected (address_after a step) one_less m
 

@@ -4,7 +4,8 @@ use Rattle.sccp_address.specs.declared.address.Address.{Address}
 use Rattle.sccp_message.specs.declared.message.Message.{Message}
 use Rattle.sccp_scrc.specs.Unitdata.{redirected}
 
--- Another message of the same type, with the same class or cause, calling address, data and optional parameters. The called address and the hop counter are its own.
+-- Another message of the same type, with the same class or cause, calling address, data and optional parameters. Its called
+-- address and its hop counter may differ.
 pub record SameData (old new : Message) : Type 0 where
   pub called : Address
   pub hops : ℕ

@@ -1,4 +1,4 @@
--- The fields of connectionless messages (ITU-T Q.713 sections 4.10 to 4.14 and 4.18 to 4.20). The other types have none of them.
+-- Connectionless messages with another called address (ITU-T Q.713 section 4), and whether a message can be written.
 use Rattle.std.specs.Prelude.{ℕ, ◌≤◌, List, length, Option, Some, None, is_none, if◌then◌else◌}
 use Rattle.std.specs.Option.{option_map_or}
 use Rattle.sccp_address.specs.declared.address.Address.{Address}
@@ -10,24 +10,7 @@ use Rattle.sccp_message.specs.declared.message.Message.{Message}
 use Rattle.sccp_message.specs.declared.message.Message.TheVariants.{Udt, Udts, Xudt, Xudts, Ludt, Ludts}
 use Rattle.sccp_message.specs.Written.{content, message_octets, parts_from, Writable}
 
-abbrev pub called_of : Message → Option Address
-called_of (Udt class called calling payload) = Some called
-called_of (Udts cause called calling payload) = Some called
-called_of (Xudt class hops called calling payload params) = Some called
-called_of (Xudts cause hops called calling payload params) = Some called
-called_of (Ludt class hops called calling payload params) = Some called
-called_of (Ludts cause hops called calling payload params) = Some called
-called_of m = None
-
--- the hop counter (3.18), which UDT and UDTS haven't
-abbrev pub hops_of : Message → Option ℕ
-hops_of (Xudt class hops called calling payload params) = Some hops
-hops_of (Xudts cause hops called calling payload params) = Some hops
-hops_of (Ludt class hops called calling payload params) = Some hops
-hops_of (Ludts cause hops called calling payload params) = Some hops
-hops_of m = None
-
--- the message with another called address, and its hop counter, where it has one, changed
+-- the message with another called address and, if it has a hop counter, that counter changed
 abbrev pub redirected : Address → (ℕ → ℕ) → Message → Message
 redirected a count (Udt class called calling payload) = Udt class a calling payload
 redirected a count (Udts cause called calling payload) = Udts cause a calling payload
@@ -37,14 +20,14 @@ redirected a count (Ludt class hops called calling payload params) = Ludt class 
 redirected a count (Ludts cause hops called calling payload params) = Ludts cause (count hops) a calling payload params
 redirected a count m = m
 
--- why a message can't be written
+-- why a message cannot be written
 abbrev pub write_fault : Message → Option JoinFault
 write_fault m = option_map_or (λ r. join_fault r.layout (parts_from m)) (row (content m).code) None
 
--- the octets, where the message can be written
+-- the octets, if the message can be written
 abbrev pub octets_of : Message → Option (List ℕ)
 octets_of m = if is_none (write_fault m) then Some (message_octets m) else None
 
--- it can be written with any called address of at most 21 octets, which is what a title of 32 digits takes
+-- it can be written with any called address of at most 21 octets, the most that an address with a title of 32 digits takes
 abbrev pub Room : Message → Type 0
 Room m = (a : Address) → length (written a) ≤ 21 → Writable (redirected a (λ hops. hops) m)

@@ -1,3 +1,4 @@
+//! The outcomes of an arrival at a relay.
 use crate::service::Service;
 use sccp_base::{List, Mark, Octets, PointCode};
 use sccp_message::{DecodeFault, Message};
@@ -21,9 +22,9 @@ pub enum Arrival {
         ssn: u8,
         message: Message,
     },
-    /// It can't be delivered. The cause is a return cause: 0 no translation for an address of such nature, 1 no translation
-    /// for this address, 3 subsystem failure, 4 unequipped user, 5 MTP failure, 9 error in local processing, 11 SCCP failure,
-    /// 12 hop counter violation. There is one mark for each target that is closed.
+    /// It cannot be delivered. The cause is a return cause: 0 no translation for an address of such nature, 1 no translation
+    /// for this address, 3 subsystem failure, 4 unequipped user, 5 MTP failure, 9 error in local processing, 11 SCCP
+    /// failure, 12 hop counter violation. There is one mark for each target that is closed.
     Returned {
         cause: u8,
         marks: List<Mark>,
@@ -33,6 +34,6 @@ pub enum Arrival {
     Connection(Message),
     /// It is for SCCP management, subsystem number 1.
     Management(Message),
-    /// The octets are no message.
+    /// The octets are not a message.
     Undecodable(DecodeFault),
 }

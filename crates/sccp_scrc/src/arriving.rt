@@ -1,17 +1,17 @@
+//! What becomes of a message that arrives at a relay.
 ghost use Rattle.std.specs.Prelude.{◌≡◌, ◌<◌, ◌==◌, ℕ, List, Option, length, IfOk, IfNone, IsSome, Some, false, [], ◌∷◌, option_map};
 ghost use Rattle.std.specs.List.{list_any};
 ghost use Rattle.sccp_address.specs.declared.address.Address.{Address};
 ghost use Rattle.sccp_base.specs.declared.mark.Mark.{Mark};
 ghost use Rattle.sccp_message.specs.declared.message.Message.{Message};
+ghost use Rattle.sccp_message.specs.Unitdata.{called_of};
 ghost use Rattle.plan_model.specs.Routes.{StaysIn};
 ghost use Rattle.sccp_scrc.specs.declared.service.Service.{Service};
-ghost use Rattle.sccp_scrc.specs.Unitdata.{called_of};
 ghost use Rattle.sccp_scrc.specs.Next.{onward_address, next_place};
-ghost use Rattle.sccp_scrc.specs.Arriving.{by_called, point_of, subsystems_of, at_subsystem, after_step, at_title, is_last_hop, arrival};
+ghost use Rattle.sccp_scrc.specs.Arriving.{by_called, subsystems_of, at_subsystem, after_step, at_title, is_last_hop, arrival};
 ghost use Rattle.sccp_scrc.specs.Outcomes.{IsRelayed, IsEnded, IsLocal, IsReturned};
 
 use crate::arrival::Arrival;
-use crate::fields::{called, hops};
 use crate::leaving::{place, relay};
 use crate::returning::returned;
 use crate::rewriting::{address_after, spot_in};
@@ -21,13 +21,7 @@ use sccp_base::{List, Mark, Marking, OutOfMemory, PointCode};
 use sccp_message::{DecodeFault, Message, decode};
 use std::alloc::Global;
 
-pub(crate) fn own_point(plan: &Plan, node: u8) -> PointCode
-    requires { node < length plan.now.nodes }
-    ensures { result ≡ point_of plan.now node }
-{
-    plan.nodes().as_slice()[usize::from(node)].pc
-}
-
+/// Whether a subsystem is one of the node's.
 fn is_own(plan: &Plan, node: u8, ssn: u8) -> bool
     requires { node < length plan.now.nodes }
     ensures { result ≡ list_any (λ own. own == ssn) (subsystems_of plan.now node) }
@@ -43,7 +37,7 @@ fn one_mark(alloc: Global, mark: Mark) -> Result<List<Mark>, OutOfMemory>
     Ok(marks)
 }
 
-/// Routed on SSN.
+/// What becomes of a message that is routed on its subsystem number.
 fn at_subsystem(
     alloc: Global,
     plan: &Plan,
@@ -65,7 +59,7 @@ fn at_subsystem(
     if !is_own(plan, node, ssn) {
         return returned(alloc, marking, origin, message, 4, List::new(alloc));
     }
-    let own = own_point(plan, node);
+    let own = plan.point_of(node);
     if marking.holds(Mark::Subsystem(own, ssn)) {
         return match one_mark(alloc, Mark::Subsystem(own, ssn)) {
             Ok(marks) => returned(alloc, marking, origin, message, 3, marks),
@@ -99,7 +93,7 @@ fn after(
         Step::Sent { next, .. } => match to {
             Some(to) => relay(
                 alloc,
-                own_point(plan, next.node),
+                plan.point_of(next.node),
                 marking,
                 origin,
                 message,
@@ -110,7 +104,7 @@ fn after(
         Step::Ended { pc, ssn, .. } => match to {
             Some(to) => place(
                 alloc,
-                own_point(plan, node),
+                plan.point_of(node),
                 pc,
                 ssn,
                 marking,
@@ -136,7 +130,7 @@ pub(crate) fn is_last_hop(hops: Option<u8>) -> bool
     }
 }
 
-/// Routed on title: first the hop counter is tested.
+/// What becomes of a message that is routed on its global title: first the hop counter is tested.
 fn at_title(
     alloc: Global,
     plan: &Plan,
@@ -149,7 +143,7 @@ fn at_title(
     requires called { IsSome (called_of message) }
     ensures { (address : Address) → called_of message ≡ Some address → IfOk result (λ a. a ≡ at_title plan.now node marking.now origin message address) }
 {
-    if is_last_hop(hops(&message)) {
+    if is_last_hop(message.hops()) {
         return returned(alloc, marking, origin, message, 12, List::new(alloc));
     }
     match spot_in(node, &message) {
@@ -169,18 +163,18 @@ fn at_title(
     }
 }
 
-/// How a message is routed: on SSN or not, and its SSN. A connection-oriented one isn't routed by its called address.
+/// How a message is routed: whether on SSN, and its SSN. `None` for a connection-oriented one, which has no called address.
 pub(crate) fn routing(message: &Message) -> Option<(bool, Option<u8>)>
     ensures { result ≡ option_map (λ a. (a.by_ssn, a.ssn)) (called_of message.now) }
 {
-    match called(message) {
+    match message.called() {
         Some(address) => Some((address.by_ssn, address.ssn)),
         None => None,
     }
 }
 
-/// What becomes of a message that comes from the point `origin` to the node at this place of the plan, which holds the
-/// marking: what becomes of its octets (`arrive`).
+/// What becomes of a message that arrives from the point `origin` (Q.714 section 2). It arrives at the node at this place of
+/// the plan, which holds the marking. `arrive` gives the same for its octets. The error is want of memory.
 pub fn arrive_message(
     alloc: Global,
     plan: &Plan,
@@ -223,8 +217,8 @@ fn of_octets(
     }
 }
 
-/// What becomes of octets that arrive from the point `origin` at the node at this place of the plan, which holds the
-/// marking (Q.714 section 2).
+/// What becomes of octets that arrive from the point `origin` (Q.714 section 2). They arrive at the node at this place of
+/// the plan, which holds the marking. The error is want of memory.
 pub fn arrive(
     alloc: Global,
     plan: &Plan,
@@ -237,14 +231,14 @@ pub fn arrive(
     ensures exact { IfOk result (λ a. a ≡ arrival plan.now node marking.now origin octets.now) }
     // A relayed message goes to another relay of the plan, with nothing changed but its called address and hop counter.
     ensures relayed { IfOk result (λ a. (pc : ℕ) (sent : List ℕ) → a ≡ Arrival.Relayed pc sent → IsRelayed plan.now node octets.now pc sent) }
-    // One with a destination goes to a point of which no mark is held, likewise.
+    // One with a destination goes to a point of which no mark is held; again nothing else is changed.
     ensures ended { IfOk result (λ a. (pc ssn : ℕ) (sent : List ℕ) → a ≡ Arrival.Ended pc ssn sent → IsEnded plan.now node marking.now octets.now pc ssn sent) }
-    // One for the node itself is for one of its subsystems that isn't prohibited.
+    // One for the node itself is for one of its subsystems that is not prohibited.
     ensures local { IfOk result (λ a. (ssn : ℕ) (new : Message) → a ≡ Arrival.Local ssn new → IsLocal plan.now node marking.now octets.now ssn new) }
     // A return names marks that are held, and its cause is that of the last one.
     ensures names { IfOk result (λ a. (cause : ℕ) (marks : List Mark) (service : Option Service) → a ≡ Arrival.Returned cause marks service → IsReturned marking.now cause marks) }
 {
-    // That the plan is one is known from this call alone.
+    // The call ensures that the plan is sound, which the clauses need.
     let _nodes = plan.nodes();
     of_octets(alloc, plan, node, marking, origin, octets)
 }

@@ -1,40 +1,14 @@
-//! The called address and the hop counter of connectionless messages, and their change.
+//! The change of the called address and the hop counter of connectionless messages.
 ghost use Rattle.std.specs.Prelude.{◌≡◌};
-ghost use Rattle.std.specs.Option.{option_copied};
-ghost use Rattle.sccp_scrc.specs.Unitdata.{called_of, hops_of, redirected};
+ghost use Rattle.sccp_message.specs.Unitdata.{called_of};
+ghost use Rattle.sccp_scrc.specs.Unitdata.{redirected};
 
 use sccp_address::Address;
 use sccp_message::Message;
 use std::mem;
 
-pub(crate) fn called(message: &Message) -> Option<&Address>
-    ensures { option_copied result ≡ called_of message.now }
-{
-    match message {
-        Message::Udt { called, .. }
-        | Message::Udts { called, .. }
-        | Message::Xudt { called, .. }
-        | Message::Xudts { called, .. }
-        | Message::Ludt { called, .. }
-        | Message::Ludts { called, .. } => Some(called),
-        _ => None,
-    }
-}
-
-pub(crate) fn hops(message: &Message) -> Option<u8>
-    ensures { result ≡ hops_of message.now }
-{
-    match message {
-        Message::Xudt { hops, .. }
-        | Message::Xudts { hops, .. }
-        | Message::Ludt { hops, .. }
-        | Message::Ludts { hops, .. } => Some(*hops),
-        _ => None,
-    }
-}
-
-// The message of each type that has a called address with another one, behind the fields that stay: a line for each type
-// with what stands first in its fixed part, those with a hop counter last.
+// Gives a message of each type that has a called address another one; its other fields stay. The call has a line for each
+// group of types, each with the name of its first field. The types with a hop counter are in the last one.
 macro_rules! by_type {
     ($message:expr, $called:expr, $hops:expr; $($plain:ident $first:ident)*; $($counted:ident $front:ident)*) => {
         match $message {
@@ -51,7 +25,7 @@ macro_rules! by_type {
     };
 }
 
-/// The message with another called address and, where it has one, another hop counter; and the called address that it had.
+/// The message with another called address and, if it has a hop counter, another one; and the called address that it had.
 pub(crate) fn redirect(message: Message, called: Address, hops: u8) -> (Message, Option<Address>)
     ensures changed { result.0 ≡ redirected called (λ n. hops) message }
     ensures old { result.1 ≡ called_of message }

@@ -1,12 +1,12 @@
-//! Messages that leave a node: their octets, and the return of what can't be written.
+//! Messages that leave a node: their octets, and the return of those that cannot be written.
 ghost use Rattle.std.specs.Prelude.{◌≡◌, ◌==◌, if◌then◌else◌, IfOk, IsSome};
 ghost use Rattle.sccp_scrc.specs.declared.arrival.Arrival.TheVariants.{Relayed, Ended, Local};
-ghost use Rattle.sccp_scrc.specs.Unitdata.{called_of, redirected, octets_of};
+ghost use Rattle.sccp_message.specs.Unitdata.{called_of};
+ghost use Rattle.sccp_scrc.specs.Unitdata.{redirected, octets_of};
 ghost use Rattle.sccp_scrc.specs.Rewriting.{one_less};
 ghost use Rattle.sccp_scrc.specs.Arriving.{leaving};
 
 use crate::arrival::Arrival;
-use crate::fields::hops;
 use crate::returning::returned;
 use crate::rewriting::{restore, rewrite};
 use sccp_address::Address;
@@ -14,7 +14,7 @@ use sccp_base::{List, Marking, Octets, OutOfMemory, PointCode};
 use sccp_message::{EncodeFault, Message, encode};
 use std::alloc::Global;
 
-/// The octets of a message, where it can be written.
+/// The octets of a message, if it can be written.
 #[tactic(auto, using(crate::proofs::Redirected::octets_written))]
 pub(crate) fn octets_of(alloc: Global, message: &Message) -> Result<Option<Octets>, OutOfMemory>
     ensures { IfOk result (λ octets. octets ≡ octets_of message.now) }
@@ -27,7 +27,7 @@ pub(crate) fn octets_of(alloc: Global, message: &Message) -> Result<Option<Octet
     }
 }
 
-/// On to a relay, where the message can be written.
+/// Sends a message on to a relay, if it can be written; otherwise it is returned for cause 9.
 pub(crate) fn relay(
     alloc: Global,
     pc: PointCode,
@@ -39,7 +39,7 @@ pub(crate) fn relay(
     requires called { IsSome (called_of message) }
     ensures { IfOk result (λ a. a ≡ leaving marking.now origin message (Relayed pc) (octets_of (redirected to one_less message))) }
 {
-    let before = hops(&message).unwrap_or(0);
+    let before = message.hops().unwrap_or(0);
     let (new, old) = rewrite(message, to);
     match octets_of(alloc, &new) {
         Ok(Some(octets)) => {
@@ -61,7 +61,7 @@ pub(crate) fn relay(
     }
 }
 
-/// To a destination at another point, where the message can be written.
+/// Sends a message to a destination at another point, if it can be written; otherwise it is returned for cause 9.
 fn depart(
     alloc: Global,
     pc: PointCode,
@@ -74,7 +74,7 @@ fn depart(
     requires called { IsSome (called_of message) }
     ensures { IfOk result (λ a. a ≡ leaving marking.now origin message (Ended pc ssn) (octets_of (redirected to one_less message))) }
 {
-    let before = hops(&message).unwrap_or(0);
+    let before = message.hops().unwrap_or(0);
     let (new, old) = rewrite(message, to);
     match octets_of(alloc, &new) {
         Ok(Some(octets)) => {
@@ -96,7 +96,7 @@ fn depart(
     }
 }
 
-/// To a destination, which is a subsystem of the node where the point is the node's own.
+/// Sends a message to a destination: to a subsystem of the node if the point is the node's own, otherwise to another point.
 pub(crate) fn place(
     alloc: Global,
     own: PointCode,

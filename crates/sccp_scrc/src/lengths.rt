@@ -1,4 +1,4 @@
-//! Whether a message can be written with another called address, by lengths alone.
+//! Whether a message can be written with another called address, as far as lengths show it.
 ghost use Rattle.std.specs.Prelude.{◌≡◌, ◌≤◌, ℕ, true, length};
 ghost use Rattle.sccp_address.specs.Written.{title_octets, written};
 ghost use Rattle.sccp_layout.specs.Joining.{are_short};
@@ -10,7 +10,7 @@ use sccp_address::{Address, Title};
 use sccp_layout::Param;
 use sccp_message::Message;
 
-/// No fewer octets than the title takes, where that is at most 255.
+/// At least as many octets as the title takes, unless the result is above 255.
 fn title_length(title: &Title) -> usize
     ensures most { result ≤ 256 }
     ensures enough { result ≤ 255 → length (title_octets title.now) ≤ result }
@@ -22,7 +22,8 @@ fn title_length(title: &Title) -> usize
     }
 }
 
-/// No fewer octets than the address takes, where that is at most 255: an indicator, a point code, a subsystem number and a title.
+/// At least as many octets as the address takes, unless the result is above 255. These are an indicator, a point code, a
+/// subsystem number and a title.
 fn address_length(address: &Address) -> usize
     ensures most { result ≤ 260 }
     ensures enough { result ≤ 255 → length (written address.now) ≤ result }
@@ -85,8 +86,8 @@ fn fits_long(called: usize, calling: usize, payload: usize, params: &[Param]) ->
     are_short(params)
 }
 
-/// Whether the message can be written with this called address for sure. Where this says no, only writing it tells; that is
-/// so close to the largest messages alone.
+/// Whether lengths show that the message can be written with this called address. If not, only writing it can show it; that
+/// happens only with messages close to the largest.
 pub(crate) fn fits(message: &Message, called: &Address) -> bool
     ensures { result ≡ true → (f : ℕ → ℕ) → Writable (redirected called.now f message.now) }
 {

@@ -1,10 +1,10 @@
-//! SCCP routing control: what a relay does with one message (ITU-T Q.714 section 2), and the return of what it can't
+//! SCCP routing control: what a relay does with one message (ITU-T Q.714 section 2), and the return of what it cannot
 //! deliver (section 4.2).
 //!
-//! `arrive` takes the octets that come from a signalling point to a node and tells what becomes of them: on to another
-//! relay, to a destination, to a subsystem of the node, or back with a return cause and, where the sender asked for it, a
-//! service message. The crates above may rely on this being the definition of an arrival, on a relayed message going to
-//! another relay of the plan, and on every mark that a return names being held.
+//! `arrive` takes the octets that arrive from a signalling point at a node, and gives what becomes of them. They go on to
+//! another relay, to a destination or to a subsystem of the node. Or they are returned with a return cause and, if the
+//! sender asked for it, a service message. The crates above may rely on this. The answer is the definition of an arrival, a
+//! relayed message goes to another relay of the plan, and the node holds every mark that a return names.
 #![tactic(auto)]
 
 mod arrival;

@@ -1,16 +1,16 @@
-//! A message on its way from relay to relay, which is changed in place and written only where it leaves them (Q.714 section 2).
+//! A message on its way from relay to relay. It is changed in place, and written only when it leaves them (Q.714 section 2).
 ghost use Rattle.std.specs.Prelude.{◌≡◌, ◌<◌, length, true, false, not, Some, None, IfOk};
 ghost use Rattle.std.specs.Option.{option_map_or};
 ghost use Rattle.sccp_address.specs.declared.address.Address.{Address};
 ghost use Rattle.sccp_message.specs.Written.{Writable};
+ghost use Rattle.sccp_message.specs.Unitdata.{called_of};
 ghost use Rattle.plan_model.specs.Routes.{StaysIn};
-ghost use Rattle.sccp_scrc.specs.Unitdata.{called_of, redirected, octets_of};
+ghost use Rattle.sccp_scrc.specs.Unitdata.{redirected, octets_of};
 ghost use Rattle.sccp_scrc.specs.Rewriting.{one_less};
 ghost use Rattle.sccp_scrc.specs.Arriving.{by_called, after_step, at_title};
 ghost use Rattle.sccp_scrc.specs.Passing.{sent_by, sent_from, sent_on, IsPassed};
 
-use crate::arriving::{is_last_hop, own_point};
-use crate::fields::{called, hops};
+use crate::arriving::is_last_hop;
 use crate::leaving::octets_of;
 use crate::lengths::fits;
 use crate::rewriting::{relay_address, restore_in_place, rewrite_in_place, spot_in};
@@ -20,7 +20,7 @@ use sccp_base::{Marking, OutOfMemory, PointCode};
 use sccp_message::Message;
 use std::alloc::Global;
 
-/// Whether the message can be written: it is.
+/// Whether the message can be written. It is written to find out.
 #[tactic(auto, using(crate::proofs::Staying::has_octets))]
 fn can_be_written(alloc: Global, message: &Message) -> Result<bool, OutOfMemory>
     ensures yes { IfOk result (λ can. can ≡ true → Writable message.now) }
@@ -32,13 +32,13 @@ fn can_be_written(alloc: Global, message: &Message) -> Result<bool, OutOfMemory>
     }
 }
 
-/// The message to another called address, its hop counter one less, where it can be written so; else it stays. It is written
-/// to tell.
+/// Gives the message another called address and a hop counter one less, if it can be written so; otherwise it stays. It is
+/// written to find out.
 fn pass_written(alloc: Global, message: &mut Message, to: Address) -> Result<bool, OutOfMemory>
     ensures passed { IfOk result (λ passed. passed ≡ true → (message.new ≡ redirected to one_less message.old) × Writable (redirected to one_less message.old)) }
     ensures kept { IfOk result (λ passed. passed ≡ false → (message.new ≡ message.old) × (octets_of (redirected to one_less message.old) ≡ None)) }
 {
-    let before = hops(message).unwrap_or(0);
+    let before = message.hops().unwrap_or(0);
     let old = rewrite_in_place(message, to);
     if can_be_written(alloc, message)? {
         return Ok(true);
@@ -47,7 +47,7 @@ fn pass_written(alloc: Global, message: &mut Message, to: Address) -> Result<boo
     Ok(false)
 }
 
-/// The same; of nearly all messages their lengths tell.
+/// The same, without writing if the lengths already show that the message can be written, as nearly always.
 fn pass_to(alloc: Global, message: &mut Message, to: Address) -> Result<bool, OutOfMemory>
     ensures passed { IfOk result (λ passed. passed ≡ true → (message.new ≡ redirected to one_less message.old) × Writable (redirected to one_less message.old)) }
     ensures kept { IfOk result (λ passed. passed ≡ false → (message.new ≡ message.old) × (octets_of (redirected to one_less message.old) ≡ None)) }
@@ -59,7 +59,7 @@ fn pass_to(alloc: Global, message: &mut Message, to: Address) -> Result<bool, Ou
     pass_written(alloc, message, to)
 }
 
-/// The point to which a step sends the message on.
+/// The point to which a step sends the message on, if it sends it on and the message can be written.
 #[tactic(auto, using(crate::proofs::Staying::place_stays))]
 fn pass_by_step(
     alloc: Global,
@@ -75,7 +75,7 @@ fn pass_by_step(
 {
     match step {
         Step::Sent { next, .. } => {
-            let pc = own_point(plan, next.node);
+            let pc = plan.point_of(next.node);
             match relay_address(message, *next) {
                 Some(to) => {
                     if pass_to(alloc, message, to)? {
@@ -91,7 +91,7 @@ fn pass_by_step(
     }
 }
 
-/// Routed on title: first the hop counter is tested.
+/// The point to which a message that is routed on title is sent on. First the hop counter is tested.
 fn pass_by_title(
     alloc: Global,
     plan: &Plan,
@@ -103,7 +103,7 @@ fn pass_by_title(
     ensures { (address : Address) → called_of message.old ≡ Some address →
         IfOk result (λ pc. IsPassed (λ origin. at_title plan.now node marking.now origin message.old address) (sent_from plan.now node marking.now message.old address) message.old message.new pc) }
 {
-    if is_last_hop(hops(message)) {
+    if is_last_hop(message.hops()) {
         return Ok(None);
     }
     match spot_in(node, message) {
@@ -119,15 +119,15 @@ fn pass_by_title(
 fn is_titled(message: &Message) -> bool
     ensures { result ≡ option_map_or (λ a. not a.by_ssn) (called_of message.now) false }
 {
-    match called(message) {
+    match message.called() {
         Some(address) => !address.by_ssn,
         None => false,
     }
 }
 
-/// The point code of the relay to which the node at this place of the plan, which holds the marking, sends a message on; the
-/// message is then the one that goes there, and can be written. There is none exactly where the message isn't relayed: then it
-/// stays, and `arrive_message` tells what becomes of it. (What a message is after want of memory isn't said.)
+/// Sends a message on from the node at this place of the plan, which holds the marking, and gives the point code of the next
+/// relay. The message is then the one that goes there, and can be written. `None` exactly if the message is not relayed:
+/// then it stays, and `arrive_message` gives what becomes of it. (After want of memory nothing is promised of the message.)
 #[tactic(auto, using(crate::proofs::Staying::subsystem_stays))]
 pub fn pass_on(
     alloc: Global,

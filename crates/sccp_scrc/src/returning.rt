@@ -1,12 +1,11 @@
-//! The return of messages that can't be delivered (Q.714 section 4.2).
+//! The return of messages that cannot be delivered (Q.714 section 4.2).
 ghost use Rattle.std.specs.Prelude.{◌≡◌, IfOk};
 ghost use Rattle.std.specs.Option.{option_map_or};
 ghost use Rattle.sccp_scrc.specs.declared.way.Way.TheVariants.{Direct};
-ghost use Rattle.sccp_scrc.specs.Unitdata.{called_of};
+ghost use Rattle.sccp_message.specs.Unitdata.{called_of};
 ghost use Rattle.sccp_scrc.specs.Returning.{way_to, way_back, asks_for_return, service_message, service_for, service_by, returned};
 
 use crate::arrival::Arrival;
-use crate::fields::called;
 use crate::leaving::octets_of;
 use crate::rewriting::spot;
 use crate::service::Service;
@@ -80,16 +79,17 @@ fn service_message(cause: u8, message: Message) -> Option<Message>
     }
 }
 
+/// The way of a service message, by its called address.
 fn way_of(marking: &Marking, origin: PointCode, message: &Message) -> Way
     ensures { result ≡ option_map_or (way_back marking.now origin) (called_of message.now) (Direct origin) }
 {
-    match called(message) {
+    match message.called() {
         Some(address) => way_back(marking, origin, address),
         None => Way::Direct(origin),
     }
 }
 
-/// The octets and the way of a service message, where it can be written.
+/// The octets and the way of a service message, if it can be written.
 fn service_by(
     alloc: Global,
     marking: &Marking,
@@ -105,7 +105,7 @@ fn service_by(
     }
 }
 
-/// The service message, where the sender asks for one and it can be written.
+/// The service message of a message, if the sender asks for one and it can be written.
 fn service_for(
     alloc: Global,
     marking: &Marking,
@@ -129,7 +129,7 @@ fn service_for(
     }
 }
 
-/// The message can't be delivered, for this cause; with the marks that close its targets.
+/// The message cannot be delivered, for this cause; the marks are those that close its targets.
 pub(crate) fn returned(
     alloc: Global,
     marking: &Marking,

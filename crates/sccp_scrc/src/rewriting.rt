@@ -2,23 +2,24 @@
 ghost use Rattle.std.specs.Prelude.{◌≡◌, ◌<◌, ℕ, length, IfSome, IsSome, Some, unwrap_or, option_map};
 ghost use Rattle.sccp_address.specs.declared.address.Address.{Address};
 ghost use Rattle.sccp_message.specs.declared.message.Message.{Message};
-ghost use Rattle.sccp_scrc.specs.Unitdata.{called_of, hops_of, redirected};
+ghost use Rattle.sccp_message.specs.Unitdata.{called_of, hops_of};
+ghost use Rattle.sccp_scrc.specs.Unitdata.{redirected};
 ghost use Rattle.sccp_scrc.specs.Rewriting.{one_less, ssn_after, rerouted, to_relay, to_place, spot_of};
 ghost use Rattle.sccp_scrc.specs.Next.{onward_address, new_address, spot_in};
 
-use crate::fields::{called, hops, redirect, redirect_in_place};
+use crate::fields::{redirect, redirect_in_place};
 use plan_model::{Spot, Step};
 use sccp_address::{Address, Title};
 use sccp_message::Message;
 
-/// A hop counter behind a translation: one less, a counter above 15 counting as 15, and 0 staying 0.
+/// The hop counter after a translation: one less. A counter above 15 counts as 15 (profile), and 0 stays 0.
 pub fn one_less(hops: u8) -> u8
     ensures { result ≡ one_less hops }
 {
     hops.min(15).saturating_sub(1)
 }
 
-/// The subsystem number behind a step, which stays absent where no target names one.
+/// The subsystem number after a step; an absent one stays absent if no target names one.
 fn ssn_after(old: Option<u8>, ssn: u8) -> Option<u8>
     ensures { result ≡ ssn_after old ssn }
 {
@@ -68,8 +69,8 @@ fn to_place(address: &Address, spot: &Spot, ssn: u8) -> Address
     rerouted(address, true, Some(ssn), title)
 }
 
-/// The called address that a message goes on with behind a step, made of the one that it came with; `None` where the step
-/// neither sends it on nor ends at a place. The spot is that of the address.
+/// The called address that a message goes on with after a step, made of its present one. `None` if the step neither sends it
+/// on nor ends at a place. The spot is that of the address.
 pub fn onward_address(address: &Address, spot: &Spot, step: &Step) -> Option<Address>
     requires { spot_of spot.now.node address.now ≡ Some spot.now }
     ensures { result ≡ onward_address step.now address.now }
@@ -81,12 +82,12 @@ pub fn onward_address(address: &Address, spot: &Spot, step: &Step) -> Option<Add
     }
 }
 
-/// The called address behind a step, where the message goes on.
+/// The called address of a message after a step, if the message goes on.
 pub(crate) fn address_after(message: &Message, spot: &Spot, step: &Step) -> Option<Address>
     requires { spot_in spot.now.node message.now ≡ Some spot.now }
     ensures { result ≡ new_address message.now step.now }
 {
-    let address = called(message)?;
+    let address = message.called()?;
     onward_address(address, spot, step)
 }
 
@@ -94,7 +95,7 @@ pub(crate) fn address_after(message: &Message, spot: &Spot, step: &Step) -> Opti
 pub(crate) fn relay_address(message: &Message, next: Spot) -> Option<Address>
     ensures { result ≡ option_map (λ a. to_relay a next) (called_of message.now) }
 {
-    match called(message) {
+    match message.called() {
         Some(address) => Some(to_relay(address, next)),
         None => None,
     }
@@ -105,7 +106,7 @@ pub(crate) fn rewrite(message: Message, called: Address) -> (Message, Option<Add
     ensures changed { result.0 ≡ redirected called one_less message }
     ensures old { result.1 ≡ called_of message }
 {
-    let before = hops(&message).unwrap_or(0);
+    let before = message.hops().unwrap_or(0);
     redirect(message, called, one_less(before))
 }
 
@@ -114,7 +115,7 @@ pub(crate) fn rewrite_in_place(message: &mut Message, called: Address) -> Option
     ensures changed { message.new ≡ redirected called one_less message.old }
     ensures old { result ≡ called_of message.old }
 {
-    let before = hops(message).unwrap_or(0);
+    let before = message.hops().unwrap_or(0);
     redirect_in_place(message, called, one_less(before))
 }
 
@@ -146,8 +147,8 @@ pub(crate) fn restore(message: Message, old: Option<Address>, before: u8) -> Mes
     }
 }
 
-/// The title of an address, at the node at this place of the plan; `None` without a title of digits. An absent subsystem
-/// number counts as 0.
+/// The spot of an address at the node at this place of the plan: its title and its subsystem number, 0 if that is absent.
+/// `None` for an address without a title of digits.
 pub fn spot(node: u8, address: &Address) -> Option<Spot>
     ensures value { result ≡ spot_of node address.now }
     ensures node { IfSome result (λ s. s.node ≡ node) }
@@ -168,7 +169,7 @@ pub(crate) fn spot_in(node: u8, message: &Message) -> Option<Spot>
     ensures value { result ≡ spot_in node message.now }
     ensures node { IfSome result (λ s. s.node ≡ node) }
 {
-    match called(message) {
+    match message.called() {
         Some(address) => spot(node, address),
         None => None,
     }

@@ -62,7 +62,7 @@ last_of_other (x ∷ l) s e =
     by_test true = refl
     by_test false = refl
 
--- the remaining number of the last segment, where the numbers fall by one at each
+-- the remaining number of the last segment, if the numbers fall by one at each
 abbrev pub falling : List Segment → Option ℕ
 falling [] = None
 falling (s ∷ []) = Some s.remaining
@@ -88,7 +88,7 @@ data_grown : (l : List Segment) (s : Segment) (n : ℕ) → falling l ≡ Some n
 data_grown [] s n e = absurd (cc)
 data_grown (x ∷ xs) s n e = flat_map-append (λ t. t.payload) (x ∷ xs) (s ∷ []) ∙ ap (λ (o : List ℕ). data_of (x ∷ xs) ++ o) (append-nil s.payload)
 
--- the whole message, by where its numbers have come
+-- the whole message, by the remaining number that its segments have reached
 abbrev whole_at : Option ℕ → List ℕ → Option (List ℕ)
 whole_at None octets = None
 whole_at (Some n) octets = if n == 0 then Some octets else None
@@ -113,9 +113,9 @@ whole_is l = ap (λ b. cond b (Some (data_of (last_message l))) None) (falls_is 
     by_number None = refl
     by_number (Some n) = refl
 
--- ---- how a key's run stands to what was heard of it
+-- ---- how a key's run agrees with what was heard of it
 
--- nothing is under way: no further segment is in step; or the run has what came of the last message
+-- nothing is under way: no further segment is in step; or the run has what arrived of the last message
 abbrev pub InStep : Option Run → List Segment → Type 0
 InStep None l = (falling (last_message l) ≡ None) ⊎ (falling (last_message l) ≡ Some 0)
 InStep (Some r) l = (falling (last_message l) ≡ Some r.remaining) × (1 ≤ r.remaining) × (r.payload ≡ data_of (last_message l))
@@ -193,7 +193,7 @@ starts runs key l s a f e other = record {
   tells = never a (whole (l ++ s ∷ [])) other (whole_begins l s false f e);
 }
 
--- another segment, where nothing is under way
+-- another segment, if nothing is under way
 goes_nowhere : (l : List Segment) (s : Segment) → s.first ≡ false → InStep None l → falling (last_message (l ++ s ∷ [])) ≡ None
 goes_nowhere l s f stands =
     ap falling (last_of_other l s f) ∙ falling_grown (last_message l) s
@@ -214,7 +214,7 @@ dropped runs key l s f none stands = record {
   tells = never (Ok (Dropped NotFirst)) (whole (l ++ s ∷ [])) no_dropped_first (whole_none (l ++ s ∷ []) (goes_nowhere l s f stands));
 }
 
--- another segment, where a run is under way
+-- another segment, if a run is under way
 goes : (l : List Segment) (s : Segment) (old : Run) (b : Bool) → s.first ≡ false → InStep (Some old) l → (s.remaining + 1 == old.remaining) ≡ b → falling (last_message (l ++ s ∷ [])) ≡ (if b then Some s.remaining else None)
 goes l s old b f stands e =
     ap falling (last_of_other l s f) ∙ falling_grown (last_message l) s ∙ ap (next_number s) stands.0 ∙ ap (λ t. cond t (Some s.remaining) None) e
@@ -264,7 +264,7 @@ next_step runs key l s (Some old) f u stands =
       | false ↦ λ e. out_of_step runs key l s old f stands e
     ] refl
 
--- a segment that isn't refused
+-- a segment that is not refused
 pub is_step : (runs : List Run) (key : Key) (l : List Segment) (s : Segment) → InStep (under_way runs key) l → is_err (took runs key s).answer ≡ false → IsStep key (l ++ s ∷ []) (took runs key s)
 is_step runs key l s stands accepted =
     elim s.first as (λ f. s.first ≡ f → is_err (cond f (first_taken runs key s) (next_taken runs key s (under_way runs key))).answer ≡ false → IsStep key (l ++ s ∷ []) (cond f (first_taken runs key s) (next_taken runs key s (under_way runs key)))) [

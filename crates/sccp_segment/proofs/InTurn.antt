@@ -16,7 +16,7 @@ use Rattle.sccp_segment.specs.Reassembly.{whole, pooled, heard, of_key, answers,
 use Rattle.sccp_segment.proofs.Cut.{cut_is_whole_behind}
 use Rattle.sccp_segment.proofs.Heard.{InStep, IsStep, is_step, all_in_step}
 
--- a segment that isn't a first one is never refused
+-- a segment that is not a first one is never refused
 next_accepted : (runs : List Run) (key : Key) (s : Segment) (o : Option Run) → is_err (next_taken runs key s o).answer ≡ false
 next_accepted runs key s None = refl
 next_accepted runs key s (Some old) =
@@ -48,7 +48,7 @@ refused_full runs key s =
       | false ↦ λ e. absurd (false≢true (sym (next_accepted runs key s (under_way runs key)) ∙ e))
     ]
 
--- the segments behind a first one, where what was heard and they end in a whole message
+-- the segments after a first one, if what was heard and they end in a whole message
 in_turn : (runs : List Run) (key : Key) (before : List Segment) (in_sequence : Bool) (reference : ℕ) (p : List ℕ) (ps : List (List ℕ)) (x : List ℕ) → InStep (under_way runs key) before → whole (before ++ segments false in_sequence reference (p ∷ ps)) ≡ Some x → last_or None (answers runs (of_key key (segments false in_sequence reference (p ∷ ps)))) ≡ Some (Ok (Whole x))
 in_turn runs key before in_sequence reference p [] x stands w =
     let s : Segment = record { first = false; in_sequence = in_sequence; remaining = 0; reference = reference; payload = p } in
@@ -58,7 +58,7 @@ in_turn runs key before in_sequence reference p (q ∷ ps) x stands w =
     let next : IsStep key (before ++ s ∷ []) (took runs key s) = is_step runs key before s stands (accepted runs key s refl) in
     in_turn (took runs key s).runs key (before ++ s ∷ []) in_sequence reference q ps x next.stands (ap whole (append_assoc before (s ∷ []) (segments false in_sequence reference (q ∷ ps))) ∙ w)
 
--- all segments, where the first one isn't refused
+-- all segments, if the first one is not refused
 from_first : (runs : List Run) (key : Key) (before : List Segment) (in_sequence : Bool) (reference : ℕ) (p : List ℕ) (ps : List (List ℕ)) (x : List ℕ) → InStep (under_way runs key) before → whole (before ++ segments true in_sequence reference (p ∷ ps)) ≡ Some x → is_err (took runs key (record { first = true; in_sequence = in_sequence; remaining = length ps; reference = reference; payload = p })).answer ≡ false → last_or None (answers runs (of_key key (segments true in_sequence reference (p ∷ ps)))) ≡ Some (Ok (Whole x))
 from_first runs key before in_sequence reference p [] x stands w taken =
     let s : Segment = record { first = true; in_sequence = in_sequence; remaining = 0; reference = reference; payload = p } in

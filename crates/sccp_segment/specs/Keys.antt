@@ -1,4 +1,5 @@
--- What tells messages that are under way apart (ITU-T Q.714 section 4.1): the calling address as a value, and the segmentation local reference.
+-- What distinguishes messages that are under way (ITU-T Q.714 section 4.1): the calling address as a value, and the
+-- segmentation local reference.
 use Rattle.std.specs.Prelude.{ℕ, ◌==◌, Bool, true, false, ◌&&◌, Option, Some, None}
 use Rattle.std.specs.Str.{bytes_eq}
 use Rattle.sccp_base.specs.Selector.{same_selector}
@@ -31,7 +32,7 @@ same_title (Global s digits) (Raw other others) = false
 same_title (Raw kind octets) Absent = false
 same_title (Raw kind octets) (Global t others) = false
 
--- two calling addresses are one, and two keys are
+-- two calling addresses are the same, and two keys are
 unfoldable pub same_address : Address → Address → Bool
 same_address a b = same_flag a.national b.national && same_flag a.by_ssn b.by_ssn && same_number a.pc b.pc && same_number a.ssn b.ssn && same_title a.title b.title
 

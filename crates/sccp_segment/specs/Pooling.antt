@@ -1,4 +1,5 @@
--- How messages are put together from their segments (ITU-T Q.714 section 4.1). Profile: 64 messages at most, and what is given up and told of segments out of step.
+-- How messages are put together from their segments (ITU-T Q.714 section 4.1). Profile: 64 messages at most, and what is
+-- given up and answered for segments out of step.
 use Rattle.std.specs.Prelude.{◌≡◌, ℕ, ◌+◌, ◌≤◌, ◌==◌, nat_le, Bool, true, false, not, if◌then◌else◌, List, [], ◌∷◌, ◌++◌, length, filter, find, Option, Some, None, Result, Ok, Err}
 use Rattle.std.specs.List.{list_any}
 use Rattle.sccp_base.specs.Answers.{Answers}
@@ -12,7 +13,8 @@ use Rattle.sccp_segment.specs.declared.pool_fault.PoolFault.{PoolFault}
 use Rattle.sccp_segment.specs.declared.pool_fault.PoolFault.TheVariants as faults
 use Rattle.sccp_segment.specs.Keys.{same_key}
 
--- A run is what has come of one message that is under way: its key, the remaining number of the segment that came last, and the data so far.
+-- A run is what has arrived of one message that is under way. It has its key, the remaining number of the last segment that
+-- arrived, and the data so far.
 abbrev pub is_of : Key → Run → Bool
 is_of key r = same_key r.key key
 
@@ -28,7 +30,7 @@ others runs key = filter (λ r. not (is_of key r)) runs
 abbrev pub run : Key → ℕ → List ℕ → Run
 run key remaining payload = record { key = key; remaining = remaining; payload = payload }
 
--- no two runs have one key, and there are 64 at most
+-- no two runs have the same key, and there are 64 at most
 abbrev pub KeysDiffer : List Run → Type 0
 KeysDiffer [] = Unit {0}
 KeysDiffer (r ∷ rs) = (list_any (is_of r.key) rs ≡ false) × KeysDiffer rs
@@ -45,7 +47,8 @@ pub record Outcome : Type 0 where
 abbrev pub answering : List Run → Result Taken PoolFault → Outcome
 answering runs answer = record { runs = runs; answer = answer }
 
--- a first segment with more to come: an older run of its key is given up; where there is none, 64 others leave no place
+-- A first segment that others follow. An older run of its key is given up; without one, the segment is refused if 64 others
+-- are under way.
 abbrev pub started : List Run → Key → Segment → Option Run → Outcome
 started runs key s None =
     if nat_le 64 (length runs)
@@ -53,18 +56,18 @@ started runs key s None =
     else answering (others runs key ++ run key s.remaining s.payload ∷ []) (Ok More)
 started runs key s (Some old) = answering (others runs key ++ run key s.remaining s.payload ∷ []) (Ok (Dropped Restarted))
 
--- a first segment: with none to come it is whole, and an older run of its key is ended
+-- a first segment: if none follows it is whole, and an older run of its key is ended
 abbrev pub first_taken : List Run → Key → Segment → Outcome
 first_taken runs key s = if s.remaining == 0 then answering (others runs key) (Ok (Whole s.payload)) else started runs key s (under_way runs key)
 
--- another segment, in step: it is put behind what came before, and the message is whole where none is to come
+-- another segment, in step: it is appended to what arrived before, and the message is whole if none follows
 abbrev pub appended : List Run → Key → Segment → Run → Outcome
 appended runs key s old =
     if s.remaining == 0
     then answering (others runs key) (Ok (Whole (old.payload ++ s.payload)))
     else answering (others runs key ++ run key s.remaining (old.payload ++ s.payload) ∷ []) (Ok More)
 
--- another segment: its remaining number is to be that of the segment before less one, else the run is ended
+-- another segment: its remaining number must be that of the segment before less one, otherwise the run is ended
 abbrev pub next_taken : List Run → Key → Segment → Option Run → Outcome
 next_taken runs key s None = answering runs (Ok (Dropped NotFirst))
 next_taken runs key s (Some old) =
@@ -74,7 +77,7 @@ next_taken runs key s (Some old) =
 abbrev pub took : List Run → Key → Segment → Outcome
 took runs key s = if s.first then first_taken runs key s else next_taken runs key s (under_way runs key)
 
--- want of memory is the one fault that may come at any time
+-- want of memory is the one fault that any call may give
 abbrev pub is_memory : PoolFault → Bool
 is_memory faults.OutOfMemory = true
 is_memory faults.Full = false

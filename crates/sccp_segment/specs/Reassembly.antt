@@ -15,7 +15,7 @@ use Rattle.sccp_segment.specs.Pooling.{took}
 abbrev pub is_first : Segment → Bool
 is_first s = s.first
 
--- the shortest ending of a list that begins with a first segment; nothing where there is no first segment
+-- the ending of a list that begins with its last first segment; nothing if there is no first segment
 abbrev pub last_message : List Segment → List Segment
 last_message [] = []
 last_message (s ∷ later) = if s.first && not (list_any is_first later) then s ∷ later else last_message later
@@ -30,7 +30,7 @@ falls_to_zero (s ∷ t ∷ later) = (t.remaining + 1 == s.remaining) && falls_to
 abbrev pub data_of : List Segment → List ℕ
 data_of l = flat_map (λ s. s.payload) l
 
--- the data of the message that a list of segments ends in, where all its segments have come in step
+-- the data of the message that a list of segments ends in, if all its segments arrived in step
 abbrev pub whole : List Segment → Option (List ℕ)
 whole l = if falls_to_zero (last_message l) then Some (data_of (last_message l)) else None
 
@@ -52,7 +52,7 @@ pooled runs (a ∷ rest) = pooled (runs_after runs a) rest
 abbrev pub is_refused : List Run → Arrival → Bool
 is_refused runs a = is_err (answer_to runs a)
 
--- a key's segments that weren't refused, of arrivals at these runs
+-- a key's segments that were not refused, of arrivals at these runs
 abbrev pub heard_from : List Run → Key → List Arrival → List Segment
 heard_from runs key [] = []
 heard_from runs key (a ∷ rest) =

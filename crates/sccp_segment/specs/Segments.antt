@@ -10,7 +10,9 @@ use Rattle.sccp_message.specs.Fields.{octet, param, reference_at, reference_octe
 use Rattle.sccp_segment.specs.declared.segment.Segment.{Segment}
 use Rattle.sccp_segment.specs.declared.arrival.Arrival.{Arrival}
 
--- Of the first octet, bit 8 says that it is the first segment, bit 7 that delivery in sequence was asked for (class 1), bits 5 and 6 are spare, and bits 1 to 4 are the number of the segments behind it. The segmentation local reference follows.
+-- Of the first octet, bit 8 says that it is the first segment, and bit 7 that delivery in sequence was asked for (class 1).
+-- Bits 5 and 6 are spare, and bits 1 to 4 are the number of the segments that follow it. Then follows the segmentation local
+-- reference.
 abbrev pub segment_of : List ℕ → List ℕ → Segment
 segment_of contents payload =
     record { first = bit (octet contents 0) 8; in_sequence = bit (octet contents 0) 7; remaining = bits (octet contents 0) 1 4; reference = reference_at contents 1; payload = payload }
@@ -24,7 +26,7 @@ abbrev pub arrival_by : Address → List ℕ → Option (List ℕ) → Option Ar
 arrival_by calling payload contents =
     option_map (λ c. record { key = record { calling = calling; reference = reference_at c 1 }; segment = segment_of c payload }) contents
 
--- the types that have the parameter
+-- the segment that a message is, by its type: the types that have the parameter
 abbrev pub arrival_of : Message → Option Arrival
 arrival_of (messages.Xudt class hops called calling payload params) = arrival_by calling payload (param params segmentation)
 arrival_of (messages.Xudts cause hops called calling payload params) = arrival_by calling payload (param params segmentation)

@@ -1,9 +1,9 @@
+//! The segments that messages are, each with the key of its message.
 ghost use Rattle.std.specs.Prelude.{◌≡◌, ◌+◌, ◌*◌, true, IfOk};
 ghost use Rattle.sccp_layout.specs.Table.{segmentation};
 ghost use Rattle.sccp_message.specs.Fields.{param, reads_if};
 ghost use Rattle.sccp_segment.specs.Segments.{arrival_by};
 
-use crate::copies::copied_address;
 use crate::key::Key;
 use crate::segment::Segment;
 use sccp_address::Address;
@@ -28,7 +28,7 @@ impl Arrival {
     ghost use Rattle.sccp_segment.specs.Segments.{arrival_of};
 
     /// The segment that a sound message is, by its calling address, its data and its segmentation parameter (Q.713 section
-    /// 3.17). `None` for a message without that parameter, and for one of a type that doesn't know it.
+    /// 3.17). `None` for a message without that parameter, and for a message of a type that does not have it.
     pub fn of(message: Message) -> Option<Arrival>
         requires { Sound message }
         ensures { result ≡ arrival_of message }
@@ -65,7 +65,7 @@ impl Arrival {
         }
     }
 
-    /// The same of a message that stays with its owner: calling address and data are copied, where it is a segment.
+    /// The same of a message that stays with its owner: if it is a segment, its calling address and its data are copied.
     pub fn copied(alloc: Global, message: &Message) -> Result<Option<Arrival>, OutOfMemory>
         requires { Sound message.now }
         ensures { IfOk result (λ arrival. arrival ≡ arrival_of message.now) }
@@ -113,7 +113,7 @@ fn copied_by(
     if param(params, SEGMENTATION).is_none() {
         return Ok(None);
     }
-    let calling = copied_address(alloc, calling)?;
+    let calling = calling.try_clone(alloc)?;
     let payload = payload.try_clone(alloc)?;
     Ok(by(calling, payload, params))
 }

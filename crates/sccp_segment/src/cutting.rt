@@ -1,3 +1,4 @@
+//! Cutting the data of a message into segments.
 ghost use Rattle.std.specs.Prelude.{◌≡◌, ◌≤◌, ◌<◌, ◌*◌, true, length, IfOk, All};
 ghost use Rattle.sccp_segment.specs.Cutting.{Gives, piece, piece_count, pieces, segments, split_data_of};
 
@@ -15,7 +16,7 @@ fn piece(alloc: Global, payload: &[u8], size: usize, i: usize) -> Result<Octets,
     Ok(Octets::from_vec(Vec::from_slice(alloc, &rest[..size.min(rest.len())])?))
 }
 
-// The segments of the pieces, so many.
+// The segments of the pieces, `count` of them.
 fn segments(
     alloc: Global,
     payload: &[u8],
@@ -43,11 +44,11 @@ fn segments(
     Ok(list)
 }
 
-/// Cuts data into segments (Q.714 section 4.1) of `size` octets each, the last one shorter where need be; no data is one
-/// segment without octets. All have the reference and the wish for delivery in sequence; the first one says that it is,
-/// and each says how many are behind it.
+/// Cuts data into segments (Q.714 section 4.1) of `size` octets each, the last one shorter if need be; no data is one
+/// segment without octets. All have the reference and the wish for delivery in sequence. The first one says that it is the
+/// first, and each says how many follow it.
 ///
-/// `ZeroSize` where the size is 0, else `TooMany` where there would be more than 16 segments.
+/// `ZeroSize` if the size is 0, or else `TooMany` if there would be more than 16 segments.
 pub fn split_data(
     alloc: Global,
     payload: &[u8],

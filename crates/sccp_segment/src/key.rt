@@ -1,18 +1,19 @@
+//! The keys by which a pool knows which segments belong together.
 ghost use Rattle.std.specs.Prelude.{◌≡◌};
 ghost use Rattle.sccp_segment.specs.Keys.{same_address, same_flag, same_key, same_number, same_title};
 
 use sccp_address::{Address, Title};
 use sccp_base::{PointCode, Reference};
 
-/// What the segments of one message have in common, and no others that are under way (Q.714 section 4.1): the calling
-/// address, compared as a value, and the segmentation local reference.
+/// What the segments of one message have in common, and share with no other message under way (Q.714 section 4.1). It is the
+/// calling address, compared as a value, and the segmentation local reference.
 #[derive(Drop)]
 pub struct Key {
     pub calling: Address,
     pub reference: Reference,
 }
 
-// Whether two addresses have one point code, or none.
+// Whether two addresses have the same point code, or none.
 fn same_point(a: &Option<PointCode>, b: &Option<PointCode>) -> bool
     ensures { result ≡ same_number a.now b.now }
 {
@@ -23,7 +24,7 @@ fn same_point(a: &Option<PointCode>, b: &Option<PointCode>) -> bool
     }
 }
 
-// Whether they have one subsystem number, or none.
+// Whether they have the same subsystem number, or none.
 fn same_ssn(a: &Option<u8>, b: &Option<u8>) -> bool
     ensures { result ≡ same_number a.now b.now }
 {
@@ -34,7 +35,7 @@ fn same_ssn(a: &Option<u8>, b: &Option<u8>) -> bool
     }
 }
 
-// Whether two global titles are one.
+// Whether two global titles are the same.
 fn same_title(a: &Title, b: &Title) -> bool
     ensures { result ≡ same_title a.now b.now }
 {
@@ -58,7 +59,7 @@ fn same_title(a: &Title, b: &Title) -> bool
     }
 }
 
-// Whether two addresses are one.
+// Whether two addresses are the same.
 #[tactic(auto, unfolding(crate::specs::Keys::same_address))]
 fn same_address(a: &Address, b: &Address) -> bool
     ensures { result ≡ same_address a.now b.now }
@@ -70,7 +71,7 @@ fn same_address(a: &Address, b: &Address) -> bool
         && same_title(&a.title, &b.title)
 }
 
-// Whether two keys are one.
+/// Whether two keys are the same.
 #[tactic(auto, unfolding(crate::specs::Keys::same_key))]
 pub fn same_key(a: &Key, b: &Key) -> bool
     ensures { result ≡ same_key a.now b.now }

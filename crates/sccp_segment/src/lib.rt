@@ -1,13 +1,12 @@
 //! Segmentation and reassembly of connectionless messages (Q.714 section 4.1, Q.713 section 3.17).
 //!
 //! `split_data` cuts data into segments, and a `Pool` puts the segments of up to 64 messages together, whatever other
-//! segments come between them. The layer above may rely on this: the data of the segments is the data that was cut; a
-//! pool answers a whole message exactly where the segments of its key, from the last first one on, came in step, and by
-//! their data; and a segment changes nothing for the messages of other keys.
+//! segments arrive between them. The layer above may rely on this. The data of the segments is the data that was cut. A pool
+//! answers a whole message exactly if the segments of its key, from the last first one on, arrived in step. The answer has
+//! their data. A segment changes nothing for the messages of other keys.
 #![tactic(auto)]
 
 mod arrival;
-mod copies;
 mod cutting;
 mod key;
 mod laws;
@@ -20,7 +19,6 @@ mod taken;
 mod taking;
 
 pub use arrival::Arrival;
-pub use copies::copied_address;
 pub use cutting::split_data;
 pub use key::Key;
 pub use laws::{keys_are_values, pieces_are_whole, pieces_come_whole, whole_messages};

@@ -1,3 +1,4 @@
+//! The pool that puts messages together from their segments.
 ghost use Rattle.std.specs.Prelude.{◌≡◌, [], false, length, OnOk, OnErr};
 ghost use Rattle.sccp_segment.specs.declared.key.Key.{Key};
 ghost use Rattle.sccp_segment.specs.Keys.{same_key};
@@ -12,8 +13,8 @@ use crate::taking::step;
 use std::alloc::Global;
 use std::marker::Model;
 
-/// The messages that are being put together from their segments (Q.714 section 4.1), 64 at most. Contracts see it as the
-/// list of what has come of each.
+/// The messages that are being put together from their segments (Q.714 section 4.1), 64 at most. Contracts see the pool as
+/// the list of what has arrived of each.
 #[derive(Drop)]
 pub struct Pool {
     alloc: Global,
@@ -34,7 +35,7 @@ impl Model for Pool {
 }
 
 impl Pool {
-    /// No message is under way. It takes no memory, and keeps the allocator for what it takes later.
+    /// A pool with no message under way. It takes no memory, and keeps the allocator for what it takes later.
     pub fn new(alloc: Global) -> Self
         ensures { result ≡ [] }
     {
@@ -44,7 +45,7 @@ impl Pool {
         }
     }
 
-    /// How many messages are under way, 64 at most.
+    /// The number of messages that are under way, 64 at most.
     pub fn len(&self) -> usize
         ensures count { result ≡ length self.now }
         ensures kept { IsPool self.now }
@@ -54,11 +55,11 @@ impl Pool {
 
     /// Takes a segment (Q.714 section 4.1).
     ///
-    /// A first segment with none behind it is a whole message, and ends what was under way of its key. A first segment
-    /// with more behind it starts its key; what was under way of it is given up (`Restarted`). `Full` where its key isn't
-    /// under way and 64 others are. Another segment is dropped where its key isn't under way (`NotFirst`), ends its key
-    /// where its remaining number isn't the last one less one (`OutOfStep`), and is appended otherwise. After a fault the
-    /// pool is as it was; the segment is given up.
+    /// A first segment that none follows is a whole message, and ends what was under way of its key. A first segment that
+    /// others follow starts its key; what was under way of it is given up (`Restarted`). It is refused (`Full`) if its key
+    /// is not under way and 64 others are. Another segment is dropped if its key is not under way (`NotFirst`). It ends its
+    /// key if its remaining number is not the last one less one (`OutOfStep`), and is appended otherwise. After a fault the
+    /// pool is as it was, and the segment is given up.
     pub fn take(&mut self, key: Key, segment: Segment) -> Result<Taken, PoolFault>
         ensures answer { Gives (λ taken. taken) result (took self.old key segment).answer }
         ensures ok { OnOk result (self.new ≡ (took self.old key segment).runs) }

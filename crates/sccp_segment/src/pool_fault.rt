@@ -1,3 +1,4 @@
+//! The faults of a pool.
 ghost use Rattle.std.specs.Prelude.{◌≡◌};
 ghost use Rattle.sccp_segment.specs.declared.pool_fault.PoolFault.TheVariants as faults;
 

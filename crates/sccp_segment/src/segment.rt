@@ -1,3 +1,4 @@
+//! The segments of a message.
 use sccp_base::{Octets, Reference};
 
 /// A segment of the data of a connectionless message (Q.713 section 3.17, Q.714 section 4.1).
@@ -7,7 +8,7 @@ pub struct Segment {
     pub first: bool,
     /// Whether the message is to be delivered in sequence, as class 1 is.
     pub in_sequence: bool,
-    /// How many segments are behind it, up to 15.
+    /// The number of segments that follow it, up to 15.
     pub remaining: u8,
     /// The segmentation local reference, which the segments of one message have in common.
     pub reference: Reference,

@@ -1,10 +1,11 @@
+//! The faults of cutting.
 ghost use Rattle.std.specs.Prelude.{◌≡◌};
 ghost use Rattle.sccp_segment.specs.declared.split_data_fault.SplitDataFault.TheVariants as faults;
 
 use sccp_base::OutOfMemory;
 use std::alloc::{AllocError, AllocFailed};
 
-/// Why data isn't cut into segments: the first of these that holds.
+/// Why data is not cut into segments: the first of these that holds.
 #[derive(Clone, Copy, Debug)]
 pub enum SplitDataFault {
     /// Segments of 0 octets.

@@ -12,10 +12,10 @@ use crate::taken::{Taken, Why};
 use sccp_base::{Octets, OutOfMemory};
 use std::alloc::Global;
 
-// So many messages may be under way.
+// The number of messages that may be under way.
 const LIMIT: usize = 64;
 
-// Where the run of a key is.
+// The place of the run of a key.
 fn place_of(runs: &[Run], key: &Key) -> Option<usize>
     ensures { result ≡ position (is_of key.now) runs.now }
 {
@@ -29,7 +29,7 @@ fn found<'a>(runs: &'a [Run], key: &Key) -> Option<&'a Run>
     runs.iter().find(|run| same_key(&run.key, key))
 }
 
-// Ends the run of a key.
+// Ends the run of a key, if there is one.
 fn end(runs: &mut Vec<Run>, key: &Key)
     requires { KeysDiffer runs.old.items }
     ensures { runs.new.items ≡ others runs.old.items key.now }
@@ -39,8 +39,8 @@ fn end(runs: &mut Vec<Run>, key: &Key)
     }
 }
 
-// A run in place of that of its key, behind all others. It is put in before the older one is taken out, so want of
-// memory leaves the runs as they were.
+// Puts a run after all others, in place of the older run of its key. It is put in before the older one is taken out, so want
+// of memory leaves the runs as they were.
 fn put(runs: &mut Vec<Run>, run: Run) -> Result<(), PoolFault>
     requires { KeysDiffer runs.old.items }
     ensures ok { OnOk result (runs.new.items ≡ others runs.old.items run.key ++ run ∷ []) }
@@ -55,7 +55,7 @@ fn put(runs: &mut Vec<Run>, run: Run) -> Result<(), PoolFault>
     Ok(())
 }
 
-// Octets behind others.
+// The second octets after the first, in memory of their own.
 fn joined(alloc: Global, front: &[u8], back: &[u8]) -> Result<Octets, OutOfMemory>
     ensures { IfOk result (λ octets. octets ≡ front.now ++ back.now) }
 {
@@ -64,7 +64,7 @@ fn joined(alloc: Global, front: &[u8], back: &[u8]) -> Result<Octets, OutOfMemor
     Ok(Octets::from_vec(octets))
 }
 
-// A first segment of a message.
+// Takes a first segment of a message.
 fn begin(runs: &mut Vec<Run>, key: Key, segment: Segment) -> Result<Taken, PoolFault>
     requires { IsPool runs.old.items }
     ensures answer { Gives (λ taken. taken) result (first_taken runs.old.items key segment).answer }
@@ -92,7 +92,7 @@ fn begin(runs: &mut Vec<Run>, key: Key, segment: Segment) -> Result<Taken, PoolF
     })
 }
 
-// Another segment of a message.
+// Takes another segment of a message.
 fn go_on(alloc: Global, runs: &mut Vec<Run>, key: Key, segment: Segment) -> Result<Taken, PoolFault>
     requires { IsPool runs.old.items }
     ensures answer { Gives (λ taken. taken) result (next_taken runs.old.items key segment (under_way runs.old.items key)).answer }
@@ -122,7 +122,7 @@ fn go_on(alloc: Global, runs: &mut Vec<Run>, key: Key, segment: Segment) -> Resu
     Ok(Taken::More)
 }
 
-// A segment.
+/// Takes a segment.
 pub fn step(
     alloc: Global,
     runs: &mut Vec<Run>,

@@ -92,13 +92,13 @@ Works-mixed old new status line text result b a (inr told) spelt writes is conte
     (Works-mix old new (λ c. answered (change_status c, change_text old new c)) change result b a told.1
     (Works-answered (change_status change, change_text old new change) result b a (not_cut change) whole answer contents sound read_faults))
 
--- ---- one of the two plans is told
+-- the line of one of the two plans
 
 module _ (word : List ℕ) (next : Network → Work) (octets : List ℕ) (plan : Network) (verdict : Verdict) (reads : plan_of octets ≡ Ok plan) (judged : IsJudged plan verdict) where
   on_verdict : (result : Result Status Stop) (m a : Moment) → Works (accepted_on word next plan verdict) result m a → Works (read_on_plan word next (plan_of octets)) result m a
   on_verdict result m a w = subst (λ r. Works (read_on_plan word next r) result m a) (sym reads) (Works-judge plan (accepted_on word next plan) verdict result m a judged w)
 
-  -- an accepted plan is told, and the work goes on
+  -- the line of an accepted plan is printed, and the work goes on
   pub Works-accepted : {T : Type 0} (accepted : Verified) (line : List ℕ) (put : Result T Stop) (x : T) (result : Result Status Stop) (m n a : Moment) → verdict ≡ verdicts.Accepted accepted → line ≡ word ++ plan_told plan verdict
       → Writes line put m.taken n.taken m.write_faults n.write_faults → put ≡ Ok x → n.contents ≡ m.contents → n.sound ≡ m.sound → n.read_faults ≡ m.read_faults → Works (next plan) result n a → Works (read_on_plan word next (plan_of octets)) result m a
   Works-accepted accepted line put x result m n a is spelt writes ok contents sound read_faults w =
@@ -115,7 +115,7 @@ module _ (word : List ℕ) (next : Network → Work) (octets : List ℕ) (plan :
       front : writes.front ≡ line
       front = subst (λ r. OnOk r (writes.front ≡ line)) ok writes.whole
 
-  -- its line couldn't be written whole
+  -- its line could not be written whole
   pub Works-untold : {T : Type 0} (accepted : Verified) (line : List ℕ) (stop : Stop) (m n : Moment) → verdict ≡ verdicts.Accepted accepted → line ≡ word ++ plan_told plan verdict
       → Writes {T = T} line (Err stop) m.taken n.taken m.write_faults n.write_faults → n.contents ≡ m.contents → n.sound ≡ m.sound → n.read_faults ≡ m.read_faults → Works (read_on_plan word next (plan_of octets)) (Err stop) m n
   Works-untold accepted line stop m n is spelt writes contents sound read_faults =
@@ -164,7 +164,7 @@ data MixtureEnds (old new : Network) : Status → Type 0 where
 told_answer : (contents : Option Contents) (status : Status) (line : List ℕ) (s : Status) (text : List ℕ) → Ends contents (answered (status, line)) s text → (s ≡ status) × (text ≡ line)
 told_answer contents status line s text h = (h.2.0, h.1 ∙ ap (λ rest. line ++ rest) h.2.1 ∙ append-nil line)
 
--- one of the plans is told
+-- the text of one of the plans
 module _ (word : List ℕ) (plan : Network) (on : Status → List ℕ → Type 0) (s : Status) (text : List ℕ) where
   from_verdict : (contents : Option Contents) (next : Network → Work) (v : Verdict) → IsLawful plan v → ((rest : List ℕ) → Ends contents (next plan) s rest → on s rest)
       → Ends contents (accepted_on word next plan v) s text → TellsPlan word plan on s text
@@ -174,7 +174,7 @@ module _ (word : List ℕ) (plan : Network) (on : Status → List ℕ → Type 0
   from_verdict contents next (verdicts.TooWide same) lawful goes h =
       let t = told_answer contents TooWide (word ++ verdict_text plan (verdicts.TooWide same)) s text h in is_wide same lawful t.0 t.1
 
--- what is told of the plan of a file, if it is one
+-- the text on the plan of a file, if it is one
 abbrev FileTells : Option Contents → List ℕ → List ℕ → (Network → Status → List ℕ → Type 0) → List ℕ → Status → Type 0
 FileTells contents name word on text s = PlanEnds contents name (λ plan t. TellsPlan word plan (on plan) t text) s
 
@@ -204,7 +204,7 @@ Ends-mixed contents old new s text h = by (same_nodes old new) refl h
     by false e k =
         let t = told_answer contents OtherNodes other_nodes s text k in is_other (λ same. false≢true (sym e ∙ alike old new same)) t.0 t.1
 
--- behind an accepted old plan
+-- after an accepted old plan
 abbrev NewTells : Option Contents → List ℕ → Network → Status → List ℕ → Type 0
 NewTells contents new p s rest = FileTells contents new new_word (λ q. TellsMixture p q) rest s
 
@@ -229,7 +229,7 @@ file_of contents name word next on text TooLong goes (long h) = long h
 file_of contents name word next on text BadPlan goes (bad h) = bad h
 file_of contents name word next on text s goes (good h) = good (h.0, h.1, h.2, (h.3.0, h.3.1, verdict_of word h.3.0 (next h.3.0) (on h.3.0) s text (goes h.3.0) h.3.2))
 
--- behind an accepted old plan
+-- after an accepted old plan
 abbrev Ahead : Option Contents → List ℕ → Network → Status → Type 0
 Ahead contents new p s = PlanEnds contents new (λ q t. VerdictEnds q (MixtureEnds p q) t) s
 
@@ -281,13 +281,13 @@ only contents old new s (good h) = by s h.3.2
 
 -- ---- what each answer follows from
 
--- a plan that is surely safe is gone on with
+-- with a plan that is surely safe the command goes on
 goes_on : (plan : Network) (on : Status → Type 0) (s : Status) → IsSurelySafe plan → VerdictEnds plan on s → on s
 goes_on plan on Refused safe (refused k) = absurd (safe_or_bad plan safe.0 k.0 k.1)
 goes_on plan on TooWide safe (wide k) = absurd (safe.1 k)
 goes_on plan on s safe (accepted also k) = k
 
--- and one that is safe, unless it is told to be too wide
+-- and one that is safe, unless it is reported as too wide
 goes_on_or_wide : (plan : Network) (on : Status → Type 0) (s : Status) → IsSafe plan → VerdictEnds plan on s → on s ⊎ (s ≡ TooWide)
 goes_on_or_wide plan on Refused safe (refused k) = absurd (safe_or_bad plan safe k.0 k.1)
 goes_on_or_wide plan on TooWide safe (wide k) = inr refl
@@ -322,7 +322,7 @@ other_if : (p q : Network) (s : Status) → (SameNodes p q → ⊥) → MixtureE
 other_if p q OtherNodes differ (other h) = refl
 other_if p q s differ (told same change lawful is) = absurd (differ same)
 
--- what the mixture ends with, behind two plans that are surely safe
+-- what the mixture ends with, after two plans that are surely safe
 both : (c : Contents) (old new : List ℕ) (holds : Network → Network → Type 0) (s : Status) → (has : HavePlans (Some c) old new IsSurelySafe holds) → ChangeEnds (Some c) old new s → (p : Network) × (q : Network) × holds p q × MixtureEnds p q s
 both c old new holds s has ends =
     let p = has.3.0 in
@@ -410,7 +410,7 @@ change_files : (c : Contents) (old new : List ℕ) → IsThere c old → IsThere
 change_files c old new old_there new_there =
     accepted_files c old_word old (λ p. with_accepted new_word new (λ q. mixed_work p q)) (λ p. accepted_files c new_word new (λ q. mixed_work p q) (mixed_files c p) new_there) old_there
 
--- ---- the text tells it
+-- the text gives it
 
 -- an answer on a verdict is none of a file
 on_file : (contents : Option Contents) (name : List ℕ) (P : Network → Status → Type 0) (s : Status) → IsOnVerdict s → PlanEnds contents name P s → HasPlan contents name (λ plan. P plan s)

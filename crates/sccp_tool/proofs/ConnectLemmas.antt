@@ -1,4 +1,4 @@
--- What making a connection ends with, and what it tells.
+-- What making a connection ends with, and what it prints.
 use Rattle.std.proofs.Common.{◌≡◌, ◌⊎◌, ℕ, List, ◌++◌, Option, Some, Result, IfOk, refl, sym, ◌∙◌, ap, subst, append-nil}
 use Rattle.std.specs.Io.KnownBytes.{append_known}
 use Rattle.plan_model.specs.Network.{Network}
@@ -76,7 +76,7 @@ refused c name calling s text has ends =
     let j = at_plan c name (Connected calling text) IsBad s ends has in
     refused_if_bad has.3.0 j.verdict s j.lawful j.status has.3.2
 
--- the text of a plan that isn't accepted is that of the verdict
+-- the text of a plan that is not accepted is that of the verdict
 as_verdict : (plan : Network) (calling : Calling) (v : Verdict) → IsOnRefusal (status_of v) → connected plan calling v ≡ verdict_text plan v
 as_verdict plan calling (verdicts.Accepted accepted) given = absurd given
 as_verdict plan calling (verdicts.Refused same witness) given = refl

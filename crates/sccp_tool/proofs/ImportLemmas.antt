@@ -87,7 +87,7 @@ always c plan name text TooLong s (inr has) e =
     if_file_long c name text has.3.0 s (at_plan c plan (OnFile (Some c) name text) (λ q. HasLongFile (Some c) name) s e has) has.3.2
 always c plan name text t s has e = absurd has
 
--- ---- what is told
+-- what is printed
 
 all_told : (r : Result (List ℕ) LineFault) (contents : Option Contents) (text : List ℕ) → Ends contents (answered (answer_for r)) Done text → r ≡ Ok text
 all_told (Ok trace) contents text h = ap Ok (sym (h.1 ∙ ap (λ l. trace ++ l) h.2.1 ∙ append-nil trace))

@@ -1,3 +1,4 @@
+-- The lemmas of this crate, one file a subject.
 mod Causes
 mod ChangeLemmas
 mod ConnectLemmas

@@ -1,4 +1,4 @@
--- What making a load from a number ends with, and what it tells.
+-- What making a load from a number ends with, and what it prints.
 use Rattle.std.proofs.Common.{◌≡◌, ℕ, List, ◌++◌, Option, Some, Result, IfOk, refl, sym, ◌∙◌, ap, subst, append-nil}
 use Rattle.std.specs.Io.KnownBytes.{append_known}
 use Rattle.plan_verify.specs.Lawful.{IsLawful}
@@ -57,7 +57,7 @@ always : (number size : ℕ) (t s : Status) (text : List ℕ) → LoadSure numbe
 always number size Done s text sure l = done_if_safe (load_plan number) l.verdict s l.lawful l.status sure.0 sure.1
 always number size t s text sure l = absurd sure
 
--- the text of a plan that isn't accepted is that of the verdict
+-- the text of a plan that is not accepted is that of the verdict
 as_verdict : (number size : ℕ) (v : Verdict) → IsOnRefusal (status_of v) → load_text number size v ≡ verdict_text (load_plan number) v
 as_verdict number size (verdicts.Accepted accepted) given = absurd given
 as_verdict number size (verdicts.Refused same witness) given = refl

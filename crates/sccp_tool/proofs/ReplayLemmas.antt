@@ -1,4 +1,4 @@
--- What a replay ends with, and what it tells.
+-- What a replay ends with, and what it prints.
 use Rattle.std.proofs.Common.{◌≡◌, ℕ, List, Some, refl}
 use Rattle.relay_net.proofs.Going.{goes_well}
 use Rattle.sccp_io.specs.Files.{Contents}

@@ -58,7 +58,7 @@ if_some : {C : Type 0} (o : Option C) (P : C → Type 0) → ((c : C) → o ≡ 
 if_some None P f = tt
 if_some (Some c) P f = f c refl
 
--- a call that wasn't cut short did all its work
+-- a call that was not cut short did all its work
 cut_or_ends : (s : Status) (work : Work) (text : List ℕ) (b a : Moment) → Answers work s text b a → IsCut s ⊎ Ends b.contents work s text
 cut_or_ends WriteFault work text b a h = inl tt
 cut_or_ends NoMemory work text b a h = inl tt
@@ -88,15 +88,15 @@ module _ (task : Option Task) (s : Status) (b a : Moment) (o : Outcome (work_of 
   answers : (t : Status) → s ≡ t → Answers (work_of task) t o.text b a
   answers t e = subst (λ t. Answers (work_of task) t o.text b a) e o.answers
 
-  -- an answer of the work's own comes only where its cause holds
+  -- an answer of the work's own is given only if its cause holds
   only_where : (t : Status) (c : Contents) → b.contents ≡ Some c → (Answers (work_of task) t o.text b a → Ends b.contents (work_of task) t o.text) → s ≡ t → Cause c task t
   only_where t c told own e = (causes task).only c t o.text (subst (λ k. Ends k (work_of task) t o.text) told (own (answers t e)))
 
-  -- an answer comes unless the call was cut short
+  -- an answer is given unless the call was cut short
   always_where : (c : Contents) (Q : Type 0) → b.contents ≡ Some c → (Ends (Some c) (work_of task) s o.text → Q) → Q ⊎ IsCut s
   always_where c Q told always = unless_cut s (work_of task) o.text b a o.answers (λ e. always (subst (λ k. Ends k (work_of task) s o.text) told e))
 
-  -- an answer of the work's own comes where its cause can bring it, and where it does for sure
+  -- an answer of the work's own is given only if its cause can give it; if one gives it for sure, it is given or the call is cut
   comes : (t : Status) (c : Contents) → b.contents ≡ Some c → (Answers (work_of task) t o.text b a → Ends b.contents (work_of task) t o.text) → ComesWhere t s (Cause c task t) (SureCause c task t)
   comes t c told own = record {
     only = only_where t c told own;
@@ -146,7 +146,7 @@ module _ (task : Option Task) (s : Status) (b a : Moment) (o : Outcome (work_of 
   pub write_cause : s ≡ WriteFault → Rose b.write_faults a.write_faults
   write_cause e = (answers WriteFault e).0
 
-  -- sound files that have each file which the work comes to don't fail
+  -- sound files that have each file which the work may read do not fail
   spared : IsTrue b.sound → (c : Contents) → b.contents ≡ Some c → HasFiles c (work_of task) → (a.read_faults ≡ b.read_faults) × (b.read_faults < 2 ^ 64 - 1 → s ≢ ReadFault)
   spared h c told has =
       let same : a.read_faults ≡ b.read_faults = subst (λ k. IfSome k (λ d. HasFiles d (work_of task) → a.read_faults ≡ b.read_faults)) told (o.spared h) has in

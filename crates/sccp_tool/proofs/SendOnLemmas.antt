@@ -15,13 +15,14 @@ use Rattle.sccp_message.specs.Reading.{reading}
 use Rattle.sccp_message.specs.declared.fault.DecodeFault.{DecodeFault}
 use Rattle.sccp_message.specs.declared.message.Message.{Message}
 use Rattle.sccp_message.specs.declared.message.Message.TheVariants as messages
+use Rattle.sccp_message.specs.Unitdata.{called_of, hops_of}
 use Rattle.sccp_report.specs.Events.{connection_words, coupling_words}
 use Rattle.sccp_report.specs.MessageText.{decoded_text, message_text}
 use Rattle.sccp_scrc.specs.Arriving.{arrival, at_subsystem, at_title, after_step, by_called, is_last_hop, leaving, of_message, point_of, subsystems_of, translated}
 use Rattle.sccp_scrc.specs.Outcomes.{IsReturned}
 use Rattle.sccp_scrc.specs.Returning.{returned}
 use Rattle.sccp_scrc.specs.Rewriting.{rewritten, spot_of}
-use Rattle.sccp_scrc.specs.Unitdata.{called_of, hops_of, octets_of}
+use Rattle.sccp_scrc.specs.Unitdata.{octets_of}
 use Rattle.sccp_scrc.specs.declared.arrival.Arrival.{Arrival}
 use Rattle.sccp_scrc.specs.declared.arrival.Arrival.TheVariants.{Relayed, Ended, Local, Returned, Connection, Management, Undecodable}
 use Rattle.sccp_scrc.specs.declared.service.Service.{Service}
@@ -78,7 +79,7 @@ connection_shown octets m is e = ap (λ t. type_line (first_line t)) (shown octe
 
 -- ---- an arrival is of its octets
 
--- what the octets say of an arrival that isn't routed
+-- what the octets say of an arrival that is not routed
 abbrev SaysOctets : List ℕ → Arrival → Type 0
 SaysOctets b (Connection m) = (reading b ≡ Ok m) × (called_of m ≡ None)
 SaysOctets b (Undecodable fault) = reading b ≡ Err fault

@@ -67,7 +67,7 @@ refused c name s text has ends =
     let j = at_plan c name (Judged text) IsBad s ends has in
     refused_if_bad has.3.0 j.verdict s j.lawful j.status has.3.2
 
--- ---- the text tells the verdict
+-- the text gives the verdict
 
 tells : (contents : Option Contents) (name : List ℕ) (s : Status) (text : List ℕ) (taken taken' : Option (List ℕ)) → taken' ≡ append_known taken text → PlanEnds contents name (Judged text) s → VerifyTells contents name s taken taken'
 tells contents name TooLong text taken taken' is (long h) = λ given. absurd given

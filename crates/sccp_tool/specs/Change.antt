@@ -1,7 +1,8 @@
--- The command that tells whether relays may hold either of two plans.
+-- The command that says whether relays may hold either of two plans.
 use Rattle.std.specs.Prelude.{◌≡◌, ◌⊎◌, ℕ, List, [], ◌∷◌, ◌++◌, Option, None, Result, Ok, Err, if◌then◌else◌, codes, option_and_then, option_map}
 use Rattle.std.specs.Io.KnownBytes.{append_known}
 use Rattle.plan_check.specs.Verified.{Verified}
+use Rattle.plan_model.specs.Limits.{most_classes}
 use Rattle.plan_model.specs.declared.kind.Kind.{Kind}
 use Rattle.plan_model.specs.declared.plan_fault.PlanFault.{PlanFault}
 use Rattle.plan_model.specs.declared.spot.Spot.{Spot}
@@ -50,13 +51,13 @@ old_word = codes "old "
 unfoldable pub new_word : List ℕ
 new_word = codes "new "
 
--- what is told of a plan: of an accepted one its bound, and of another the whole text of the verdict
+-- the text on a verdict: of an accepted plan its bound, and of another the whole text of the verdict
 abbrev pub plan_told : Network → Verdict → List ℕ
 plan_told plan (verdicts.Accepted accepted) = accepted_line accepted.bound
 plan_told plan (verdicts.Refused same witness) = verdict_text plan (verdicts.Refused same witness)
 plan_told plan (verdicts.TooWide same) = verdict_text plan (verdicts.TooWide same)
 
--- an accepted plan is told, and the work goes on; any other verdict is the answer
+-- of an accepted plan its line is printed, and the work goes on; any other verdict is the answer
 abbrev pub accepted_on : List ℕ → (Network → Work) → Network → Verdict → Work
 accepted_on word next plan (verdicts.Accepted accepted) = print (word ++ plan_told plan (verdicts.Accepted accepted)) (next plan)
 accepted_on word next plan (verdicts.Refused same witness) = answered (Refused, word ++ plan_told plan (verdicts.Refused same witness))
@@ -66,7 +67,7 @@ abbrev pub read_on_plan : List ℕ → (Network → Work) → Result Network Pla
 read_on_plan word next (Ok plan) = judge plan (accepted_on word next plan)
 read_on_plan word next (Err fault) = answered (BadPlan, word ++ bad_plan fault)
 
--- the plan of a file, where it is accepted; what is told of it stands behind this word
+-- the plan of a file, if it is accepted; its text is after this word
 abbrev pub with_accepted : List ℕ → List ℕ → (Network → Work) → Work
 with_accepted word name next = within_limit name (λ octets. read_on_plan word next (plan_of octets))
 
@@ -82,9 +83,10 @@ mixed_work old new = if same_nodes old new then mix old new (λ change. answered
 abbrev pub change_work : List ℕ → List ℕ → Work
 change_work old new = with_accepted old_word old (λ p. with_accepted new_word new (λ q. mixed_work p q))
 
--- ---- what the code hands on while the work is done
+-- ---- what the code gives while the work is done
 
--- Whatever the work that needs the plan goes on with: from an accepted plan it goes on, and else it has ended or stopped.
+-- Whatever the work that needs the plan goes on with: from an accepted plan it goes on, and otherwise it has ended or
+-- stopped.
 abbrev pub GivesAccepted : List ℕ → List ℕ → Result Verified Stop → Moment → Moment → Type 0
 GivesAccepted word name (Ok accepted) first now =
     (next : Network → Work) (result : Result Status Stop) (after : Moment) → Works (next accepted.plan) result now after → Works (with_accepted word name next) result first after
@@ -96,10 +98,10 @@ IsAnswered old new status text =
     ((SameNodes old new → ⊥) × (status ≡ OtherNodes) × (text ≡ other_nodes))
     ⊎ ((change : Change) × IsCompared old new change × (status ≡ change_status change) × (text ≡ change_text old new change))
 
--- ---- what the text tells
+-- what the text says
 
--- Of a plan: a lawful verdict that isn't Accepted is the answer, and its text stands behind the word; or the plan is accepted
--- for the bound that its line tells, and the text goes on with what is told next.
+-- Of a plan: a lawful verdict that is not Accepted is the answer, and its text follows the word. Or the plan is accepted for
+-- the bound that its line gives, and the text goes on with what follows.
 pub data TellsPlan (word : List ℕ) (plan : Network) (next : Status → List ℕ → Type 0) (given : Status) (text : List ℕ) : Type 0 where
   is_refused : (same : Network) (witness : Witness) → IsLawful plan (verdicts.Refused same witness) → given ≡ Refused
       → text ≡ word ++ verdict_text plan (verdicts.Refused same witness) → TellsPlan word plan next given text
@@ -108,7 +110,7 @@ pub data TellsPlan (word : List ℕ) (plan : Network) (next : Status → List �
   is_accepted : (accepted : Verified) (rest : List ℕ) → IsLawful plan (verdicts.Accepted accepted)
       → text ≡ (word ++ accepted_line accepted.bound) ++ rest → next given rest → TellsPlan word plan next given text
 
--- of two accepted plans: they have other nodes, or a lawful answer is told of their mixture
+-- of two accepted plans: they have other nodes, or the text is of a lawful answer on their mixture
 pub data TellsMixture (old new : Network) (given : Status) (text : List ℕ) : Type 0 where
   is_other : (SameNodes old new → ⊥) → given ≡ OtherNodes → text ≡ other_nodes → TellsMixture old new given text
   is_told : SameNodes old new → (change : Change) → IsLawfulChange old new change → given ≡ change_status change
@@ -119,18 +121,19 @@ abbrev pub TellsChange : Option Contents → List ℕ → List ℕ → Status �
 TellsChange contents old new given text =
     HasPlan contents old (λ p. TellsPlan old_word p (λ s rest. HasPlan contents new (λ q. TellsPlan new_word q (TellsMixture p q) s rest)) given text)
 
--- the sink took such a text where the answer is one that a verdict or a mixture gives
+-- the sink took such a text if the answer is one that a verdict or a mixture gives
 abbrev pub ChangeTells : Option Contents → List ℕ → List ℕ → Status → Option (List ℕ) → Option (List ℕ) → Type 0
 ChangeTells contents old new given taken taken' =
     IsOnVerdict given → (text : List ℕ) × (taken' ≡ append_known taken text) × TellsChange contents old new given text
 
 -- ---- the causes
 
--- a safe plan is accepted for sure where it reaches fewer than 262,144 classes
+-- a safe plan is accepted for sure if it reaches fewer than 262,144 classes
 abbrev pub IsSurelySafe : Network → Type 0
 IsSurelySafe plan = IsSafe plan × (IsWide plan → ⊥)
 
--- each mixed route of a title that both plans cover ends well within some bound up to 14, or a bad one is there, or the plans reach too many classes together
+-- Three facts on two plans, a definition each. Every mixed route of a title that both cover ends well within some bound up
+-- to 14; or a bad one is there; or they reach too many classes together.
 abbrev pub IsMixable : Network → Network → Type 0
 IsMixable old new = (bound : ℕ) × IsMixedSafeFor old new bound
 
@@ -139,13 +142,13 @@ IsUnmixable old new =
     (old_cover : ℕ) × (new_cover : ℕ) × (spot : Spot) × (turns : List Turn) × (hops : List MixedHop) × (kind : Kind) × BothBad old new old_cover new_cover spot turns hops kind
 
 abbrev pub IsWideMixture : Network → Network → Type 0
-IsWideMixture old new = MixedReachAtLeast old new 262144
+IsWideMixture old new = MixedReachAtLeast old new most_classes
 
 -- both files have plans that are safe in this sense, and this holds of the two
 abbrev pub HavePlans : Option Contents → List ℕ → List ℕ → (Network → Type 0) → (Network → Network → Type 0) → Type 0
 HavePlans contents old new safe holds = HasPlan contents old (λ p. safe p × HasPlan contents new (λ q. safe q × holds p q))
 
--- a plan of one of the files holds this, the new one's behind an old one that is safe in this sense
+-- a plan of one of the files holds this, the new one's after an old one that is safe in this sense
 abbrev pub HasEither : Option Contents → List ℕ → List ℕ → (Network → Type 0) → (List ℕ → Type 0) → Type 0
 HasEither contents old new safe holds = holds old ⊎ HasPlan contents old (λ p. safe p × holds new)
 
@@ -159,7 +162,7 @@ ChangeCause contents old new BadPlan = HasEither contents old new IsSafe (HasBad
 ChangeCause contents old new TooLong = HasEither contents old new IsSafe (HasLongFile contents)
 ChangeCause contents old new answer = ⊥
 
--- what brings an answer for sure: what is safe and wide may be told to be too wide as well
+-- what gives an answer for sure: what is safe and wide may be reported as too wide as well
 abbrev pub ChangeSure : Option Contents → List ℕ → List ℕ → Status → Type 0
 ChangeSure contents old new Done = HavePlans contents old new IsSurelySafe (λ p q. SameNodes p q × IsMixable p q × (IsWideMixture p q → ⊥))
 ChangeSure contents old new OtherNodes = HavePlans contents old new IsSurelySafe (λ p q. SameNodes p q → ⊥)

@@ -1,4 +1,4 @@
--- The words of the command line: the name of a command, and behind it the command's own words.
+-- The words of the command line: the name of a command, and after it the command's own words.
 use Rattle.std.specs.Prelude.{ℕ, List, [], ◌∷◌, Option, None, if◌then◌else◌, codes, string_bytes, String, map}
 use Rattle.std.specs.Str.{bytes_eq}
 use Rattle.std.specs.declared.alloc.Global.{Global}
@@ -15,7 +15,7 @@ use Rattle.sccp_tool.specs.ShowHex.{show_hex_words}
 use Rattle.sccp_tool.specs.Task.{Task}
 use Rattle.sccp_tool.specs.Verify.{verify_words}
 
--- the commands behind the first six
+-- the commands after the first six
 unfoldable pub further_command_of : List ℕ → List (List ℕ) → Option Task
 further_command_of name words =
     if bytes_eq name (codes "cuts") then cuts_words words
@@ -36,7 +36,7 @@ command_of name words =
     else if bytes_eq name (codes "load") then load_words words
     else further_command_of name words
 
--- none where the words have none of the shapes
+-- none if the words have none of the shapes
 abbrev pub task_of : List (List ℕ) → Option Task
 task_of [] = None
 task_of (name ∷ words) = command_of name words

@@ -30,7 +30,7 @@ use Rattle.sccp_tool.specs.declared.start.Start.{Start}
 
 -- ---- the words
 
--- a title of kind 2 can't say that its number of digits is odd
+-- a title of kind 2 cannot say that its number of digits is odd
 abbrev pub is_unsaid : Start → Bool
 is_unsaid start = (start.selector.kind == 2) && (length start.digits % 2 == 1)
 
@@ -78,14 +78,14 @@ unfoldable pub through_lines : Option Through → List ℕ
 through_lines None = unsettled_line
 through_lines (Some t) = octets_line (codes "forth ") t.forth ++ octets_line (codes "back ") t.back ++ sections_line t.sections
 
--- what came of it
+-- the outcome
 unfoldable pub outcome_text : Outcome → List ℕ
 outcome_text Unsettled = unsettled_line
 outcome_text Unanswered = codes "unanswered\n"
 outcome_text (Refused cause) = cause_line (codes "refused ") Refusal cause
 outcome_text (Opened names far through) = opened_line names far ++ through_lines through
 
--- the title's subsystem number, where it has one
+-- the title's subsystem number, if it has one
 abbrev pub ssn_in : ℕ → Option ℕ
 ssn_in ssn = if ssn == 0 then None else Some ssn
 
@@ -99,7 +99,7 @@ call_of plan node calling = record {
   octets = calling.octets;
 }
 
--- a connection that begins in a world where nothing has happened
+-- a connection that begins in a world in which nothing has happened
 abbrev pub call_text : Network → ℕ → Calling → List ℕ
 call_text plan node calling = outcome_text (outcome (call_of plan node calling) (beginning (kept plan [])))
 
@@ -115,7 +115,7 @@ abbrev pub connect_text : Network → Calling → List ℕ
 connect_text plan calling =
     text_by plan calling (position (has_name calling.start.node) plan.nodes) (is_some (position (has_point calling.from) plan.nodes))
 
--- what comes of the connection where the plan is accepted, and else the verdict
+-- the outcome of the connection if the plan is accepted, and otherwise the verdict
 abbrev pub connected : Network → Calling → Verdict → List ℕ
 connected plan calling (verdicts.Accepted accepted) = connect_text plan calling
 connected plan calling (verdicts.Refused same witness) = verdict_text plan (verdicts.Refused same witness)
@@ -124,6 +124,6 @@ connected plan calling (verdicts.TooWide same) = verdict_text plan (verdicts.Too
 abbrev pub connect_judged : Calling → Network → Work
 connect_judged calling plan = judge plan (λ verdict. answered (status_of verdict, connected plan calling verdict))
 
--- the plan is read and verified before
+-- the plan is read and verified first
 abbrev pub connect_work : List ℕ → Calling → Work
 connect_work name calling = with_plan name (λ plan. connect_judged calling plan)

@@ -29,7 +29,7 @@ import_answer plan octets = answer_for (trace_of plan octets)
 abbrev pub trace_work : Network → List ℕ → Work
 trace_work plan file = within_limit file (λ octets. answered (import_answer plan octets))
 
--- the plan is read before, and not verified
+-- the plan is read first, and not verified
 abbrev pub import_work : List ℕ → List ℕ → Work
 import_work plan file = with_plan plan (λ p. trace_work p file)
 

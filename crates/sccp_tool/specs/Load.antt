@@ -39,7 +39,7 @@ counts_text c =
     count_line (codes "messages ") c.messages ++ count_line (codes "ended ") c.ended
     ++ count_line (codes "returned ") c.returned ++ count_line (codes "translations ") c.translations
 
--- the counts where the plan is accepted, and else the verdict
+-- the counts if the plan is accepted, and otherwise the verdict
 abbrev pub load_text : ℕ → ℕ → Verdict → List ℕ
 load_text number size (verdicts.Accepted accepted) = counts_text (load_counts number size)
 load_text number size (verdicts.Refused same witness) = verdict_text (load_plan number) (verdicts.Refused same witness)
@@ -56,11 +56,11 @@ LoadCause number Refused = IsBad (load_plan number)
 LoadCause number TooWide = IsWide (load_plan number)
 LoadCause number answer = ⊥
 
--- what brings an answer for sure: a plan that is both safe and wide may be told to be too wide as well
+-- what gives an answer for sure: a plan that is both safe and wide may be reported as too wide as well
 abbrev pub LoadSure : ℕ → Status → Type 0
 LoadSure number Done = IsSafe (load_plan number) × (IsWide (load_plan number) → ⊥)
 LoadSure number answer = ⊥
 
--- an answer that tells that the plan isn't accepted tells a lawful verdict on it
+-- an answer that the plan is not accepted gives a lawful verdict on it
 abbrev pub LoadTells : ℕ → Status → Option (List ℕ) → Option (List ℕ) → Type 0
 LoadTells number given taken taken' = IsOnRefusal given → Tells (load_plan number) given taken taken'

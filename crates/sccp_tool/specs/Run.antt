@@ -44,7 +44,7 @@ abbrev pub UsageCause : Status → Type 0
 UsageCause Usage = Unit {0}
 UsageCause answer = ⊥
 
--- an answer that isn't a fault's or want of memory's comes only where this holds of the files
+-- an answer that is not a fault's or want of memory's is given only if this holds of the files
 abbrev pub Cause : Contents → Option Task → Status → Type 0
 Cause c None answer = UsageCause answer
 Cause c (Some (ShowHex octets)) answer = ShowHexCause answer
@@ -59,7 +59,7 @@ Cause c (Some (Change old new)) answer = ChangeCause (Some c) old new answer
 Cause c (Some (Connect name calling)) answer = VerifyCause (Some c) name answer
 Cause c (Some (SendOn name incoming)) answer = TextCause (Some c) name answer
 
--- where this holds, the answer comes, but for a fault or want of memory before it
+-- if this holds, the answer is given, but for a fault or want of memory before it
 abbrev pub SureCause : Contents → Option Task → Status → Type 0
 SureCause c (Some (Verify name)) answer = VerifySure (Some c) name answer
 SureCause c (Some (Replay plan trace workers)) answer = ReplaySure c plan trace answer
@@ -68,8 +68,8 @@ SureCause c (Some (Change old new)) answer = ChangeSure (Some c) old new answer
 SureCause c (Some (Connect name calling)) answer = VerifySure (Some c) name answer
 SureCause c task answer = Cause c task answer
 
--- what the sink took tells the verdict on a plan, those on two plans and what comes of their mixture, or, of DATA messages, a
--- trace without a faulty line
+-- What the sink took gives the verdict on a plan, or those on two plans and the answer on their mixture. Of DATA messages it
+-- is a trace without a faulty line.
 abbrev pub TellsAnswer : Contents → Option Task → Status → Option (List ℕ) → Option (List ℕ) → Type 0
 TellsAnswer c (Some (Verify name)) given taken taken' = VerifyTells (Some c) name given taken taken'
 TellsAnswer c (Some (Replay plan trace workers)) given taken taken' = ReplayTells c plan given taken taken'
@@ -79,7 +79,7 @@ TellsAnswer c (Some (Connect name calling)) given taken taken' = ReplayTells c n
 TellsAnswer c (Some (Import plan file)) given taken taken' = ImportTells (Some c) plan file given taken taken'
 TellsAnswer c task given taken taken' = Unit {0}
 
--- what the sink took of a replay tells the bound of the first plan and, of each message that was routed, its whole journey
+-- what the sink took of a replay gives the bound of the first plan and, of each message that was routed, its whole journey
 abbrev pub TellsJourneys : Contents → Option Task → Status → Option (List ℕ) → Option (List ℕ) → Type 0
 TellsJourneys c (Some (Replay plan trace workers)) given taken taken' =
     (text : List ℕ) × (taken' ≡ append_known taken text) × TellsReplay c plan trace given text
@@ -97,17 +97,18 @@ HasNamedFiles c (Some (Connect name calling)) = IsThere c name
 HasNamedFiles c (Some (SendOn name incoming)) = IsThere c name
 HasNamedFiles c task = Unit {0}
 
--- this answer comes exactly where the cause holds, but for a fault or want of memory before it
+-- this answer is given exactly if the cause holds, but for a fault or want of memory before it
 pub record ExactlyWhere (answer given : Status) (cause : Type 0) : Type 0 where
   pub only : given ≡ answer → cause
   pub always : cause → (given ≡ answer) ⊎ IsCut given
 
--- the answer comes only where one thing holds, and where another does it comes, but for a fault or want of memory before it
+-- The answer is given only if one thing holds. If another does, it is given, but for a fault or want of memory before it.
 pub record ComesWhere (answer given : Status) (can must : Type 0) : Type 0 where
   pub only : given ≡ answer → can
   pub always : must → (given ≡ answer) ⊎ IsCut given
 
--- a refusal comes only where the cause holds; where it does, it comes or the plan is too wide, but for a fault or want of memory
+-- A refusal is given only if the cause holds. If it does, it is given or the plan is too wide, but for a fault or want of
+-- memory.
 pub record RefusedWhere (given : Status) (cause : Type 0) : Type 0 where
   pub only : given ≡ Refused → cause
   pub always : cause → ((given ≡ Refused) ⊎ (given ≡ TooWide)) ⊎ IsCut given

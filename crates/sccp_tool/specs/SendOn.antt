@@ -9,12 +9,12 @@ use Rattle.sccp_base.specs.Names.{name_of}
 use Rattle.sccp_base.specs.Text.{cut_at, decimal_of, point_code_of}
 use Rattle.sccp_message.specs.Reading.{reading}
 use Rattle.sccp_message.specs.declared.message.Message.{Message}
+use Rattle.sccp_message.specs.Unitdata.{called_of}
 use Rattle.sccp_report.specs.Events.{coupling_words}
 use Rattle.sccp_report.specs.Hops.{marks_text}
 use Rattle.sccp_report.specs.MessageText.{undecodable_line}
 use Rattle.sccp_report.specs.Values.{numbered, octets_text, point_code_text}
 use Rattle.sccp_scrc.specs.Arriving.{arrival}
-use Rattle.sccp_scrc.specs.Unitdata.{called_of}
 use Rattle.sccp_scrc.specs.declared.arrival.Arrival.{Arrival}
 use Rattle.sccp_scrc.specs.declared.arrival.Arrival.TheVariants.{Relayed, Ended, Local, Returned, Connection, Management, Undecodable}
 use Rattle.trace_text.specs.Forms.{file_name}
@@ -32,7 +32,7 @@ use Rattle.sccp_work.specs.declared.status.Status.TheVariants.{Done}
 abbrev pub size_of : List ℕ → Option ℕ
 size_of word = option_and_then (λ n. if nat_lt 0 n && nat_lt n 256 then Some n else None) (decimal_of 10 word)
 
--- octets that come to the node of a name from a point, and how many octets of data a segment may have
+-- octets that arrive at the node of a name from a point, and how many octets of data a segment may have
 unfoldable pub incoming_of : List ℕ → List ℕ → List ℕ → List ℕ → Option Incoming
 incoming_of node origin size digits =
     option_and_then (λ name. option_and_then (λ pc. option_and_then (λ n. option_and_then (λ octets.
@@ -53,7 +53,7 @@ send_on_words words = None
 unfoldable pub to_line : ℕ → List ℕ → List ℕ
 to_line pc octets = codes "to " ++ point_code_text pc ++ codes " " ++ octets_text octets ++ codes "\n"
 
--- What isn't cut: octets that are no long message go as they are, and another fault of a long message is told. A size is
+-- What is not cut: octets that are no long message go as they are, and another fault of a long message has a line. A size is
 -- never 0, and want of memory has no line.
 unfoldable pub uncut_lines : ℕ → List ℕ → LongFault → List ℕ
 uncut_lines pc octets NotLong = to_line pc octets
@@ -68,7 +68,8 @@ abbrev pub cut_lines : ℕ → List ℕ → Result (List (List ℕ)) LongFault �
 cut_lines pc octets (Ok segments) = flat_map (to_line pc) segments
 cut_lines pc octets (Err fault) = uncut_lines pc octets fault
 
--- octets that leave for a point: a long message in segments of so many octets of data, with the reference 1 unless it has its own
+-- octets that leave for a point: a long message in segments of this number of octets of data, with the reference 1 unless it
+-- has its own
 abbrev pub leaving_lines : ℕ → ℕ → List ℕ → List ℕ
 leaving_lines size pc octets = cut_lines pc octets (sending octets size 1)
 
@@ -94,13 +95,13 @@ lines_at plan i (Some node) = arrival_lines i.size (arrival plan node [] i.origi
 abbrev pub send_on_text : Network → Incoming → List ℕ
 send_on_text plan i = lines_at plan i (position (has_name i.node) plan.nodes)
 
--- the plan is read before, and not verified
+-- the plan is read first, and not verified
 abbrev pub send_on_work : List ℕ → Incoming → Work
 send_on_work name i = with_plan name (λ plan. answered (Done, send_on_text plan i))
 
 -- ---- the same for the calls inside
 
--- what stands before a line feed (10)
+-- what is before a line feed (10)
 abbrev pub before_or : List ℕ → Option (List ℕ × List ℕ) → List ℕ
 before_or text None = text
 before_or text (Some parts) = parts.0

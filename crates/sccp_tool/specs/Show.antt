@@ -61,15 +61,15 @@ show_answer octets = answer_for (shown_lines 1 (lines_of octets))
 abbrev pub show_work : List ℕ → Work
 show_work name = within_limit name (λ octets. answered (show_answer octets))
 
--- The cause of each answer: the file is within the limit and has no faulty line, or it has a line that is no word of hexadecimal
--- digits or breaks a limit of lines, or it is too long.
+-- The cause of each answer. Either the file is within the limit and has no faulty line. Or it has a line that is no word of
+-- hexadecimal digits or breaks a limit of lines. Or it is too long.
 abbrev pub ShowCause : Option Contents → List ℕ → Status → Type 0
 ShowCause contents name Done = HasFile contents name (λ octets. IsOk (shown_lines 1 (lines_of octets)))
 ShowCause contents name BadTrace = HasFile contents name (λ octets. IsErr (shown_lines 1 (lines_of octets)))
 ShowCause contents name TooLong = HasLongFile contents name
 ShowCause contents name answer = ⊥
 
--- the code hands out the text or the fault, unless memory ran out
+-- the code gives the text or the fault, unless memory ran out
 abbrev pub Gives : Result (Vec ℕ Global) ShowError → Result (List ℕ) LineFault → Type 0
 Gives (Ok text) shown = shown ≡ Ok text.items
 Gives (Err errors.Memory) shown = Unit {0}

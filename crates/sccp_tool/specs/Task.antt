@@ -13,17 +13,17 @@ pub data Task : Type 0 where
   Verify : List ℕ → Task
   -- follows a title from its start, under the plan of the file of this name
   Route : List ℕ → Start → Task
-  -- replays the trace of the second file under the plan of the first one, with so many workers
+  -- replays the trace of the second file under the plan of the first one, with this number of workers
   Replay : List ℕ → List ℕ → ℕ → Task
-  -- makes a plan and so many messages from a number, and sends them over its relays with so many workers
+  -- makes a plan and messages from a number, and sends them over its relays: the number, how many messages, how many workers
   Load : ℕ → ℕ → ℕ → Task
   -- shows every cut of the message of these octets
   Cuts : List ℕ → Task
   -- makes a trace of the DATA messages of the second file, for the nodes of the plan of the first one
   Import : List ℕ → List ℕ → Task
-  -- tells whether relays may hold either of the plans of the files of these names, the old one and the new one
+  -- says whether relays may hold either of the plans of the files of these names, the old one and the new one
   Change : List ℕ → List ℕ → Task
-  -- makes one connection over the relays of the plan of the file of this name, and tells what comes of it
+  -- makes one connection over the relays of the plan of the file of this name, and reports its outcome
   Connect : List ℕ → Calling → Task
-  -- tells what becomes of octets at a relay of the plan of the file of this name, and cuts a long message that leaves it
+  -- prints what becomes of octets at a relay of the plan of the file of this name, and cuts a long message that leaves it
   SendOn : List ℕ → Incoming → Task

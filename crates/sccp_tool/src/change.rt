@@ -1,4 +1,4 @@
-//! The command that tells whether relays may hold either of two plans.
+//! The command that says whether relays may hold either of two plans.
 ghost use Rattle.std.specs.Prelude.{◌≡◌, ◌++◌, false, IfOk, OnOk};
 ghost use Rattle.plan_model.specs.Network.{IsPlan};
 ghost use Rattle.plan_text.specs.Faults.{is_memory};
@@ -30,7 +30,7 @@ const NEW: &[u8] = b"new ";
 
 const OTHER_NODES: &[u8] = b"other nodes\n";
 
-/// Its words: `OLD NEW`.
+/// The command of the words `OLD NEW`, or none if they have another shape.
 #[tactic(auto, unfolding(crate::specs::Change::change_words))]
 pub fn change_words(words: &[String]) -> Option<Command<'_>>
     ensures { task_in result ≡ change_words (texts words.now) }
@@ -55,7 +55,8 @@ fn change_of<'a>(old: &'a str, new: &'a str) -> Option<Command<'a>>
     Some(Command::Change(old, new))
 }
 
-/// Tells whether relays may hold either of the plans of two files.
+/// Prints whether relays may hold either of the plans of two files. The first file that has no accepted plan gives the
+/// answer.
 #[tactic(auto, unfolding(crate::specs::Change::old_word, crate::specs::Change::new_word))]
 pub fn change<F: Files, K: Sink>(
     alloc: Global,
@@ -84,8 +85,8 @@ pub fn change<F: Files, K: Sink>(
     }
 }
 
-/// The plan of a file, where it is accepted, which a line behind this word tells. What else comes of the file is told behind the
-/// word, and is the answer of the command.
+/// The plan of a file, if it is accepted, which a line after this word reports. Any other outcome is printed after the word,
+/// and is the answer of the command.
 fn with_accepted<F: Files, K: Sink>(
     alloc: Global,
     word: &[u8],
@@ -127,14 +128,14 @@ fn with_accepted<F: Files, K: Sink>(
     }
 }
 
-/// The verdict on a plan, and what is told of it.
+/// The verdict on a plan, and its text.
 #[derive(Drop)]
 struct Judged {
     verdict: Verdict,
     line: Octets,
 }
 
-/// The verdict on a plan, and what is told of it behind a word.
+/// The verdict on a plan, and its text after a word.
 fn verdict_behind(alloc: Global, word: &[u8], plan: Plan) -> Result<Judged, OutOfMemory>
     requires { IsPlan plan }
     ensures lawful { IfOk result (λ j. IsLawful plan j.verdict) }
@@ -151,7 +152,7 @@ fn verdict_behind(alloc: Global, word: &[u8], plan: Plan) -> Result<Judged, OutO
     }
 }
 
-/// What is told of a plan behind a word.
+/// The text on a verdict, after a word.
 fn told_behind(alloc: Global, word: &[u8], verdict: &Verdict) -> Result<Octets, OutOfMemory>
     requires plan { IsPlan (plan_of verdict.now) }
     requires lawful { IsLawful (plan_of verdict.now) verdict.now }
@@ -161,7 +162,7 @@ fn told_behind(alloc: Global, word: &[u8], verdict: &Verdict) -> Result<Octets, 
     behind(alloc, word, text.as_slice())
 }
 
-/// The line on a text that is no plan, behind a word.
+/// The line on a text that is no plan, after a word. Want of memory has no line.
 fn bad_plan_behind(alloc: Global, word: &[u8], fault: &PlanFault) -> Result<Octets, OutOfMemory>
     ensures line { IfOk result (λ line. line ≡ word.now ++ bad_plan fault.now) }
     ensures told { OnOk result (is_memory fault.now ≡ false) }
@@ -170,7 +171,7 @@ fn bad_plan_behind(alloc: Global, word: &[u8], fault: &PlanFault) -> Result<Octe
     behind(alloc, word, text.as_slice())
 }
 
-/// A text behind a word.
+/// A text after a word.
 fn behind(alloc: Global, word: &[u8], text: &[u8]) -> Result<Octets, OutOfMemory>
     ensures { IfOk result (λ all. all ≡ word.now ++ text.now) }
 {
@@ -179,7 +180,7 @@ fn behind(alloc: Global, word: &[u8], text: &[u8]) -> Result<Octets, OutOfMemory
     Ok(Octets::from_vec(all))
 }
 
-/// What is told of a plan: of an accepted one its bound, and of another the whole text of the verdict.
+/// The text on a verdict: of an accepted plan its bound, and of another the whole text of the verdict.
 fn told(alloc: Global, verdict: &Verdict) -> Result<Octets, OutOfMemory>
     requires plan { IsPlan (plan_of verdict.now) }
     requires lawful { IsLawful (plan_of verdict.now) verdict.now }

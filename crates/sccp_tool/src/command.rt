@@ -19,7 +19,7 @@ use sccp_base::{Octets, OutOfMemory};
 use sccp_replay::Workers;
 use std::alloc::Global;
 
-/// What the words ask for.
+/// What the words ask for, one variant a command.
 #[derive(Drop)]
 pub enum Command<'a> {
     /// To show the message of these octets.
@@ -30,23 +30,23 @@ pub enum Command<'a> {
     Verify(&'a str),
     /// To follow a title under the plan of the file of this name.
     Route(&'a str, Start),
-    /// To replay the trace of the second file under the plan of the first one, with so many workers.
+    /// To replay the trace of the second file under the plan of the first one, with this number of workers.
     Replay(&'a str, &'a str, Workers),
-    /// To make a plan and so many messages from a number, and to count what becomes of them, with so many workers.
+    /// To make a plan and messages from a number, and to count how they end: the number, how many messages, the workers.
     Load(u32, u32, Workers),
     /// To show every cut of the message of these octets.
     Cuts(Octets),
     /// To make a trace of the second file under the plan of the first one.
     Import(&'a str, &'a str),
-    /// To tell whether relays may hold either of the plans of the files of these names, the old one and the new one.
+    /// To say whether relays may hold either of the plans of the files of these names, the old one and the new one.
     Change(&'a str, &'a str),
-    /// To make one connection over the relays of the plan of the file of this name, and to tell what comes of it.
+    /// To make one connection over the relays of the plan of the file of this name, and to report its outcome.
     Connect(&'a str, Calling),
-    /// To tell what becomes of octets at a relay of the plan of the file of this name, and to cut a long message that leaves it.
+    /// To print what becomes of octets at a relay of the plan of the file of this name, a long message in segments.
     SendOn(&'a str, Incoming),
 }
 
-/// What the words ask for, or none where they have none of the shapes.
+/// What the words ask for, or none if they have none of the shapes.
 pub fn parse(alloc: Global, words: &[String]) -> Result<Option<Command<'_>>, OutOfMemory>
     ensures { IfOk result (λ command. task_in command ≡ task_of (texts words.now)) }
 {
@@ -56,7 +56,7 @@ pub fn parse(alloc: Global, words: &[String]) -> Result<Option<Command<'_>>, Out
     }
 }
 
-/// The command of that name with these words behind it.
+/// The command of that name with these words after it.
 #[tactic(auto, unfolding(crate::specs::Commands::command_of))]
 fn command_of<'a>(
     alloc: Global,
@@ -82,7 +82,7 @@ fn command_of<'a>(
     }
 }
 
-/// The same, of the commands that stand behind those.
+/// The same, of the commands that follow those.
 #[tactic(auto, unfolding(crate::specs::Commands::further_command_of))]
 fn further_command_of<'a>(
     alloc: Global,

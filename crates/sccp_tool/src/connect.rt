@@ -29,8 +29,8 @@ use trace_text::{is_file_name, octets_of};
 /// The line on an end whose point is a node's.
 const END_IS_NODE: &[u8] = b"end is a node\n";
 
-/// The title that is called and the name of the relay that the request goes to, the point of the end that calls it, and the
-/// octets that are sent over the connection.
+/// The connection that is asked for: the called title and the relay that the request goes to, the point of the calling end,
+/// and the octets that are sent.
 #[derive(Drop)]
 pub struct Calling {
     pub start: Start,
@@ -38,7 +38,7 @@ pub struct Calling {
     pub octets: Octets,
 }
 
-/// Its words: `PLAN NODE FROM SELECTOR SSN DIGITS HEX`.
+/// The command of the words `PLAN NODE FROM SELECTOR SSN DIGITS HEX`, or none if they have another shape.
 #[tactic(auto, unfolding(crate::specs::Connect::connect_words))]
 pub fn connect_words(alloc: Global, words: &[String]) -> Result<Option<Command<'_>>, OutOfMemory>
     ensures { IfOk result (λ command. task_in command ≡ connect_words (texts words.now)) }
@@ -81,7 +81,7 @@ fn connect_of<'a>(
     }
 }
 
-/// What six words spell, or none where one of them has not its form.
+/// What six words spell, or none if one of them does not have its form.
 #[tactic(auto, unfolding(crate::specs::Connect::calling_of))]
 fn calling_of(
     alloc: Global,
@@ -113,14 +113,14 @@ fn calling_of(
     }
 }
 
-/// Whether the title is of kind 2, which can't say that its number of digits is odd, and has such a number.
+/// Whether the title is of kind 2, which cannot say that its number of digits is odd, and has such a number.
 fn is_unsaid(start: &Start) -> bool
     ensures { result ≡ is_unsaid start.now }
 {
     start.selector.kind() == 2 && start.digits.as_slice().len() % 2 == 1
 }
 
-/// Makes a connection over the relays of the plan of a file, which is verified before, and prints what comes of it.
+/// Makes a connection over the relays of the plan of a file, which is verified first, and prints the outcome.
 pub fn connect<F: Files, K: Sink>(
     alloc: Global,
     name: &str,
@@ -137,7 +137,7 @@ pub fn connect<F: Files, K: Sink>(
     connect_judged(alloc, verdict, calling, out)
 }
 
-/// What follows the verdict on the plan.
+/// Does what follows the verdict on the plan.
 fn connect_judged<K: Sink>(
     alloc: Global,
     verdict: Verdict,
@@ -161,7 +161,7 @@ fn connect_judged<K: Sink>(
     }
 }
 
-/// The plan was accepted.
+/// Makes the connection over a plan that was accepted, and prints its outcome.
 fn connect_accepted<K: Sink>(
     alloc: Global,
     plan: Plan,
@@ -175,7 +175,7 @@ fn connect_accepted<K: Sink>(
     print_last(out, text.as_slice(), Status::Done)
 }
 
-/// What comes of the connection, or the line that no node has the name or that a node has the end's point.
+/// The outcome of the connection, or the line that no node has the name or that a node has the end's point.
 #[tactic(auto, unfolding(crate::specs::Texts::unknown_node, crate::specs::Connect::end_is_node))]
 fn connect_text(alloc: Global, plan: Plan, calling: &Calling) -> Result<Octets, OutOfMemory>
     ensures { IfOk result (λ text. text ≡ connect_text plan calling.now) }
@@ -193,7 +193,7 @@ fn connect_text(alloc: Global, plan: Plan, calling: &Calling) -> Result<Octets, 
     }
 }
 
-/// What comes of the connection.
+/// The outcome of the connection.
 fn call_text(alloc: Global, plan: Plan, node: u8, calling: &Calling) -> Result<Octets, OutOfMemory>
     requires { node < length plan.nodes }
     ensures { IfOk result (λ text. text ≡ call_text plan node calling.now) }
@@ -226,7 +226,7 @@ fn call_of(alloc: Global, plan: &Plan, node: u8, calling: &Calling) -> Result<Ca
     })
 }
 
-/// A subsystem number, where there is one.
+/// A subsystem number, if there is one.
 fn ssn_in(ssn: u8) -> Option<u8>
     ensures { result ≡ ssn_in ssn }
 {
@@ -284,7 +284,7 @@ fn put_names(text: &mut Text, names: &[Name]) -> Result<(), OutOfMemory>
     }
 }
 
-/// Appends names behind a comma each.
+/// Appends names, each after a comma.
 fn put_next_names(text: &mut Text, names: &[Name]) -> Result<(), OutOfMemory>
     ensures { OnOk result (text.new ≡ text.old ++ flat_map next_name names.now) }
 {

@@ -14,7 +14,7 @@ use sccp_work::{Status, Stop, print_last};
 use std::alloc::Global;
 use trace_text::octets_of;
 
-/// Its word: `HEX`, the octets of the message.
+/// The command of the word `HEX`, the octets of the message; none if the words have another shape.
 #[tactic(auto, unfolding(crate::specs::Cuts::cuts_words))]
 pub fn cuts_words(alloc: Global, words: &[String]) -> Result<Option<Command<'_>>, OutOfMemory>
     ensures { IfOk result (λ command. task_in command ≡ cuts_words (texts words.now)) }

@@ -14,7 +14,7 @@ use sccp_work::{Opened, Status, Stop, bad_line, print_last, with_plan, within_li
 use std::alloc::{AllocError, Global};
 use trace_text::is_file_name;
 
-/// Its words: `PLAN FILE`.
+/// The command of the words `PLAN FILE`, or none if they have another shape.
 #[tactic(auto, unfolding(crate::specs::Import::import_words))]
 pub fn import_words(words: &[String]) -> Option<Command<'_>>
     ensures { task_in result ≡ import_words (texts words.now) }
@@ -73,7 +73,7 @@ fn print_trace<F: Files, K: Sink>(
     print_last(out, &text, status)
 }
 
-/// The answer and the text for a file of these octets: its trace or, where a line has a fault, that fault alone.
+/// The answer and the text for a file of these octets: its trace or, if a line has a fault, only that fault.
 fn import_answer(alloc: Global, plan: &Plan, octets: &[u8]) -> Result<(Status, Vec<u8>), AllocError>
     ensures { IfOk result (λ answer. (answer.0, answer.1.items) ≡ import_answer plan.now octets.now) }
 {

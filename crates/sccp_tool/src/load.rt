@@ -24,7 +24,7 @@ use sccp_work::{Status, Stop, print_last, tell_verdict};
 use std::alloc::Global;
 use std::thread::Threads;
 
-/// Its words: `NUMBER SIZE WORKERS`.
+/// The command of the words `NUMBER SIZE WORKERS`, or none if they have another shape.
 #[tactic(auto, unfolding(crate::specs::Load::load_words))]
 pub fn load_words(words: &[String]) -> Option<Command<'_>>
     ensures { task_in result ≡ load_words (texts words.now) }
@@ -48,7 +48,7 @@ fn load_of<'a>(number: &str, size: &str, workers: &str) -> Option<Command<'a>>
     }
 }
 
-/// One to ten decimal digits that spell a number up to the given one.
+/// The number that one to ten decimal digits spell, if it is at most the given one.
 fn number_to(word: &[u8], most: u32) -> Option<u32>
     ensures { result ≡ number_to most word.now }
 {
@@ -64,8 +64,8 @@ fn number_to(word: &[u8], most: u32) -> Option<u32>
     }
 }
 
-/// Makes the plan of a number, sends so many messages over its relays where it is accepted, and prints the counts, which are
-/// the same for each number of workers. It comes to no file, so the clause speaks of whatever the files tell.
+/// Makes the plan of a number, sends this number of messages over its relays if it is accepted, and prints the counts. They
+/// are the same for each number of workers. No file is read, so the clause speaks of any files.
 pub fn load<R: Threads + Sync, K: Sink>(
     rt: &R,
     alloc: Global,
@@ -85,7 +85,7 @@ pub fn load<R: Threads + Sync, K: Sink>(
     loaded
 }
 
-/// What follows the verdict on the plan.
+/// Does what follows the verdict on the plan.
 fn load_judged<R: Threads + Sync, K: Sink>(
     rt: &R,
     alloc: Global,
@@ -110,7 +110,7 @@ fn load_judged<R: Threads + Sync, K: Sink>(
     }
 }
 
-/// The plan was accepted: the messages are sent, and the counts printed.
+/// Sends the messages over a plan that was accepted, and prints the counts.
 fn load_accepted<R: Threads + Sync, K: Sink>(
     rt: &R,
     alloc: Global,

@@ -1,4 +1,4 @@
-//! The whole program but for its edge.
+//! The whole program, without its edge.
 ghost use Rattle.std.specs.Prelude.{◌≡◌, ◌≢◌, ◌<◌, ◌-◌, ◌^◌, IsTrue, IfSome, Some, None, Err};
 ghost use Rattle.sccp_io.specs.Faults.{Rose};
 ghost use Rattle.sccp_tool.specs.Commands.{task_of, texts};
@@ -46,11 +46,11 @@ pub fn run<R: Threads + Wait + Sync, F: Files, K: Sink>(
         (moment F.contents F.sound F.faults K.taken K.faults files.old out.old)
         (moment F.contents F.sound F.faults K.taken K.faults files.new out.new) }
 
-    // What the text tells of a plan, of two plans, or of a file of DATA messages.
+    // What the text says of a plan, of two plans, or of a file of DATA messages.
     ensures tells { IfSome (F.contents files.old)
         (λ c. TellsAnswer c (task_of (texts words.now)) result (K.taken out.old) (K.taken out.new)) }
 
-    // Where each message of a replay went.
+    // The journey of each message of a replay.
     ensures journeys { IfSome (F.contents files.old)
         (λ c. TellsJourneys c (task_of (texts words.now)) result (K.taken out.old) (K.taken out.new)) }
 
@@ -72,7 +72,7 @@ pub fn run<R: Threads + Wait + Sync, F: Files, K: Sink>(
         (λ c. ComesWhere Status.OtherNodes result (Cause c (task_of (texts words.now)) Status.OtherNodes) (SureCause c (task_of (texts words.now)) Status.OtherNodes)) }
     ensures read_fault { result ≡ Status.ReadFault → Rose (F.faults files.old) (F.faults files.new) }
     ensures write_fault { result ≡ Status.WriteFault → Rose (K.faults out.old) (K.faults out.new) }
-    // Sound files that have each file which the work comes to don't fail.
+    // Sound files that have each file which the work may read do not fail.
     ensures sound { IsTrue (F.sound files.old) → IfSome (F.contents files.old) (λ c. HasFiles c (work_of (task_of (texts words.now)))
         → (F.faults files.new ≡ F.faults files.old) × (F.faults files.old < 2 ^ 64 - 1 → result ≢ Status.ReadFault)) }
     // Nor do those that have each file which the words name, or a line of the trace as a later plan.
@@ -82,8 +82,8 @@ pub fn run<R: Threads + Wait + Sync, F: Files, K: Sink>(
     run_gated(rt, alloc, words, files, out, &OpenGate)
 }
 
-/// Does what `run` does, and tells the gate of the course of each batch, as for a test that lets the workers wait for each
-/// other. With one worker the gate is told nothing.
+/// Does what `run` does, and informs the gate of the course of each batch. A test uses it to let the workers wait for each
+/// other. With one worker the gate hears nothing.
 pub fn run_gated<R: Threads + Wait + Sync, F: Files, K: Sink, G: Gate + Sync>(
     rt: &R,
     alloc: Global,
@@ -97,11 +97,11 @@ pub fn run_gated<R: Threads + Wait + Sync, F: Files, K: Sink, G: Gate + Sync>(
         (moment F.contents F.sound F.faults K.taken K.faults files.old out.old)
         (moment F.contents F.sound F.faults K.taken K.faults files.new out.new) }
 
-    // What the text tells of a plan, of two plans, or of a file of DATA messages.
+    // What the text says of a plan, of two plans, or of a file of DATA messages.
     ensures tells { IfSome (F.contents files.old)
         (λ c. TellsAnswer c (task_of (texts words.now)) result (K.taken out.old) (K.taken out.new)) }
 
-    // Where each message of a replay went.
+    // The journey of each message of a replay.
     ensures journeys { IfSome (F.contents files.old)
         (λ c. TellsJourneys c (task_of (texts words.now)) result (K.taken out.old) (K.taken out.new)) }
 
@@ -123,7 +123,7 @@ pub fn run_gated<R: Threads + Wait + Sync, F: Files, K: Sink, G: Gate + Sync>(
         (λ c. ComesWhere Status.OtherNodes result (Cause c (task_of (texts words.now)) Status.OtherNodes) (SureCause c (task_of (texts words.now)) Status.OtherNodes)) }
     ensures read_fault { result ≡ Status.ReadFault → Rose (F.faults files.old) (F.faults files.new) }
     ensures write_fault { result ≡ Status.WriteFault → Rose (K.faults out.old) (K.faults out.new) }
-    // Sound files that have each file which the work comes to don't fail.
+    // Sound files that have each file which the work may read do not fail.
     ensures sound { IsTrue (F.sound files.old) → IfSome (F.contents files.old) (λ c. HasFiles c (work_of (task_of (texts words.now)))
         → (F.faults files.new ≡ F.faults files.old) × (F.faults files.old < 2 ^ 64 - 1 → result ≢ Status.ReadFault)) }
     // Nor do those that have each file which the words name, or a line of the trace as a later plan.
@@ -198,7 +198,7 @@ fn close<K: Sink>(worked: Result<Status, Stop>, out: &mut K) -> Status
     }
 }
 
-/// The answer where the work ended early. A fault of the files is told by a line of its own.
+/// The answer if the work ended early. For a fault of the files a line of its own is printed.
 fn tell<K: Sink>(stop: Stop, out: &mut K) -> Status
     ensures { Closes (Err stop) result (K.taken out.old) (K.taken out.new) (K.faults out.old) (K.faults out.new) }
 {
@@ -210,7 +210,7 @@ fn tell<K: Sink>(stop: Stop, out: &mut K) -> Status
     }
 }
 
-/// The answer that a result stands for.
+/// The answer that a result means.
 fn answer_of(worked: Result<Status, Stop>) -> Status
     ensures { result ≡ answer_of worked }
 {

@@ -8,7 +8,7 @@ use crate::command::Command;
 use sccp_replay::Workers;
 use trace_text::is_file_name;
 
-/// Its words: `PLAN TRACE WORKERS`.
+/// The command of the words `PLAN TRACE WORKERS`, or none if they have another shape.
 #[tactic(auto, unfolding(crate::specs::Replay::replay_words))]
 pub fn replay_words(words: &[String]) -> Option<Command<'_>>
     ensures { task_in result ≡ replay_words (texts words.now) }

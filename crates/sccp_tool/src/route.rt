@@ -23,7 +23,7 @@ pub const UNKNOWN_NODE: &[u8] = b"unknown node\n";
 /// How many hops are followed.
 const MOST_HOPS: u8 = 15;
 
-/// Its words: `PLAN NODE SELECTOR SSN DIGITS`.
+/// The command of the words `PLAN NODE SELECTOR SSN DIGITS`, or none if they have another shape.
 #[tactic(auto, unfolding(crate::specs::Route::route_words))]
 pub fn route_words(words: &[String]) -> Option<Command<'_>>
     ensures { task_in result ≡ route_words (texts words.now) }
@@ -91,7 +91,7 @@ fn route_text(alloc: Global, plan: &Plan, start: &Start) -> Result<Octets, OutOf
     }
 }
 
-/// The spot of a title at a node.
+/// A title at a node.
 fn spot_at(start: &Start, node: u8) -> Spot
     ensures { result ≡ spot_at start.now node }
 {
@@ -103,7 +103,7 @@ fn spot_at(start: &Start, node: u8) -> Spot
     }
 }
 
-/// Up to fifteen hops from a spot.
+/// Up to fifteen hops of a title from its node.
 fn hops_from(alloc: Global, plan: &Plan, spot: Spot) -> Result<Octets, OutOfMemory>
     requires sound { IsPlan plan.now }
     requires node { spot.node < length plan.now.nodes }

@@ -6,11 +6,11 @@ ghost use Rattle.plan_model.specs.Network.{IsPlan};
 ghost use Rattle.sccp_message.specs.Reading.{reading};
 ghost use Rattle.sccp_message.specs.declared.fault.DecodeFault.{DecodeFault};
 ghost use Rattle.sccp_message.specs.declared.message.Message.{Message};
+ghost use Rattle.sccp_message.specs.Unitdata.{called_of};
 ghost use Rattle.sccp_report.specs.MessageText.{undecodable_line};
 ghost use Rattle.sccp_report.specs.Hops.{marks_text};
 ghost use Rattle.sccp_report.specs.Values.{numbered, point_code_text};
 ghost use Rattle.sccp_scrc.specs.Arriving.{arrival};
-ghost use Rattle.sccp_scrc.specs.Unitdata.{called_of};
 ghost use Rattle.sccp_tool.specs.Commands.{texts};
 ghost use Rattle.sccp_work.specs.Ending.{Works};
 ghost use Rattle.sccp_work.specs.Moment.{moment};
@@ -32,7 +32,7 @@ use trace_text::{is_file_name, octets_of};
 /// The reference of segments of a message that has none of its own.
 const GIVEN_REFERENCE: u32 = 1;
 
-/// Octets that come to the node of a name, and how many octets of data a segment of a long message may have.
+/// Octets that arrive at the node of a name, and how many octets of data a segment of a long message may have.
 #[derive(Drop)]
 pub struct Incoming {
     pub node: Name,
@@ -41,7 +41,7 @@ pub struct Incoming {
     pub octets: Octets,
 }
 
-/// Its words: `PLAN NODE ORIGIN SIZE HEX`.
+/// The command of the words `PLAN NODE ORIGIN SIZE HEX`, or none if they have another shape.
 #[tactic(auto, unfolding(crate::specs::SendOn::send_on_words))]
 pub fn send_on_words(alloc: Global, words: &[String]) -> Result<Option<Command<'_>>, OutOfMemory>
     ensures { IfOk result (λ command. task_in command ≡ send_on_words (texts words.now)) }
@@ -80,7 +80,7 @@ fn send_on_of<'a>(
     }
 }
 
-/// What four words spell, or none where one of them has not its form.
+/// What four words spell, or none if one of them does not have its form.
 #[tactic(auto, unfolding(crate::specs::SendOn::incoming_of))]
 fn incoming_of(
     alloc: Global,
@@ -121,8 +121,8 @@ fn size_of(word: &[u8]) -> Option<u8>
     }
 }
 
-/// Prints what becomes of octets at a relay of the plan of a file, which is read and not verified. A long message that
-/// leaves the relay leaves it in segments.
+/// Prints what becomes of octets at a relay of the plan of a file, which is read and not verified. A long message that leaves
+/// the relay leaves it in segments.
 pub fn send_on<F: Files, K: Sink>(
     alloc: Global,
     name: &str,
@@ -233,7 +233,7 @@ fn put_segments(text: &mut Text, pc: PointCode, segments: &[Octets]) -> Result<(
     Ok(())
 }
 
-/// Appends the line of octets that aren't cut, or why they can't be. Want of memory says nothing of them, and has no line.
+/// Appends the line of octets that are not cut, or why they cannot be. Want of memory says nothing of them, and has no line.
 #[tactic(auto, unfolding(crate::specs::SendOn::uncut_lines))]
 fn put_uncut(
     text: &mut Text,
@@ -287,7 +287,7 @@ fn put_local(text: &mut Text, ssn: u8) -> Result<(), OutOfMemory>
     text.put(b"\n")
 }
 
-/// Appends the line of a message that can't be delivered. Where nothing is prohibited no mark closes its way.
+/// Appends the line of a message that cannot be delivered. While nothing is prohibited no mark closes its way.
 #[tactic(auto, unfolding(sccp_report::specs::Hops::marks_text))]
 fn put_returned(text: &mut Text, cause: u8) -> Result<(), OutOfMemory>
     ensures { OnOk result (text.new ≡ text.old ++ numbered (codes "returned ") cause ++ codes " marks " ++ marks_text [] ++ codes "\n") }

@@ -16,7 +16,7 @@ use sccp_work::{Opened, Status, Stop, bad_line, print_last, within_limit};
 use std::alloc::{AllocError, Global};
 use trace_text::{LineFault, LineKind, content, first_line, is_file_name, octets_of};
 
-/// Why a line isn't shown.
+/// Why a line is not shown.
 #[derive(Clone, Copy)]
 enum ShowError {
     Memory,
@@ -39,7 +39,7 @@ impl From<OutOfMemory> for ShowError {
     }
 }
 
-/// Its word: `FILE`.
+/// The command of the word `FILE`, or none if the words have another shape.
 #[tactic(auto, unfolding(crate::specs::Show::show_words))]
 pub fn show_words(words: &[String]) -> Option<Command<'_>>
     ensures { task_in result ≡ show_words (texts words.now) }
@@ -72,7 +72,7 @@ pub fn show<F: Files, K: Sink>(
     print_last(out, &text, status)
 }
 
-/// The answer and the text for a file of these octets: all its messages or, where a line has a fault, that fault alone.
+/// The answer and the text for a file of these octets: all its messages or, if a line has a fault, only that fault.
 fn show_answer(alloc: Global, octets: &[u8]) -> Result<(Status, Vec<u8>), AllocError>
     ensures { IfOk result (λ answer. (answer.0, answer.1.items) ≡ show_answer octets.now) }
 {

@@ -1,10 +1,10 @@
-//! Where a route begins.
+//! The start of a route: a title at a node.
 ghost use Rattle.std.specs.Prelude.{◌≡◌};
 ghost use Rattle.sccp_tool.specs.Starts.{ssn_of, digits_word, title_digits, start_of};
 
 use sccp_base::{Digits, Name, Selector, decimal};
 
-/// A title, and the name of the node where it is.
+/// A title, and the name of the node that it is at.
 #[derive(Clone, Copy)]
 pub struct Start {
     pub node: Name,
@@ -13,7 +13,7 @@ pub struct Start {
     pub digits: Digits,
 }
 
-/// The start that four words spell, or none where one of them has not its form.
+/// The start that four words spell, or none if one of them does not have its form.
 #[tactic(auto, unfolding(crate::specs::Starts::start_of))]
 pub fn start_of(node: &str, selector: &str, ssn: &str, digits: &str) -> Option<Start>
     ensures { result ≡ start_of node.now selector.now ssn.now digits.now }
@@ -40,7 +40,7 @@ fn ssn_of(word: &[u8]) -> Option<u8>
     }
 }
 
-/// The word that spells the digits: a hyphen stands for the empty one.
+/// The word that spells the digits: a hyphen means the empty one.
 fn digits_word(word: &str) -> &str
     ensures { result.now ≡ digits_word word.now }
 {

@@ -12,7 +12,7 @@ use sccp_work::{Status, Stop, tell_verdict, with_plan};
 use std::alloc::Global;
 use trace_text::is_file_name;
 
-/// Its word: `PLAN`.
+/// The command of the word `PLAN`, or none if the words have another shape.
 #[tactic(auto, unfolding(crate::specs::Verify::verify_words))]
 pub fn verify_words(words: &[String]) -> Option<Command<'_>>
     ensures { task_in result ≡ verify_words (texts words.now) }

@@ -71,7 +71,7 @@ if_bad c name on s (good h) has =
     let g = at_file c name (λ octets. (plan : Network) × (plan_of octets ≡ Ok plan) × on plan s) (λ octets. IsErr (plan_of octets)) h has in
     absurd (not_both (plan_of has.0) (ap is_ok g.1) has.3)
 
--- a plan that reads is gone on with
+-- with a plan that reads the command goes on
 pub if_plan : (c : Contents) (name : List ℕ) (on : Network → Status → Type 0) (s : Status) → PlanEnds (Some c) name on s → (has : HasFile (Some c) name (λ octets. IsOk (plan_of octets)))
     → (plan : Network) × (plan_of has.0 ≡ Ok plan) × on plan s
 if_plan c name on TooLong (long h) has = absurd (not_long c name (λ octets. IsOk (plan_of octets)) has h)

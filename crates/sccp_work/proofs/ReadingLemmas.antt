@@ -50,7 +50,7 @@ whole_read name octets (Some c) None present split end = absurd (false_none (c n
   false_none (Some x) e h = cc
 whole_read name octets (Some c) (Some rest) present split end = sym split ∙ ap Some (ap (λ l. octets ++ l) end ∙ append-nil octets)
 
--- a file that begins with so many octets has as many
+-- a file that begins with a number of octets has as many
 pub more_read : (name octets : List ℕ) (contents : Option Contents) (left : Option (List ℕ)) (limit : ℕ) → lacks contents name ≡ false → prepend_known octets left ≡ whole contents name → limit < length octets
     → (all : List ℕ) × Reads contents name all × (limit < length all)
 more_read name octets None left limit present split long = (octets, tt, long)

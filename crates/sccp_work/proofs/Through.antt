@@ -8,7 +8,8 @@ use Rattle.sccp_work.specs.Numbers.{AreNumbers}
 use Rattle.sccp_work.specs.Work.{Work, finish, print, read, read_on, judge, mix, serve, IsJudged, IsCompared, Ends, ComesToReading, BeginsWith}
 use Rattle.sccp_work.specs.declared.status.Status.{Status}
 
--- behind what was written before: one thing holds of the whole where the work ends with an answer, one of what stands before each reading, and one of each front
+-- After what was written before: one thing holds of the whole if the work ends with an answer. Another holds of what is
+-- before each reading, and a third of each front.
 abbrev pub Through : (ends : Status → List ℕ → Type 0) (reads fronts : List ℕ → Type 0) (k : Option Contents) → Work → List ℕ → Type 0
 Through ends reads fronts k (finish s) acc = ends s acc
 Through ends reads fronts k (print t w) acc = ((front : List ℕ) → StartsWith t front → fronts (acc ++ front)) × Through ends reads fronts k w (acc ++ t)

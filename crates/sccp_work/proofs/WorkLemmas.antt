@@ -62,7 +62,7 @@ BeginsWith-nil contents (mix old new f) = inl refl
 BeginsWith-nil contents (read_on w) = BeginsWith-nil contents w
 BeginsWith-nil contents (serve batch f) = inl refl
 
--- ---- want of memory before anything else
+-- want of memory before any work
 
 pub Works-memory : (work : Work) (m : Moment) → Works work (Err Memory) m m
 Works-memory work m = record {
@@ -119,7 +119,7 @@ there : (o : Option (List ℕ)) (xs : List ℕ) → o ≡ Some xs → is_none o 
 there None xs e = cc
 there (Some ys) xs e = refl
 
--- sound files that have the file don't fail at it, nor after it
+-- sound files that have the file do not fail at it, nor after it
 spared_read : (name : List ℕ) (f : List ℕ → Work) (octets : List ℕ) (b m a : Moment) → Moved b m → (IsTrue b.sound → lacks b.contents name ≡ false → m.read_faults ≡ b.read_faults)
     → Reads b.contents name octets → IsSpared (f octets) m a → IsSpared (read name f) b a
 spared_read name f octets b m a p spared reads rest = λ h. at b.contents refl h where
@@ -205,7 +205,7 @@ Works-read_on w result b m a p spared h = record {
       let more' : IfSome (Some c) (λ d. HasFiles d w → a.read_faults ≡ m.read_faults) = subst (λ k. IfSome k (λ d. HasFiles d w → a.read_faults ≡ m.read_faults)) (p.contents ∙ e) more in
       more' has ∙ spared sound
 
--- the file that is open failed, or memory ran out at it; a sound file doesn't fail there
+-- the file that is open failed, or memory ran out at it; a sound file does not fail there
 pub Works-read_on-stopped : (w : Work) (stop : Stop) (b m : Moment) → Moved b m → (IsTrue b.sound → m.read_faults ≡ b.read_faults) → (stop ≡ Read → Rose b.read_faults m.read_faults) → (stop ≡ Write → ⊥)
     → ((s : Status) → stop ≡ Answered s → ⊥) → Works (read_on w) (Err stop) b m
 Works-read_on-stopped w stop b m p spared failed no_writing no_answer = record {
@@ -246,7 +246,7 @@ Works-moved w result b m a p spared h = record {
       let more' : IfSome (Some c) (λ d. HasFiles d w → a.read_faults ≡ m.read_faults) = subst (λ k. IfSome k (λ d. HasFiles d w → a.read_faults ≡ m.read_faults)) (p.contents ∙ e) more in
       more' has ∙ spared sound
 
--- an open file failed before anything more was written, and the work comes to a reading so
+-- an open file failed before anything more was written, and so the work reaches a reading
 pub Works-failed : (w : Work) (stop : Stop) (b m : Moment) → Moved b m → (IsTrue b.sound → m.read_faults ≡ b.read_faults) → ComesToReading b.contents w [] → (stop ≡ Read → Rose b.read_faults m.read_faults) → (stop ≡ Write → ⊥)
     → ((s : Status) → stop ≡ Answered s → ⊥) → Works w (Err stop) b m
 Works-failed w stop b m p spared comes failed no_writing no_answer = record {

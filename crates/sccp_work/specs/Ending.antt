@@ -21,7 +21,7 @@ pub record Goes (before after : Moment) (text : List ℕ) : Type 0 where
   -- the sink took this text
   pub taken : after.taken ≡ append_known before.taken text
 
--- sound files that have each file which the work comes to don't fail
+-- sound files that have each file which the work may read do not fail
 abbrev pub IsSpared : Work → Moment → Moment → Type 0
 IsSpared work before after = IsTrue before.sound → IfSome before.contents (λ c. HasFiles c work → after.read_faults ≡ before.read_faults)
 
@@ -47,7 +47,8 @@ pub record Works (work : Work) (result : Result Status Stop) (before after : Mom
   pub stops : Stops work result text before after
   pub spared : IsSpared work before after
 
--- a front of what is written: of the work's own text or, where the files failed, of what is before a reading and the line on the fault
+-- A front of what is written: of the work's own text or, if the files failed, of what is before a reading and the line on
+-- the fault.
 abbrev pub IsCutShort : Work → List ℕ → Moment → Moment → Type 0
 IsCutShort work text before after =
     BeginsWith before.contents work text
@@ -81,7 +82,7 @@ answer_of (Err Read) = ReadFault
 answer_of (Err Write) = WriteFault
 answer_of (Err Memory) = NoMemory
 
--- A fault of the files is told by a last line; nothing else is written.
+-- For a fault of the files a last line is written, and otherwise nothing.
 abbrev pub Closes : Result Status Stop → Status → Option (List ℕ) → Option (List ℕ) → ℕ → ℕ → Type 0
 Closes (Err Read) answer taken taken' faults faults' =
     (last : Result Status Stop) × Writes read_fault last taken taken' faults faults' × IfOk last (λ s. s ≡ ReadFault) × (answer ≡ answer_of last)

@@ -26,7 +26,7 @@ HasFile contents name holds = (octets : List ℕ) × Reads contents name octets 
 abbrev pub HasLongFile : Option Contents → List ℕ → Type 0
 HasLongFile contents name = (octets : List ℕ) × Reads contents name octets × (1048576 < length octets)
 
--- Whatever the work that needs the file goes on with: from the octets it goes on, and else it has ended or stopped.
+-- Whatever the work that needs the file goes on with: from the octets it goes on, and otherwise it has ended or stopped.
 abbrev pub GivesWhole : List ℕ → Result (Vec ℕ Global) Stop → Moment → Moment → Type 0
 GivesWhole name (Ok octets) first now =
     (next : List ℕ → Work) (result : Result Status Stop) (after : Moment) → Works (next octets.items) result now after → Works (within_limit name next) result first after

@@ -1,4 +1,4 @@
--- A plan file that a command needs before anything else.
+-- A plan file that a command reads first of all.
 use Rattle.std.specs.Prelude.{◌≡◌, ℕ, List, ◌++◌, Option, Result, Ok, Err, IsOk, IsErr, codes}
 use Rattle.plan_model.specs.Network.{Network}
 use Rattle.plan_model.specs.declared.plan_fault.PlanFault.{PlanFault}
@@ -41,7 +41,7 @@ TextCause contents name BadPlan = HasBadPlan contents name
 TextCause contents name TooLong = HasLongFile contents name
 TextCause contents name answer = ⊥
 
--- Whatever the work that needs the plan goes on with: from the plan it goes on, and else it has ended or stopped.
+-- Whatever the work that needs the plan goes on with: from the plan it goes on, and otherwise it has ended or stopped.
 abbrev pub GivesPlan : List ℕ → Result Network Stop → Moment → Moment → Type 0
 GivesPlan name (Ok plan) first now =
     (next : Network → Work) (result : Result Status Stop) (after : Moment) → Works (next plan) result now after → Works (with_plan name next) result first after

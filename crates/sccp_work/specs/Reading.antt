@@ -14,12 +14,13 @@ abbrev pub reading_stop : IoFault → Stop
 reading_stop Failed = Read
 reading_stop OutOfMemory = Memory
 
--- the octets of the file, or none where it has more than the limit
+-- the octets of the file, or none if it has more than the limit
 abbrev pub GivesFile : Option Contents → List ℕ → ℕ → Option (Vec ℕ Global) → Type 0
 GivesFile contents name limit (Some octets) = Reads contents name octets.items × (length octets.items ≤ limit)
 GivesFile contents name limit None = (octets : List ℕ) × Reads contents name octets × (limit < length octets)
 
--- the file was read, or `Read` came, which comes only where the count of faults rose, and for sound files only where they lack the file
+-- The file was read, or `Read` is the result. `Read` is given only if the count of faults rose, and for sound files only if
+-- they lack the file.
 pub record ReadsFile (name : List ℕ) (limit : ℕ) (result : Result (Option (Vec ℕ Global)) Stop) (contents contents' : Option Contents) (sound sound' : Bool) (faults faults' : ℕ) : Type 0 where
   pub gives : IfOk result (GivesFile contents name limit)
   pub same : contents' ≡ contents

@@ -2,6 +2,7 @@
 use Rattle.std.specs.Prelude.{◌≡◌, ℕ, List, Option}
 use Rattle.std.specs.Io.KnownBytes.{append_known}
 use Rattle.plan_classes.specs.Classes.{ReachesAtLeast}
+use Rattle.plan_model.specs.Limits.{most_classes}
 use Rattle.plan_model.specs.Network.{Network}
 use Rattle.plan_verify.specs.Lawful.{IsLawful, IsSafeFor}
 use Rattle.plan_verify.specs.Witnesses.{IsWitness}
@@ -25,9 +26,9 @@ IsSafe plan = (bound : ℕ) × IsSafeFor plan bound
 abbrev pub IsBad : Network → Type 0
 IsBad plan = (witness : Witness) × IsWitness plan witness
 
--- it reaches at least 262,144 classes
+-- it reaches the most classes that a search goes over, or more
 abbrev pub IsWide : Network → Type 0
-IsWide plan = ReachesAtLeast plan 262144
+IsWide plan = ReachesAtLeast plan most_classes
 
 -- an answer that a verdict gives
 abbrev pub IsOnVerdict : Status → Type 0
@@ -36,7 +37,7 @@ IsOnVerdict Refused = Unit {0}
 IsOnVerdict TooWide = Unit {0}
 IsOnVerdict answer = ⊥
 
--- an answer that tells that the plan isn't accepted
+-- an answer that the plan is not accepted
 abbrev pub IsOnRefusal : Status → Type 0
 IsOnRefusal Refused = Unit {0}
 IsOnRefusal TooWide = Unit {0}

@@ -1,4 +1,4 @@
--- What a call has to do, in the order in which it does it, and how far it can come.
+-- What a call has to do, in the order in which it does it, and how far it can get.
 use Rattle.std.specs.Prelude.{◌≡◌, ◌⊎◌, ℕ, List, [], ◌++◌, Option, Some}
 use Rattle.std.specs.Io.{StartsWith}
 use Rattle.plan_change.specs.Changes.{IsLawfulChange}
@@ -50,7 +50,7 @@ Ends contents (mix old new f) status text = (change : Change) × IsCompared old 
 Ends contents (read_on w) status text = Ends contents w status text
 Ends contents (serve batch f) status text = (numbers : List ℕ) × AreNumbers batch numbers × Ends contents (f numbers) status text
 
--- the work comes to the reading of a file, and this is all that it writes before it
+-- the work reaches the reading of a file, and this is all that it writes before it
 abbrev pub ComesToReading : Option Contents → Work → List ℕ → Type 0
 ComesToReading contents (finish s) text = ⊥
 ComesToReading contents (print t w) text = (rest : List ℕ) × (text ≡ t ++ rest) × ComesToReading contents w rest
@@ -73,7 +73,7 @@ BeginsWith contents (mix old new f) text = (text ≡ []) ⊎ ((change : Change) 
 BeginsWith contents (read_on w) text = BeginsWith contents w text
 BeginsWith contents (serve batch f) text = (text ≡ []) ⊎ ((numbers : List ℕ) × AreNumbers batch numbers × BeginsWith contents (f numbers) text)
 
--- each file that the work comes to is there, whatever the verdicts
+-- each file that the work may read is there, whatever the verdicts
 abbrev pub HasFiles : Contents → Work → Type 0
 HasFiles c (finish s) = Unit {0}
 HasFiles c (print t w) = HasFiles c w

@@ -7,7 +7,7 @@ use Rattle.sccp_work.specs.declared.status.Status.{Status}
 use Rattle.sccp_work.specs.declared.stop.Stop.{Stop}
 use Rattle.sccp_work.specs.declared.stop.Stop.TheVariants.{Answered, Read, Write}
 
--- the sink took a front of the text, at `Ok` all of it; `Write` comes only where its count of faults rose
+-- the sink took a front of the text, at `Ok` all of it; `Write` is given only if its count of faults rose
 pub record Writes {T : Type 0} (text : List ℕ) (result : Result T Stop) (taken taken' : Option (List ℕ)) (faults faults' : ℕ) : Type 0 where
   pub front : List ℕ
   pub begins : StartsWith text front

@@ -17,7 +17,7 @@ const TOO_LONG: &[u8] = b"too long\n";
 /// How many octets a file may have that a command needs whole.
 const LONGEST_FILE: usize = 1_048_576;
 
-/// Reads a whole file. One that is too long is told by a line, and that is the answer of the command.
+/// Reads a whole file. For one that is too long a line is printed, and that is the answer of the command.
 pub fn within_limit<F: Files, K: Sink>(
     alloc: Global,
     which: Opened,

@@ -14,7 +14,8 @@ pub enum Opened {
     Beside,
 }
 
-/// Opens the file of that name as this one of the two, at its first octet.
+/// Opens the file of that name as this one of the two, at its first octet. An error is a fault of the files or want of
+/// memory.
 pub fn begin<F: Files>(files: &mut F, which: Opened, name: &str) -> Result<(), IoFault>
     ensures begins { BeginsFile name.now result (F.contents files.old) (F.sound files.old)
         (this which (F.left files.old) (F.left_beside files.old)) (this which (F.left files.new) (F.left_beside files.new))
@@ -29,7 +30,8 @@ pub fn begin<F: Files>(files: &mut F, which: Opened, name: &str) -> Result<(), I
     }
 }
 
-/// Puts the next octets of this one of the two files at the front of the buffer, and answers their number.
+/// Puts the next octets of this one of the two files at the front of the buffer, and answers their number. It is 0 only at
+/// the end of the file.
 pub fn take<F: Files>(files: &mut F, which: Opened, buffer: &mut [u8]) -> Result<usize, IoFault>
     requires { 0 < length buffer.old }
     ensures takes { TakesNext buffer.new result (F.sound files.old)

@@ -1,4 +1,4 @@
-//! A plan file that a command needs before anything else.
+//! A plan file that a command reads first of all.
 ghost use Rattle.std.specs.Prelude.{◌≡◌, false, IfOk, OnOk};
 ghost use Rattle.plan_model.specs.Network.{IsPlan};
 ghost use Rattle.plan_text.specs.Faults.{is_memory};
@@ -16,7 +16,8 @@ use sccp_io::{Files, Sink};
 use sccp_report::plan_fault_text;
 use std::alloc::Global;
 
-/// Reads a plan. A file that is too long or whose text is no plan is told by a line, and that is the answer of the command.
+/// Reads a plan. For a file that is too long or whose text is no plan a line is printed, and that is the answer of the
+/// command.
 pub fn with_plan<F: Files, K: Sink>(
     alloc: Global,
     name: &str,

@@ -11,7 +11,7 @@ use std::alloc::Global;
 /// How many octets are taken at a time.
 const PIECE: usize = 4096;
 
-/// Reads a whole file, or none of it where it has more octets than the limit.
+/// Reads a whole file, or none of it if it has more octets than the limit.
 pub fn read_whole<F: Files>(
     alloc: Global,
     files: &mut F,

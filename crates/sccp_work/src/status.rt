@@ -11,7 +11,7 @@ pub enum Status {
     Refused = 1,
     /// The words have none of the shapes.
     Usage = 64,
-    /// The plan's text doesn't read.
+    /// The plan's text does not read.
     BadPlan = 65,
     /// A line has no form or breaks a limit.
     BadTrace = 66,
@@ -19,7 +19,7 @@ pub enum Status {
     TooWide = 67,
     /// A file has more octets than the limit.
     TooLong = 68,
-    /// The two plans haven't the same relays.
+    /// The two plans do not have the same relays.
     OtherNodes = 69,
     /// Memory was wanting.
     NoMemory = 71,

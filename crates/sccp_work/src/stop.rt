@@ -36,7 +36,7 @@ impl From<OutOfMemory> for Stop {
     }
 }
 
-/// What ends a command early whose last text was to be written.
+/// What ends a command early that had a last text to write.
 pub fn early(worked: Result<Status, Stop>) -> Stop
     ensures { result ≡ early worked }
 {

@@ -6,7 +6,7 @@ use crate::status::Status;
 use crate::stop::Stop;
 use sccp_io::{IoFault, Sink};
 
-/// Writes the whole text.
+/// Writes the whole text. If it fails, the sink has taken a front of it.
 pub fn put_all<K: Sink>(out: &mut K, text: &[u8]) -> Result<(), Stop>
     ensures { Writes text.now result (K.taken out.old) (K.taken out.new) (K.faults out.old) (K.faults out.new) }
 {
@@ -21,7 +21,7 @@ pub fn put_all<K: Sink>(out: &mut K, text: &[u8]) -> Result<(), Stop>
     Ok(())
 }
 
-/// Writes the last text of a work, and answers.
+/// Writes the last text of a work, and answers with this status.
 pub fn print_last<K: Sink>(out: &mut K, text: &[u8], status: Status) -> Result<Status, Stop>
     ensures text { Writes text.now result (K.taken out.old) (K.taken out.new) (K.faults out.old) (K.faults out.new) }
     ensures answer { IfOk result (λ s. s ≡ status) }

@@ -48,7 +48,7 @@ line_of_fields word fields =
     else if bytes_eq word (codes "plan") then option_map Plan (file_name fields)
     else None
 
--- a line of one word, or of a word and what stands behind the blank
+-- a line of one word, or of a word and what follows the blank
 abbrev pub line_of_cut : List ℕ → Option (List ℕ × List ℕ) → Option Line
 line_of_cut text None = if bytes_eq text (codes "fence") then Some Fence else None
 line_of_cut text (Some fields) = line_of_fields fields.0 fields.1

@@ -1,13 +1,12 @@
 //! The forms of a line of a trace.
 ghost use Rattle.std.specs.Prelude.{◌≡◌, IfOk, option_map};
 ghost use Rattle.sccp_base.specs.Names.{name_of};
-ghost use Rattle.sccp_base.specs.Text.{byte_of};
 ghost use Rattle.trace_text.specs.Forms.{file_name, node_and_point, node_and_subsystem, message, line_of_fields, is_skipped, line_of_cut, line_of};
 
 use crate::file_name::is_file_name;
 use crate::hex_word::octets_of;
 use crate::line::Line;
-use sccp_base::{Name, Octets, OutOfMemory, PointCode, cut, decimal};
+use sccp_base::{Name, Octets, OutOfMemory, PointCode, byte, cut};
 use std::alloc::Global;
 
 /// The line that these octets write, if they write one.
@@ -71,7 +70,7 @@ fn line_of_fields(alloc: Global, word: &[u8], fields: &[u8]) -> Result<Option<Li
     }
 }
 
-/// `NODE POINT HEX` behind `msg`.
+/// `NODE POINT HEX` after `msg`.
 #[tactic(auto, unfolding(crate::specs::Forms::message))]
 fn message(alloc: Global, fields: &[u8]) -> Result<Option<Line>, OutOfMemory>
     ensures { IfOk result (λ line. line ≡ message fields.now) }
@@ -140,7 +139,7 @@ fn tick(fields: &[u8]) -> Option<Line>
     Some(Line::Tick(node))
 }
 
-/// `FILE` behind `plan`.
+/// `FILE` after `plan`.
 fn plan(alloc: Global, fields: &[u8]) -> Result<Option<Line>, OutOfMemory>
     ensures { IfOk result (λ line. line ≡ option_map Line.Plan (file_name fields.now)) }
 {
@@ -170,16 +169,6 @@ fn node_and_subsystem(fields: &[u8]) -> Option<(Name, u8)>
 {
     let (node, ssn) = cut(fields, b' ')?;
     let node = Name::parse(node)?;
-    let ssn = subsystem_of(ssn)?;
+    let ssn = byte(ssn)?;
     Some((node, ssn))
-}
-
-/// A subsystem number: one to three decimal digits up to 255.
-fn subsystem_of(text: &[u8]) -> Option<u8>
-    ensures { result ≡ byte_of text.now }
-{
-    match decimal(text, 3) {
-        Some(value) if value < 256 => Some(value as u8),
-        _ => None,
-    }
 }

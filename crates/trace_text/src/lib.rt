@@ -1,8 +1,8 @@
-//! The text of a trace of signalling messages: its lines, in whatever pieces the text comes, and the limits of lines for any
-//! file that is read by lines. The forms of the lines are this project's own; the messages in them are those of Q.713.
+//! The text of a trace of signalling messages: its lines, and the limits of lines for any file that is read by lines. The
+//! text may arrive in any pieces. The forms of the lines are this project's own; the messages in them are those of Q.713.
 //!
-//! The layer above may rely on this: what a `Reader` has told, of however many pieces, is what the definitions tell of all
-//! octets together, and a limit that a line breaks is told as soon as the octet that breaks it is there.
+//! The layer above may rely on this: what a `Reader` has reported of its pieces is what the definitions give for all octets
+//! together. A limit that a line breaks is reported as soon as the octet that breaks it has arrived.
 #![tactic(auto)]
 
 mod fed;

@@ -11,7 +11,7 @@ const MOST_LINES: u32 = 1_000_000;
 /// How many octets a line may have, a carriage return at its end among them.
 const LONGEST_LINE: usize = 8192;
 
-/// The first line of a text, without its line feed, whether a line feed ends it, and what follows.
+/// The first line of a text without its line feed, whether a line feed ends it, and the octets that follow.
 #[derive(Clone, Copy)]
 pub struct FirstLine<'a> {
     pub octets: &'a [u8],
@@ -19,7 +19,7 @@ pub struct FirstLine<'a> {
     pub rest: &'a [u8],
 }
 
-/// The first line of a text that isn't empty, and what follows it. The last line may lack the line feed.
+/// The first line of a text that is not empty, and what follows it. The last line may lack the line feed.
 pub fn first_line(text: &[u8]) -> FirstLine<'_>
     requires { 0 < length text.now }
     ensures lines { lines_of text.now ≡ text_line result.octets.now result.ended ∷ lines_of result.rest.now }
@@ -39,14 +39,14 @@ pub fn first_line(text: &[u8]) -> FirstLine<'_>
     }
 }
 
-/// Where the first line feed stands.
+/// The place of the first line feed.
 pub(crate) fn line_end(text: &[u8]) -> Option<usize>
     ensures { result ≡ position is_line_feed text.now }
 {
     memchr(b'\n', text)
 }
 
-/// The limit that a line of that number and length breaks, if it breaks one. That of its number comes first.
+/// The limit that a line of that number and length breaks, if it breaks one. That of its number is tested first.
 pub(crate) fn limit(number: u32, size: usize) -> Option<LineFault>
     ensures fault { result ≡ limit_of number size }
     ensures few { IfNone result (number ≤ 1000000) }
@@ -67,8 +67,8 @@ pub(crate) fn limit(number: u32, size: usize) -> Option<LineFault>
     None
 }
 
-/// What a line holds: all its octets but one carriage return just before a line feed; or the limit that it breaks. The limits
-/// are tested on the line as it stands, first that of its number and then that of its length.
+/// What a line holds: all its octets but one carriage return just before a line feed; or the limit that it breaks.
+/// The limits are tested with the carriage return, first that of the line's number and then that of its length in octets.
 #[tactic(auto, unfolding(crate::specs::Lines::content_of))]
 pub fn content(number: u32, octets: &[u8], ended: bool) -> Result<&[u8], LineFault>
     ensures value { MatchResult result (λ content. content_of number (text_line octets.now ended) ≡ Ok content.now)

@@ -1,3 +1,4 @@
+//! The reader of a trace, which is fed the text in pieces.
 ghost use Rattle.std.specs.Prelude.{◌≡◌, ◌≤◌, ◌++◌, [], length, true, false, Bool, List, ℕ, IfOk, OnOk, OnErr};
 ghost use Rattle.trace_text.specs.Pieces.{joined};
 ghost use Rattle.trace_text.specs.Told.{beginning, ahead, only, with_front, told, HasRead};
@@ -9,7 +10,7 @@ use sccp_base::{List as Lines, OutOfMemory};
 use std::alloc::Global;
 use std::marker::Model;
 
-/// A reader of a trace that comes in pieces. It keeps the octets of an unfinished line alone, at most 8,192 of them.
+/// A reader of a trace that arrives in pieces. It keeps only the octets of an unfinished line, at most 8,192 of them.
 #[derive(Drop)]
 pub struct Reader {
     alloc: Global,
@@ -44,20 +45,21 @@ impl Reader {
         }
     }
 
-    /// Takes the next piece of the text, of any length: the lines that it completes, and the fault that stands. Lines before a
-    /// fault are told with it; from a fault on, and after the end, each call gives no line and the same fault.
+    /// Takes the next piece of the text, of any length. It gives the lines that the piece completes, and the fault if there
+    /// is one. Lines before a fault are given with it. After a fault, and after the end, each call gives no line and the
+    /// same fault.
     ///
     /// An error is want of memory. It leaves the reader as it was, so the same piece can be fed again.
     pub fn feed(&mut self, piece: &[u8]) -> Result<Fed, OutOfMemory>
-        // What is told is what the reader tells of this piece.
+        // The result is what the definitions report of this piece.
         ensures exact { IfOk result (λ fed. fed ≡ ahead self.old false piece.now) }
-        // Whatever comes behind the piece, the reader goes on from it.
+        // Whatever follows the piece, the reader goes on from it.
         ensures goes_on { IfOk result (λ fed. (whole : Bool) (rest : List ℕ) →
             ahead self.old whole (piece.now ++ rest) ≡ with_front fed.lines (ahead self.new whole rest)) }
         // In terms of all octets that were fed, however they were cut.
         ensures text { (text : List ℕ) → HasRead self.old text → IfOk result (λ fed. HasRead self.new (text ++ piece.now)
             × (told false (text ++ piece.now) ≡ with_front (told false text).lines fed)) }
-        // The fault that is told stands.
+        // The reader keeps the fault that it reports.
         ensures fault { IfOk result (λ fed. self.new.fault ≡ fed.fault) }
         ensures short { length self.new.unfinished ≤ 8192 }
         ensures err { OnErr result (self.new ≡ self.old) }
@@ -83,9 +85,9 @@ impl Reader {
     /// Takes the end of the text: a last line without a line feed, unless it is empty. An error is want of memory, and leaves
     /// the reader as it was.
     pub fn finish(&mut self) -> Result<Fed, OutOfMemory>
-        // What is told is what the reader tells of the end.
+        // The result is what the definitions report of the end.
         ensures exact { IfOk result (λ fed. fed ≡ ahead self.old true []) }
-        // From now on each call gives no line and the fault that stands.
+        // From now on each call gives no line and the same fault.
         ensures stops { IfOk result (λ fed. (whole : Bool) (rest : List ℕ) → ahead self.new whole rest ≡ only fed.fault) }
         // In terms of all octets that were fed, however they were cut.
         ensures text { (text : List ℕ) → HasRead self.old text → IfOk result (λ fed. told true text ≡ with_front (told false text).lines fed) }
@@ -105,7 +107,7 @@ impl Reader {
         Ok(fed)
     }
 
-    /// No line, and the fault that stands.
+    /// No line, and the fault that the reader keeps.
     fn stopped(&self) -> Fed
         ensures { result ≡ only self.now.fault }
     {
@@ -116,8 +118,8 @@ impl Reader {
     }
 }
 
-/// Keeps what stands behind the last line feed of a piece, which goes on from what was unfinished where the piece has no line
-/// feed. Where memory is wanting nothing changes.
+/// Keeps what follows the last line feed of a piece; it goes on from what was unfinished if the piece has no line feed.
+/// If memory runs out, nothing changes.
 fn go_on(
     alloc: Global,
     unfinished: &mut Vec<u8>,

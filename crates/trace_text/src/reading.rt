@@ -12,8 +12,8 @@ use crate::lines::{content, limit, line_end};
 use sccp_base::{List, OutOfMemory};
 use std::alloc::Global;
 
-/// What was taken of a piece: the lines that it completes, how many lines there are with them, what stands behind its last
-/// line feed, whether that goes on from what was unfinished before, and the fault that ends the lines.
+/// What was taken of a piece: the lines that it completes, the number of lines so far, and what follows its last line feed.
+/// `goes_on` says whether that goes on from what was unfinished before. The fault, if there is one, ends the lines.
 #[derive(Drop)]
 pub struct Taken<'a> {
     pub lines: Vec<Numbered>,
@@ -23,8 +23,8 @@ pub struct Taken<'a> {
     pub fault: Option<LineFault>,
 }
 
-/// The lines that a piece completes, after so many lines and an unfinished one. Only a line that goes on from the unfinished
-/// one is copied.
+/// The lines that a piece completes, after that number of lines and an unfinished one. Only a line that goes on from the
+/// unfinished one is copied.
 pub fn take_lines<'a>(
     alloc: Global,
     before: u32,
@@ -75,7 +75,7 @@ fn limit_so_far(number: u32, size: usize) -> Option<LineFault>
     if size == 0 { None } else { limit(number, size) }
 }
 
-/// The line that ends behind these octets, which go on from what was unfinished; or its fault.
+/// The line that ends after these octets, which go on from what was unfinished; or its fault.
 #[tactic(auto, unfolding(crate::specs::Lines::content_of))]
 fn line_at(
     alloc: Global,
@@ -120,7 +120,7 @@ fn read_line(
     }
 }
 
-/// The last line, which no line feed ends; none where nothing is unfinished.
+/// The last line, which no line feed ends; none if nothing is unfinished.
 pub fn last_line(alloc: Global, before: u32, unfinished: &[u8]) -> Result<Fed, OutOfMemory>
     requires few { before ≤ 1000000 }
     requires unfinished { IsUnfinished unfinished.now }

@@ -28,7 +28,7 @@ fn one_file(alloc: Global, octets: &[u8]) -> Result<Vec<(String, Vec<u8>)>, Allo
     Ok(files)
 }
 
-/// A sink in memory never fails but for memory, so no `WriteFault` comes.
+/// A sink in memory fails only for want of memory, so `WriteFault` is no answer.
 fn run_into_sound_sink<R: Threads + Wait + Sync, F: Files>(
     rt: &R,
     alloc: Global,
@@ -41,7 +41,7 @@ fn run_into_sound_sink<R: Threads + Wait + Sync, F: Files>(
     run(rt, alloc, words, files, out)
 }
 
-/// Files in memory that are all there never fail, so no `ReadFault` comes.
+/// Files in memory that are all there never fail, so `ReadFault` is no answer.
 fn run_over_sound_files<R: Threads + Wait + Sync, K: Sink>(
     rt: &R,
     alloc: Global,
@@ -56,7 +56,7 @@ fn run_over_sound_files<R: Threads + Wait + Sync, K: Sink>(
     run(rt, alloc, words, &mut files, out)
 }
 
-/// The status where this call on the files fails, and whether the text is that of a read fault.
+/// The status if this call on the files fails, and whether the text is that of a read fault.
 fn at_failing_call<R: Threads + Wait + Sync>(
     rt: &R,
     alloc: Global,
@@ -71,7 +71,7 @@ fn at_failing_call<R: Threads + Wait + Sync>(
     Ok((status, out.taken() == b"read fault\n".as_slice()))
 }
 
-/// The place of the first of these words, each with the call on the files that fails, that don't end by a read fault.
+/// The place of the first of these words, each with the call on the files that fails, that do not end by a read fault.
 fn first_other<R: Threads + Wait + Sync>(
     rt: &R,
     alloc: Global,
@@ -113,7 +113,7 @@ fn a_fault_of_the_files_ends_the_call(rt: HostRuntime) -> Result<(), Fail> {
     Ok(())
 }
 
-/// The status where the first call on the sink fails, and whether it took nothing.
+/// The status if the first call on the sink fails, and whether it took nothing.
 fn at_failing_sink<R: Threads + Wait + Sync>(
     rt: &R,
     alloc: Global,
@@ -138,7 +138,7 @@ const WRITING: [&str; 7] = [
     "replay f g 1",
 ];
 
-/// The place of the first of these words that don't end so by a write fault.
+/// The place of the first of these words that do not end so by a write fault.
 fn first_unfailing<R: Threads + Wait + Sync>(
     rt: &R,
     alloc: Global,

@@ -36,7 +36,7 @@ fence
 msg a 1-0-1 0980030E120B1206001204947101000021044301080802AABB
 ";
 
-/// What is printed of them where nothing fails.
+/// What is printed of them if nothing fails.
 const TOLD: &str = "plan 1 f accepted bound 1
 1 by 1 via a ended 2-0-1/6 0980030E120B5206001204947101000021044301080802AABB
 3 plan 2 h accepted bound 1
@@ -53,13 +53,13 @@ fn files(alloc: Global) -> Result<Vec<(String, Vec<u8>)>, AllocError> {
     Ok(files)
 }
 
-/// Whether a text is so many of the first lines that are printed where nothing fails.
+/// Whether a text is this number of first lines of those that are printed if nothing fails.
 fn are_first_lines(text: &[u8], lines: usize) -> bool {
     TOLD.as_bytes().starts_with(text)
         && text.iter().filter(|octet| **octet == b'\n').count() == lines
 }
 
-/// Whether the replay ends with a read fault where this call on its files fails, and with these lines before the fault's own.
+/// Whether the replay ends with a read fault if this call on its files fails, and with these lines before the fault's own.
 /// The next call fails too, and it has to be the first that is made here: so none was made after the failing one.
 fn ends_at_reading<R: Threads + Wait + Sync>(
     rt: &R,
@@ -95,7 +95,7 @@ const READINGS: [(u8, usize); 9] = [
     (8, 3),
 ];
 
-/// The first of these calls on the files at whose failure that isn't so.
+/// The first of these calls on the files whose failure does not end the replay so.
 fn first_other_reading<R: Threads + Wait + Sync>(
     rt: &R,
     alloc: Global,
@@ -124,7 +124,7 @@ fn each_call_on_the_files_may_fail(rt: HostRuntime) -> Result<(), Fail> {
     Ok(())
 }
 
-/// Whether the replay ends with a write fault where this call on its sink fails, and with these lines before it. The next call
+/// Whether the replay ends with a write fault if this call on its sink fails, and with these lines before it. The next call
 /// fails too, and it has to be the first that is made here: so none was made after the failing one.
 fn ends_at_writing<R: Threads + Wait + Sync>(
     rt: &R,
@@ -142,11 +142,11 @@ fn ends_at_writing<R: Threads + Wait + Sync>(
     Ok(status == Status::WriteFault && told && out.put(b"x") == Err(IoFault::Failed))
 }
 
-/// A call on the sink, and how many lines are printed before. The first plan's line is written for itself, then each batch with
-/// the line behind it, and the last one with the last line.
+/// A call on the sink, and how many lines are printed before. The first plan's line is written for itself, then each batch
+/// with the line after it, and the last one with the last line.
 const WRITINGS: [(u8, usize); 4] = [(0, 0), (1, 1), (2, 2), (3, 3)];
 
-/// The first of these calls on the sink at whose failure that isn't so.
+/// The first of these calls on the sink whose failure does not end the replay so.
 fn first_other_writing<R: Threads + Wait + Sync>(
     rt: &R,
     alloc: Global,
@@ -175,7 +175,7 @@ fn each_call_on_the_sink_may_fail(rt: HostRuntime) -> Result<(), Fail> {
     Ok(())
 }
 
-/// Whether all is done and printed where call 9 on the files and call 4 on the sink are to fail.
+/// Whether all is done and printed if call 9 on the files and call 4 on the sink are to fail.
 fn makes_no_further_call<R: Threads + Wait + Sync>(rt: &R, alloc: Global) -> Result<bool, Fail> {
     let words = words_of(alloc, "replay f g 1")?;
     let mut files = MemoryFiles::new(files(alloc)?, vec![in alloc; 9]?);
@@ -184,7 +184,7 @@ fn makes_no_further_call<R: Threads + Wait + Sync>(rt: &R, alloc: Global) -> Res
     Ok(status == Status::Done && out.taken() == TOLD.as_bytes())
 }
 
-/// No call is left out above: where the next one is to fail, none does.
+/// No call is left out above: if the next one is to fail, none does.
 #[test]
 fn no_further_call_is_made(rt: HostRuntime) -> Result<(), Fail> {
     assert!(rt; makes_no_further_call(&rt, rt.alloc())?);

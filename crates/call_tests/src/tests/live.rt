@@ -1,5 +1,5 @@
-//! Plans that are published while messages are routed by them: one relay, which sends titles of 49 to 2-0-1 under the first plan,
-//! and to 2-0-2 under the second.
+//! Plans that are published while messages are routed by them. There is one relay, which sends titles of 49 to 2-0-1 under
+//! the first plan, and to 2-0-2 under the second.
 ghost use Rattle.std.specs.Prelude.{◌≡◌, ◌<◌, ◌+◌, ◌^◌, [], All, length, map, IfOk, OnOk};
 ghost use Rattle.std.specs.Arc.{arc_value};
 ghost use Rattle.live_plan.specs.Plans.{HaveNodes, nodes_of};
@@ -78,7 +78,7 @@ fn states(alloc: Global) -> Result<Net, Fail>
     Ok(net)
 }
 
-/// A message that comes to the relay from 1-0-1.
+/// A message that arrives at the relay from 1-0-1.
 fn job(alloc: Global, index: u32) -> Result<Job, Fail>
     ensures { IfOk result (λ job. job.entry ≡ 0) }
 {
@@ -156,7 +156,7 @@ fn worker(alloc: Global) -> Result<Worker<ListPlace>, Fail> {
     Ok(Worker::over(0, place, first))
 }
 
-/// What is told of the job where the worker serves it. Its answer is dropped as an item of a list.
+/// The plan's number and the point of this job, after the worker served it. Its answer is dropped as an item of a list.
 fn serves_job(
     alloc: Global,
     worker: &mut Worker<ListPlace>,
@@ -177,14 +177,14 @@ fn serves_job(
     }
 }
 
-/// What is told of the next job that the worker serves.
+/// The plan's number and the point of the next job that the worker serves.
 fn serves(alloc: Global, worker: &mut Worker<ListPlace>) -> Result<(u32, u16), Fail> {
     let net = states(alloc)?;
     let job = job(alloc, 0)?;
     serves_job(alloc, worker, net.states(), &job)
 }
 
-/// What is told of the next three jobs.
+/// The same of the next three jobs.
 fn serves_three(
     alloc: Global,
     worker: &mut Worker<ListPlace>,

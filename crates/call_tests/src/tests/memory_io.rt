@@ -52,7 +52,7 @@ fn sound_files_keep_two_places(rt: HostRuntime) -> Result<(), Fail> {
     Ok(())
 }
 
-/// Whether calls 0 and 2 fail, and calls 1 and 3 don't.
+/// Whether calls 0 and 2 fail, and calls 1 and 3 do not.
 fn fails_at_first(files: &mut MemoryFiles, buffer: &mut [u8; 4]) -> bool {
     files.begin("a") == Err(IoFault::Failed)
         && files.begin("a") == Ok(())
@@ -61,7 +61,7 @@ fn fails_at_first(files: &mut MemoryFiles, buffer: &mut [u8; 4]) -> bool {
         && buffer.as_slice() == b"1234".as_slice()
 }
 
-/// Whether calls 4, 5 and 7 fail, and calls 6, 8 and 9 don't.
+/// Whether calls 4, 5 and 7 fail, and calls 6, 8 and 9 do not.
 fn fails_beside(files: &mut MemoryFiles, buffer: &mut [u8; 4]) -> bool {
     files.begin_beside("c") == Err(IoFault::Failed)
         && files.begin_beside("a") == Err(IoFault::Failed)
@@ -85,7 +85,7 @@ fn listed_calls_on_files_fail(rt: HostRuntime) -> Result<(), Fail> {
     Ok(())
 }
 
-/// Whether calls 0 and 2 fail and leave what was taken, and calls 1 and 3 don't.
+/// Whether calls 0 and 2 fail and leave what was taken, and calls 1 and 3 do not.
 fn fails_in_turn(sink: &mut MemorySink) -> bool {
     sink.put(b"ab") == Err(IoFault::Failed)
         && sink.taken() == b"".as_slice()
@@ -104,7 +104,7 @@ fn listed_calls_on_a_sink_fail(rt: HostRuntime) -> Result<(), Fail> {
     Ok(())
 }
 
-/// Whether two pieces are taken whole, one behind the other.
+/// Whether two pieces are taken whole, one after the other.
 fn takes_all(sink: &mut SoundSink) -> bool {
     sink.put(b"ab") == Ok(2) && sink.put(b"c") == Ok(1) && sink.taken() == b"abc".as_slice()
 }

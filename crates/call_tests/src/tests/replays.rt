@@ -8,7 +8,7 @@ use std::sync::Wait;
 use std::test::Fail;
 use std::thread::Threads;
 
-/// A message, before and behind a failure of its destination, and behind one of both.
+/// A message, before and after a failure of its destination, and after one of both.
 const FAILURES: &str = "msg a 1-0-1 0980030E120B1206001204947101000021044301080802AABB
 pause a 2-0-1
 msg a 1-0-1 0980030E120B1206001204947101000021044301080802AABB
@@ -34,7 +34,7 @@ pub fn with_trace(alloc: Global, trace: &[u8]) -> Result<SoundFiles, AllocError>
     Ok(SoundFiles::new(files))
 }
 
-/// Whether a trace from which so many octets are taken at a time is Done and prints this.
+/// Whether a trace from which this number of octets is taken at a time is Done and prints this.
 fn prints<R: Threads + Wait + Sync>(
     rt: &R,
     alloc: Global,

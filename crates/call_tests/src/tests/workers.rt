@@ -11,7 +11,7 @@ use std::test::Fail;
 use std::thread;
 use std::thread::Threads;
 
-/// So many turns are waited for another thread.
+/// How many turns a thread waits for another one.
 const TURNS: u32 = 100_000_000;
 
 /// Messages 0 and 1 wait for each other, the publisher for both, and messages 2 and 3 for the publisher.
@@ -23,6 +23,7 @@ pub struct Meeting {
 }
 
 impl Meeting {
+    /// A meeting that no job has reached yet.
     pub fn new() -> Meeting {
         Meeting {
             passed: [
@@ -41,7 +42,7 @@ impl Meeting {
         self.failed.load(Ordering::SeqCst) == 0
     }
 
-    /// Waits until that was set.
+    /// Waits until this is set. After too many turns the meeting has failed.
     fn wait(&self, mark: &AtomicU64) {
         for _ in 0..TURNS {
             if mark.load(Ordering::SeqCst) != 0 {
@@ -113,7 +114,7 @@ fn workers_and_publisher_run_beside_each_other(rt: HostRuntime) -> Result<(), Fa
     Ok(())
 }
 
-/// The number behind ` by `, of one digit, or 0.
+/// The number after ` by `, of one digit, or 0.
 fn number_in(line: &str) -> u32 {
     for number in 1..3_u32 {
         if line.contains(if number == 1 { " by 1 " } else { " by 2 " }) {
@@ -123,8 +124,8 @@ fn number_in(line: &str) -> u32 {
     0
 }
 
-/// Whether the numbers of the four messages are 1 or 2, and don't fall from the first to the third and from the second to
-/// the fourth.
+/// Whether the numbers of the four messages are 1 or 2. They do not fall from the first to the third, nor from the second
+/// to the fourth.
 fn are_lawful(text: &str) -> bool {
     let mut numbers = [0, 0, 0, 0];
     let mut count = 0;

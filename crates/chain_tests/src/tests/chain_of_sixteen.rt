@@ -1,5 +1,6 @@
-/// Sixteen relays, from z at 3-0-0 by a at 3-1-0 to o at 3-15-0, each of which sends titles of 49 to the next, and the last one
-/// to 2-0-1.
+//! The text of a plan with a long chain of relays.
+/// Sixteen relays: z at 3-0-0, a at 3-1-0, and so on to o at 3-15-0. Each sends titles of 49 to the next, and the last one
+/// sends them to 2-0-1.
 pub(crate) const CHAIN_OF_SIXTEEN: &str = r#"version = 1
 node = [
     { name = "z", point = "3-0-0", row = [{ selector = "4:0:1:4", prefix = "49", first = { relay = "a" } }] },

@@ -11,7 +11,7 @@ use sccp_message::{Message, decode};
 use std::alloc::Global;
 use std::test::Fail;
 
-/// Where a message comes from, its octets, what is sent then, and how many sections there are.
+/// The point that a message is from, its octets, what is sent then, and the number of sections after that.
 type Line = (&'static str, &'static str, &'static str, usize);
 
 fn point_name(point: PointCode) -> &'static str {
@@ -22,7 +22,7 @@ fn point_name(point: PointCode) -> &'static str {
     }
 }
 
-/// Each message that is sent, behind the point that it goes to.
+/// Each message that is sent, after the point that it goes to.
 fn text_of(alloc: Global, sent: &[Sent]) -> Result<String, Fail> {
     let mut text = String::new(alloc);
     for one in sent {
@@ -36,7 +36,7 @@ fn text_of(alloc: Global, sent: &[Sent]) -> Result<String, Fail> {
     Ok(text)
 }
 
-/// What the coupling sends for a message, where that is connection-oriented and the node is one of the plan.
+/// What the coupling sends for a message. There is nothing if it is connectionless, or if the node is not in the plan.
 fn taken(
     plan: &Plan,
     marking: &Marking,
@@ -58,7 +58,7 @@ fn taken(
     Ok(Some(sent))
 }
 
-/// The same for the message that octets are.
+/// What the coupling sends for the message that octets read as.
 fn sent_for(
     alloc: Global,
     plan: &Plan,
@@ -93,7 +93,7 @@ fn answer(
     }
 }
 
-/// Whether a message has what its line says sent, and leaves so many sections.
+/// Whether a message leads to what its line says: the messages sent, and the number of sections.
 fn is_so(
     alloc: Global,
     plan: &Plan,
@@ -106,7 +106,7 @@ fn is_so(
     Ok(sent.as_str() == line.2 && exchange.sections().as_slice().len() == line.3)
 }
 
-/// The place of the first line that isn't so, of messages that come one after another.
+/// The place of the first line that is wrong, of messages that follow one another.
 fn first_wrong(
     alloc: Global,
     plan: &Plan,
@@ -122,7 +122,7 @@ fn first_wrong(
     Ok(None)
 }
 
-/// The same from no sections on.
+/// The place of the first line that is wrong, beginning without sections.
 fn wrong_line(alloc: Global, lines: &[Line]) -> Result<Option<usize>, Fail> {
     let plan = plan_of(alloc, ONE_TARGET)?;
     let marking = Marking::new(alloc);
@@ -134,37 +134,49 @@ fn wrong_line(alloc: Global, lines: &[Line]) -> Result<Option<usize>, Fail> {
     place
 }
 
+/// One connection through the relay. The relay gives its two sections the references 1 and 2.
 const MADE_USED_AND_RELEASED: [Line; 10] = [
+    // CR, source 17, title 491710000012. It goes on as CR, source 2, routed on subsystem 6.
     (
         "1-0-1",
         "011100000202000B1206001204947101000021",
         "2-0-1 010200000202000B5206001204947101000021",
         2,
     ),
+    // CC, destination 2, source 34. It goes on as CC, destination 17, source 1.
     ("2-0-1", "020200002200000200", "1-0-1 021100000100000200", 2),
+    // DT1, destination 1, more, data 41; it goes on to destination 34. Then the same with data 42.
     ("1-0-1", "0601000001010141", "2-0-1 0622000001010141", 2),
     ("1-0-1", "0601000001010142", "2-0-1 0622000001010142", 2),
+    // DT1, destination 1, no more, data 43; it goes on to destination 34.
     ("1-0-1", "0601000000010143", "2-0-1 0622000000010143", 2),
+    // DT1, destination 2, no more, data 44; it goes on to destination 17.
     ("2-0-1", "0602000000010144", "1-0-1 0611000000010144", 2),
+    // RLSD, destination 1, source 17, cause 3. RLC, destination 17, source 1, goes back; RLSD, destination 34, source 2, goes
+    // on.
     (
         "1-0-1",
         "040100001100000300",
         "1-0-1 05110000010000 2-0-1 042200000200000300",
         1,
     ),
+    // DT1, destination 1, more, data 45, after the release.
     ("1-0-1", "0601000001010145", "", 1),
+    // CC, destination 9, source 51, of no section. ERR, destination 51, cause 0 (unassigned destination reference), goes
+    // back.
     ("2-0-1", "020900003300000200", "2-0-1 0F33000000", 1),
+    // RLC, destination 2, source 34.
     ("2-0-1", "05020000220000", "", 0),
 ];
 
-/// The worked connection: data go on both ways, and none after the release.
+/// The worked connection: data go on both ways, and none go on after the release.
 #[test]
 fn a_connection_is_made_used_and_released(rt: HostRuntime) -> Result<(), Fail> {
     assert_eq!(rt; wrong_line(rt.alloc(), &MADE_USED_AND_RELEASED)?, None);
     Ok(())
 }
 
-/// Requests of connections to which 1-0-1 gave the numbers from 0 on.
+/// Sends CR for connections to which 1-0-1 gave the references from 0 on, with the title 491710000012.
 fn request_all(
     alloc: Global,
     plan: &Plan,
@@ -183,7 +195,7 @@ fn request_all(
     Ok(())
 }
 
-/// The place of the first line that isn't so after 2,047 requests.
+/// The place of the first line that is wrong after 2,047 requests.
 fn first_wrong_then(
     alloc: Global,
     plan: &Plan,
@@ -195,7 +207,7 @@ fn first_wrong_then(
     first_wrong(alloc, plan, marking, exchange, lines)
 }
 
-/// The same from no sections on.
+/// The place of the first line that is wrong after 2,047 requests, beginning without sections.
 fn wrong_line_then(alloc: Global, lines: &[Line]) -> Result<Option<usize>, Fail> {
     let plan = plan_of(alloc, ONE_TARGET)?;
     let marking = Marking::new(alloc);
@@ -207,38 +219,47 @@ fn wrong_line_then(alloc: Global, lines: &[Line]) -> Result<Option<usize>, Fail>
     place
 }
 
+/// Messages at the limit of sections. Each CR has the title 491710000012.
 const AT_THE_LIMIT: [Line; 7] = [
+    // CR, source 2047. It goes on as CR, source 4096, which is the last reference.
     (
         "1-0-1",
         "01FF07000202000B1206001204947101000021",
         "2-0-1 010010000202000B5206001204947101000021",
         4096,
     ),
+    // CR, source 2048. CREF, destination 2048, cause 7, goes back.
     (
         "1-0-1",
         "010008000202000B1206001204947101000021",
         "1-0-1 030008000700",
         4096,
     ),
+    // CC, destination 2, source 34. It goes on as CC, destination 0, source 1.
     (
         "2-0-1",
         "020200002200000200",
         "1-0-1 020000000100000200",
         4096,
     ),
+    // RLSD, destination 1, source 0, cause 0. RLC, destination 0, source 1, goes back; RLSD, destination 34, source 2, goes
+    // on.
     (
         "1-0-1",
         "040100000000000000",
         "1-0-1 05000000010000 2-0-1 042200000200000000",
         4095,
     ),
+    // CR, source 2048, again: it is refused as before.
     (
         "1-0-1",
         "010008000202000B1206001204947101000021",
         "1-0-1 030008000700",
         4095,
     ),
+    // RLC, destination 2, source 34.
     ("2-0-1", "05020000220000", "", 4094),
+    // CR, source 2048, again. It goes on as CR, source 2.
     (
         "1-0-1",
         "010008000202000B1206001204947101000021",

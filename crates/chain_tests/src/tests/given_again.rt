@@ -5,8 +5,8 @@ use chain_world::World;
 use std::alloc::Global;
 use std::test::Fail;
 
-/// Relay x at 1-0-2 sends titles of 0 to 2-0-1 and titles of 2 to 2-0-3, and hands titles of 1 to y. Relay y at 1-0-3 sends
-/// titles of 1 to 2-0-2, and hands titles of 2 to x. The verifier accepts it with bound 2.
+/// Relay x at 1-0-2 sends titles of 0 to 2-0-1 and titles of 2 to 2-0-3, and passes titles of 1 to y. Relay y at 1-0-3 sends
+/// titles of 1 to 2-0-2, and passes titles of 2 to x. The verifier accepts this plan with bound 2.
 const BOTH_WAYS: &str = r#"version = 1
 [[node]]
 name = "x"
@@ -41,9 +41,13 @@ most = 1
 allowed = ["2-0-3/6"]
 "#;
 
-/// What happens, and after ` = ` what is told of it in brackets. The end at 1-0-1 makes four connections, with its references 1
-/// to 4. The last relay of the third one, x, gives it a reference that the second one had before, and the data of the second
-/// one are on their way to x meanwhile.
+/// What happens, and after ` = ` in brackets the result. The end at 1-0-1 makes four connections, with its references 1 to 4.
+/// The last relay of the third one, x, gives it a reference that the second one had before. Meanwhile data of the second one
+/// are on their way to x.
+///
+/// The first octet of a message is its type: 01 CR, 02 CC, 04 RLSD, 05 RLC, 06 DT1. Three octets follow with the first
+/// reference, least significant first: of a CR the source, of the others the destination. CC, RLSD and RLC have the source
+/// after it.
 const HISTORY: &str = "\
 # the first connection, to the title 0, is confirmed and released, and 2-0-1 doesn't answer the release: x keeps 2 of 1, 2
 sends 1-0-1 1-0-2 0101000002020006120600110400 = [2-0-1 0102000002020006520600110400]
@@ -90,7 +94,7 @@ delivers 1-0-2 2-0-1 = [2-0-1 0102000002020006520600110400]
 state = [settled, one given again]
 ";
 
-/// The turn that these words say.
+/// The turn that these words give.
 fn turn_of(words: &'static str) -> Option<Turn> {
     let mut words = words.split(' ');
     let kind = words.next()?;
@@ -115,7 +119,7 @@ fn turn_of(words: &'static str) -> Option<Turn> {
     }
 }
 
-/// Whether what a line of the history says is told. A line that begins with `#` says what comes.
+/// Whether a line of the history has the result that it says. A line that begins with `#` only explains what follows.
 fn is_so(alloc: Global, world: &mut World, line: &'static str) -> Result<bool, Fail> {
     if line.starts_with('#') {
         return Ok(true);
@@ -130,7 +134,7 @@ fn is_so(alloc: Global, world: &mut World, line: &'static str) -> Result<bool, F
     )
 }
 
-/// The first line of a history of which something else is told.
+/// The first line of a history with another result.
 fn first_other(
     alloc: Global,
     world: &mut World,
@@ -144,7 +148,7 @@ fn first_other(
     Ok(None)
 }
 
-/// The same of a new world of a plan's relays.
+/// The first line with another result, in a new world of a plan's relays.
 fn other_line(
     alloc: Global,
     plan: &str,
@@ -157,8 +161,8 @@ fn other_line(
     line
 }
 
-/// The order of lines is proved for worlds in which no relay gave one own reference twice. Here one did: what came out of the
-/// third connection, one octet, isn't the beginning of what went in, which is nothing.
+/// The order of lines is proved for worlds in which no relay gave one own reference twice. Here one did. What came out of the
+/// third connection is one octet, but nothing went in.
 #[test]
 fn a_line_has_the_data_of_another_one(rt: HostRuntime) -> Result<(), Fail> {
     assert!(rt; other_line(rt.alloc(), BOTH_WAYS, HISTORY)?.is_none());

@@ -1,4 +1,4 @@
-//! The lines of connections: what went in at an end, and what the other one was handed.
+//! The lines of connections: what went in at an end, and what the other end was handed.
 use super::chain_of_sixteen::CHAIN_OF_SIXTEEN;
 use super::plans::plan_of;
 use super::{deliver, fault_name, offer, point, point_name, settle};
@@ -17,13 +17,13 @@ pub(crate) enum Turn {
     Offers(&'static str, &'static str, &'static str),
     /// A link delivers its oldest message.
     Delivers(&'static str, &'static str),
-    /// The line from an end's point and the reference that it gave is asked for.
+    /// Asks for the line from an end's point and the reference that it gave.
     Line(&'static str, u32),
-    /// Whether no link holds a message is asked for, and whether no relay gave one own reference twice.
+    /// Asks whether no link holds a message, and whether no relay gave one own reference twice.
     State,
 }
 
-/// Pieces, each behind a sign that more follow or that none do.
+/// Writes pieces, each after a sign: `+` if more follow, `.` if none do.
 fn put_pieces(alloc: Global, text: &mut String, name: &str, pieces: &[Piece]) -> Result<(), Fail> {
     text.push_str(name)?;
     for piece in pieces {
@@ -33,7 +33,7 @@ fn put_pieces(alloc: Global, text: &mut String, name: &str, pieces: &[Piece]) ->
     Ok(())
 }
 
-/// The relays of a line by their places, its far end, and what came out of what went in, both ways.
+/// Writes a line: its relays by their places, its far end, and what came out of what went in, both ways.
 fn put_line(alloc: Global, text: &mut String, line: &Line) -> Result<(), Fail> {
     text.push_str(&hex::encode_upper(alloc, line.path.as_slice())?)?;
     text.push(' ')?;
@@ -45,7 +45,7 @@ fn put_line(alloc: Global, text: &mut String, line: &Line) -> Result<(), Fail> {
     Ok(())
 }
 
-/// The line from an end's point and the reference that it gave, or that there is none.
+/// Writes the line from an end's point and the reference that it gave, or that there is none.
 fn put_line_of(
     alloc: Global,
     world: &World,
@@ -64,7 +64,7 @@ fn put_line_of(
     }
 }
 
-/// What an offer comes to: its fault, or nothing.
+/// Writes the fault of an offer, or nothing.
 fn put_offer(
     alloc: Global,
     world: &mut World,
@@ -89,7 +89,7 @@ fn state_name(world: &World) -> &'static str {
     }
 }
 
-/// What is told of one turn.
+/// Does one turn, and writes its result.
 fn put_turn(alloc: Global, world: &mut World, text: &mut String, turn: &Turn) -> Result<(), Fail> {
     match turn {
         Turn::Sends(from, to, octets) => {
@@ -103,7 +103,7 @@ fn put_turn(alloc: Global, world: &mut World, text: &mut String, turn: &Turn) ->
     }
 }
 
-/// Whether this and nothing else is told of a turn.
+/// Whether a turn has exactly this result.
 pub(crate) fn is_told(
     alloc: Global,
     world: &mut World,
@@ -115,7 +115,7 @@ pub(crate) fn is_told(
     Ok(text.as_str() == told)
 }
 
-/// The place of the first turn of which something else is told.
+/// The place of the first turn with another result.
 fn first_other(
     alloc: Global,
     world: &mut World,
@@ -129,7 +129,7 @@ fn first_other(
     Ok(None)
 }
 
-/// The same of a new world of a plan's relays.
+/// The place of the first turn with another result, in a new world of a plan's relays.
 fn other_turn(alloc: Global, plan: &str, turns: &[(Turn, &str)]) -> Result<Option<usize>, Fail> {
     let plan = plan_of(alloc, plan)?;
     let mut world = World::new(alloc, plan)?;
@@ -138,7 +138,9 @@ fn other_turn(alloc: Global, plan: &str, turns: &[(Turn, &str)]) -> Result<Optio
     place
 }
 
+/// A connection that is made, used both ways and released, with a look at its line before and after.
 const USED_AND_RELEASED: [(Turn, &str); 12] = [
+    // CR, source 1, title 491710000012, hops 15. The far end gets CR, source 2, digits 01710000012, hops 13.
     (
         Turn::Sends(
             "1-0-1",
@@ -148,20 +150,24 @@ const USED_AND_RELEASED: [(Turn, &str); 12] = [
         "2-0-1 0102000002020D0B520600110310170000100211010D00",
     ),
     (Turn::Line("1-0-1", 1), "none"),
+    // CC, destination 2, source 2. The near end gets CC, destination 1, source 1.
     (
         Turn::Sends("2-0-1", "1-0-3", "020200000200000200"),
         "1-0-1 020100000100000200",
     ),
     (Turn::Line("1-0-1", 1), "0001 2-0-1 forth  of  back  of "),
     (Turn::Line("1-0-2", 1), "none"),
+    // DT1, destination 1, more, data 41. The far end gets DT1, destination 2, more, data 41.
     (
         Turn::Sends("1-0-1", "1-0-2", "0601000001010141"),
         "2-0-1 0602000001010141",
     ),
+    // DT1, destination 1, no more, data 42. The far end gets DT1, destination 2, no more, data 42.
     (
         Turn::Sends("1-0-1", "1-0-2", "0601000000010142"),
         "2-0-1 0602000000010142",
     ),
+    // DT1, destination 2, no more, data 43. The near end gets DT1, destination 1, no more, data 43.
     (
         Turn::Sends("2-0-1", "1-0-3", "0602000000010143"),
         "1-0-1 0601000000010143",
@@ -170,31 +176,38 @@ const USED_AND_RELEASED: [(Turn, &str); 12] = [
         Turn::Line("1-0-1", 1),
         "0001 2-0-1 forth +41.42 of +41.42 back .43 of .43",
     ),
+    // RLSD, destination 1, source 1, cause 0. The near end gets RLC, destination 1, source 1; the far end RLSD, destination
+    // 2, source 2.
     (
         Turn::Sends("1-0-1", "1-0-2", "040100000100000000"),
         "1-0-1 05010000010000 2-0-1 040200000200000000",
     ),
+    // RLC, destination 2, source 2.
     (Turn::Sends("2-0-1", "1-0-3", "05020000020000"), ""),
     (Turn::Line("1-0-1", 1), "none"),
 ];
 
-/// There is no line before both sections of each pair have a remote, nor from a relay's point; then it has what went over it,
-/// both ways, with M; and none after the release.
+/// There is no line before both sections of each pair have a remote, nor from a relay's point. Then the line has what went
+/// over it, both ways, with M. There is none after the release.
 #[test]
 fn a_line_has_what_went_over_it(rt: HostRuntime) -> Result<(), Fail> {
     assert_eq!(rt; other_turn(rt.alloc(), ROAMING, &USED_AND_RELEASED)?, None);
     Ok(())
 }
 
+/// Data that are on their way over a connection.
 const ON_THE_WAY: [(Turn, &str); 12] = [
+    // CR, source 1, title 491710000012. The far end gets CR, source 2, digits 01710000012.
     (
         Turn::Sends("1-0-1", "1-0-2", "010100000202000B1206001204947101000021"),
         "2-0-1 010200000202000B5206001103101700001002",
     ),
+    // CC, destination 2, source 2. The near end gets CC, destination 1, source 1.
     (
         Turn::Sends("2-0-1", "1-0-3", "020200000200000200"),
         "1-0-1 020100000100000200",
     ),
+    // DT1, destination 1, more, data 41; then DT1, destination 1, no more, data 42.
     (Turn::Offers("1-0-1", "1-0-2", "0601000001010141"), ""),
     (Turn::Offers("1-0-1", "1-0-2", "0601000000010142"), ""),
     (Turn::Line("1-0-1", 1), "0001 2-0-1 forth  of  back  of "),
@@ -205,6 +218,7 @@ const ON_THE_WAY: [(Turn, &str); 12] = [
         Turn::Line("1-0-1", 1),
         "0001 2-0-1 forth  of +41.42 back  of ",
     ),
+    // The far end gets DT1, destination 2, more, data 41.
     (Turn::Delivers("1-0-3", "2-0-1"), "2-0-1 0602000001010141"),
     (Turn::Delivers("1-0-3", "2-0-1"), ""),
     (
@@ -213,31 +227,38 @@ const ON_THE_WAY: [(Turn, &str); 12] = [
     ),
 ];
 
-/// What waits on a link has entered the line, and hasn't come out of it.
+/// What waits on a link has entered the line, and has not left it.
 #[test]
 fn what_comes_out_is_the_beginning(rt: HostRuntime) -> Result<(), Fail> {
     assert_eq!(rt; other_turn(rt.alloc(), ROAMING, &ON_THE_WAY)?, None);
     Ok(())
 }
 
+/// The connections of two ends over the same relays, with data in turn.
 const TWO_ENDS: [(Turn, &str); 12] = [
+    // CR, source 1, title 491710000012, from 1-0-1. The far end gets CR, source 2, digits 01710000012.
     (
         Turn::Sends("1-0-1", "1-0-2", "010100000202000B1206001204947101000021"),
         "2-0-1 010200000202000B5206001103101700001002",
     ),
+    // The same CR from 1-0-4. The far end gets CR, source 4, digits 01710000012.
     (
         Turn::Sends("1-0-4", "1-0-2", "010100000202000B1206001204947101000021"),
         "2-0-1 010400000202000B5206001103101700001002",
     ),
+    // CC, destination 4, source 3. The end at 1-0-4 gets CC, destination 1, source 3.
     (
         Turn::Sends("2-0-1", "1-0-3", "020400000300000200"),
         "1-0-4 020100000300000200",
     ),
+    // CC, destination 2, source 2. The end at 1-0-1 gets CC, destination 1, source 1.
     (
         Turn::Sends("2-0-1", "1-0-3", "020200000200000200"),
         "1-0-1 020100000100000200",
     ),
+    // DT1, destination 1, no more, data 41.
     (Turn::Offers("1-0-1", "1-0-2", "0601000000010141"), ""),
+    // DT1, destination 3, no more, data 51. The far end gets it with destination 3.
     (Turn::Offers("1-0-4", "1-0-2", "0603000000010151"), ""),
     (Turn::Delivers("1-0-4", "1-0-2"), ""),
     (Turn::Delivers("1-0-1", "1-0-2"), ""),
@@ -250,22 +271,26 @@ const TWO_ENDS: [(Turn, &str); 12] = [
     ),
 ];
 
-/// Two ends' connections over the same relays, whose links are delivered in turn: each line has its own.
+/// The connections of two ends over the same relays, whose links deliver in turn: each line has its own data.
 #[test]
 fn each_line_has_its_own(rt: HostRuntime) -> Result<(), Fail> {
     assert_eq!(rt; other_turn(rt.alloc(), ROAMING, &TWO_ENDS)?, None);
     Ok(())
 }
 
+/// A connection over fifteen relays, and one over sixteen. Each CR has the title 491710000012.
 const FIFTEEN_AND_SIXTEEN: [(Turn, &str); 8] = [
+    // CR, source 1, from 1-0-1 to a. The far end gets CR, source 2.
     (
         Turn::Sends("1-0-1", "3-1-0", "010100000202000B1206001204947101000021"),
         "2-0-1 010200000202000B5206001204947101000021",
     ),
+    // CC, destination 2, source 2. The near end gets CC, destination 1, source 1.
     (
         Turn::Sends("2-0-1", "3-15-0", "020200000200000200"),
         "1-0-1 020100000100000200",
     ),
+    // DT1, destination 1, more, data 41. The far end gets DT1, destination 2, more, data 41.
     (
         Turn::Sends("1-0-1", "3-1-0", "0601000001010141"),
         "2-0-1 0602000001010141",
@@ -274,14 +299,17 @@ const FIFTEEN_AND_SIXTEEN: [(Turn, &str); 8] = [
         Turn::Line("1-0-1", 1),
         "0102030405060708090A0B0C0D0E0F 2-0-1 forth +41 of +41 back  of ",
     ),
+    // CR, source 1, from 1-0-4 to z. The far end gets CR, source 4.
     (
         Turn::Sends("1-0-4", "3-0-0", "010100000202000B1206001204947101000021"),
         "2-0-1 010400000202000B5206001204947101000021",
     ),
+    // CC, destination 4, source 3. The near end gets CC, destination 1, source 1.
     (
         Turn::Sends("2-0-1", "3-15-0", "020400000300000200"),
         "1-0-4 020100000100000200",
     ),
+    // DT1, destination 1, no more, data 51. The far end gets DT1, destination 3, no more, data 51.
     (
         Turn::Sends("1-0-4", "3-0-0", "0601000000010151"),
         "2-0-1 0603000000010151",
@@ -289,7 +317,7 @@ const FIFTEEN_AND_SIXTEEN: [(Turn, &str); 8] = [
     (Turn::Line("1-0-4", 1), "none"),
 ];
 
-/// A line of fifteen pairs stands; over sixteen the data go on too, but no line stands.
+/// There is a line over fifteen pairs. Over sixteen pairs the data go on too, but there is no line.
 #[test]
 fn fifteen_pairs_at_most(rt: HostRuntime) -> Result<(), Fail> {
     assert_eq!(rt;

@@ -1,4 +1,4 @@
-//! The steps of the publisher.
+//! The steps of the publisher: it opens, begins a batch, publishes a plan, ends.
 ghost use Rattle.std.specs.Prelude.{◌≡◌, ◌+◌, ◌^◌, ◌<◌, [], ◌∷◌, ◌++◌, length, IfOk, IfSome, OnOk, OnErr};
 ghost use Rattle.std.specs.Arc.{arc_value};
 ghost use Rattle.live_plan.specs.Entries.{entry_plan};
@@ -22,10 +22,10 @@ use std::sync::{Arc, Wait};
 use std::thread;
 use std::thread::Threads;
 
-// The most readers at one time: each worker has one at most.
+// The most readers at one time: each worker has at most one.
 const READERS: usize = 16;
 
-// The last plan is shown once more where a batch begins. The teller is moved, since the writer is.
+// Shows the last plan once more at the beginning of a batch. The teller is moved, since the writer is.
 fn with_begun<R: Wait>(teller: Teller, given: (&R, Published)) -> (Teller, Result<(), AllocError>)
     requires batch { (shown_by teller).batch < (arc_value given.1.shown).batch }
     requires number { (arc_value given.1.shown).number ≡ (shown_by teller).number }
@@ -64,7 +64,7 @@ fn with_begun<R: Wait>(teller: Teller, given: (&R, Published)) -> (Teller, Resul
     (teller, published)
 }
 
-// The next plan of the batch is shown.
+// Shows the next plan of the batch.
 fn with_next<R: Wait>(teller: Teller, given: (&R, Published)) -> (Teller, Result<(), AllocError>)
     requires batch { (shown_by teller).batch ≡ (arc_value given.1.shown).batch }
     requires number { (arc_value given.1.shown).number ≡ (shown_by teller).number + 1 }
@@ -101,7 +101,7 @@ fn with_next<R: Wait>(teller: Teller, given: (&R, Published)) -> (Teller, Result
     (teller, published)
 }
 
-/// The publisher of this plan alone.
+/// A publisher with only this plan.
 pub(crate) fn open<R: Wait>(rt: &R, alloc: Global, first: Accepted) -> Result<Teller, OutOfMemory>
     ensures plans { IfOk result (λ t. plans_of t ≡ first ∷ []) }
     ensures due { IfOk result (λ t. due_of t ≡ first ∷ []) }
@@ -154,8 +154,8 @@ pub(crate) fn open<R: Wait>(rt: &R, alloc: Global, first: Accepted) -> Result<Te
             processors: 0,
         }),
         Err(_) => {
-            // What is to be shown can't be shared once more, for the writer's other copy. No contract says how often a value
-            // is shared, so this can't be excluded by proof.
+            // What is to be shown cannot be shared once more, for the writer's other copy. No contract says how often a value
+            // is shared, so proof cannot exclude this.
             writer.take(rt);
             Err(OutOfMemory)
         }
@@ -170,7 +170,7 @@ impl Teller {
         self.nodes
     }
 
-    /// The number of the last plan, which is how many are published.
+    /// The number of the last plan, which is also the number of published plans.
     pub fn number(&self) -> u32
         ensures { result ≡ length (plans_of self.now) }
     {
@@ -184,14 +184,15 @@ impl Teller {
         &self.writer.published().shown.plan
     }
 
-    // The batch that is under way, or was the last.
+    // The number of the present batch or, between batches, of the last one.
     pub(crate) fn batch(&self) -> u64
         ensures { result ≡ (told_by self.now).batch }
     {
         self.writer.published().shown.batch
     }
 
-    // How many threads may run at once, two at least. The system is asked once: its answer takes the time of some jobs.
+    // The number of threads that may run at once, at least two. The system is asked once: its answer takes the time of some
+    // jobs.
     pub(crate) fn processors<R: Threads>(&mut self, rt: &R) -> usize
         ensures some { 0 < result }
         ensures told { told_by self.new ≡ told_by self.old }
@@ -206,7 +207,7 @@ impl Teller {
         self.processors
     }
 
-    /// The last plan with its number.
+    /// The last plan with its number, as an entry for a worker. The only error is lack of memory.
     pub fn last_entry(&self) -> Result<Entry, OutOfMemory>
         ensures number { IfOk result (λ e. e.number ≡ length (plans_of self.now)) }
         ensures plan { IfOk result (λ e. HasPlan (plans_of self.now) e.number (entry_plan e)) }
@@ -217,7 +218,7 @@ impl Teller {
         Entry::of(self.alloc, shown.number, &shown.plan)
     }
 
-    // A new reader, which knows what the publisher knows.
+    // A new reader, which knows what the publisher knows, if there is a seat and memory for it.
     pub(crate) fn reader(&mut self) -> Option<PlanReader>
         ensures reader { IfSome result (λ r. known_by r.place ≡ told_by self.old) }
         ensures told { told_by self.new ≡ told_by self.old }
@@ -282,12 +283,12 @@ impl Teller {
         Ok(())
     }
 
-    /// Publishes a plan behind the last one, and answers its number. It may wait for workers that are looking. Where memory
-    /// is wanting nothing was published, and the plan is given up.
+    /// Publishes a plan after the last one, and answers its number. It may wait for workers that are looking. The only error
+    /// is lack of memory: then nothing was published, and the plan is given up.
     ///
     /// This is a batch of its own, for which no worker was briefed. From then on each entry of each worker is refused, until
-    /// `run_batch` briefs the workers again. Until then a worker goes on by the plan that it keeps. After want of memory it may
-    /// be so too, since the batch may have begun.
+    /// `run_batch` briefs the workers again. Until then a worker goes on with the plan that it keeps. This may also be so
+    /// after lack of memory, since the batch may have begun.
     pub fn replace<R: Wait>(&mut self, rt: &R, next: Accepted) -> Result<u32, OutOfMemory>
         requires nodes { nodes_of next ≡ self.old.nodes }
         requires room { length (plans_of self.old) + 1 < 2 ^ 32 }

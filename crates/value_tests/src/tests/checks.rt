@@ -15,7 +15,7 @@ fn class(cover: u16, node: u8, known: &str, least: u8, most: u8) -> Result<Class
     Ok(Class::new(cover, node, selector, 6, known, least, most).ok_or("a class")?)
 }
 
-/// Whether these known digits and so many further ones are a class.
+/// Whether these known digits and this number of further ones are a class.
 fn is_class(known: &str, least: u8, most: u8) -> Result<bool, Fail> {
     let selector = Selector::new(4, 0, 1, 4).ok_or("a selector")?;
     let known = Digits::parse(known.as_bytes())?;
@@ -27,7 +27,7 @@ fn first() -> Result<Class, Fail> {
     class(0, 0, "49", 10, 10)
 }
 
-/// A covered title, and so many markings with nothing prohibited.
+/// A covered title, and this number of markings with nothing prohibited.
 fn longest(alloc: Global, hops: u8) -> Result<Longest, Fail> {
     let mut markings = List::new(alloc);
     for _ in 0..hops {
@@ -44,7 +44,7 @@ fn longest(alloc: Global, hops: u8) -> Result<Longest, Fail> {
     })
 }
 
-/// The rank of the titles of the plan's first cover, where they have one.
+/// The rank of the titles of the plan's first cover, if they have one.
 fn ranks(alloc: Global, rank: Option<u8>) -> Result<Ranks, Fail> {
     let mut ranks = Ranks::new(alloc);
     if let Some(rank) = rank {
@@ -78,7 +78,7 @@ fn told_by(
     }
 }
 
-/// The same where the titles of the plan's first cover have this rank or none.
+/// The same if the titles of the plan's first cover have this rank or none.
 fn answer_of(
     alloc: Global,
     text: &str,
@@ -91,7 +91,7 @@ fn answer_of(
     told
 }
 
-/// What is told of a check.
+/// The outcome of a check.
 #[derive(Clone, Copy)]
 enum Told {
     Bound(u8),
@@ -102,7 +102,7 @@ enum Told {
     NoRank,
 }
 
-/// Whether this is told. A class that is named is that of the first cover's titles.
+/// Whether this is the outcome. A class that is named is that of the first cover's titles.
 fn is_told(got: &Result<u8, CheckFault>, want: Told) -> Result<bool, Fail> {
     let want = match want {
         Told::Bound(bound) => Ok(bound),
@@ -115,7 +115,7 @@ fn is_told(got: &Result<u8, CheckFault>, want: Told) -> Result<bool, Fail> {
     Ok(*got == want)
 }
 
-/// A plan, the rank of the titles of its first cover, the hops of the longest route, and what is told.
+/// A plan, the rank of the titles of its first cover, the hops of the longest route, and the outcome.
 const CHECKS: [(&str, Option<u8>, u8, Told); 6] = [
     (ONE_TARGET, Some(1), 1, Told::Bound(1)),
     (ONE_TARGET, None, 1, Told::NoStart),
@@ -125,7 +125,7 @@ const CHECKS: [(&str, Option<u8>, u8, Told); 6] = [
     (ROW_OF_SOME, Some(1), 1, Told::NoRank),
 ];
 
-/// The place of the first check of which something else is told.
+/// The place of the first check with another outcome.
 fn first_other(
     alloc: Global,
     checks: &[(&str, Option<u8>, u8, Told)],

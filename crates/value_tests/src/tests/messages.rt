@@ -129,7 +129,7 @@ fn fault_of(alloc: Global, message: Message) -> Option<EncodeFault> {
     fault
 }
 
-/// The fault of a UDT with so many octets of data.
+/// The fault of a UDT with this number of octets of data.
 fn fault_of_udt(alloc: Global, count: usize) -> Result<Option<EncodeFault>, OutOfMemory> {
     let message = Message::Udt {
         class: 0,
@@ -140,7 +140,7 @@ fn fault_of_udt(alloc: Global, count: usize) -> Result<Option<EncodeFault>, OutO
     Ok(fault_of(alloc, message))
 }
 
-/// The fault of an LUDT with so many octets of data.
+/// The fault of an LUDT with this number of octets of data.
 fn fault_of_ludt(alloc: Global, count: usize) -> Result<Option<EncodeFault>, OutOfMemory> {
     let message = Message::Ludt {
         class: 0,
@@ -166,7 +166,7 @@ fn data_may_be_too_long(rt: HostRuntime) -> Result<(), Fail> {
     Ok(())
 }
 
-/// The parameter 7F, of so many octets.
+/// The parameter 7F, of this number of octets.
 fn one_parameter(alloc: Global, count: usize) -> Result<List<Param>, OutOfMemory> {
     let mut params = List::new(alloc);
     if let Some(param) = Param::new(0x7F, octets(alloc, count)?) {
@@ -175,8 +175,8 @@ fn one_parameter(alloc: Global, count: usize) -> Result<List<Param>, OutOfMemory
     Ok(params)
 }
 
-/// The fault of an XUDT to these digits, with a calling address of four octets, 230 octets of data and one parameter, of so
-/// many octets.
+/// The fault of an XUDT to these digits. It has a calling address of four octets, 230 octets of data and one parameter of
+/// this number of octets.
 fn fault_of_xudt(alloc: Global, digits: &str, count: usize) -> Result<Option<EncodeFault>, Fail> {
     let payload = octets(alloc, 230)?;
     let params = one_parameter(alloc, count)?;
@@ -236,7 +236,7 @@ fn first_other(
     Ok(None)
 }
 
-/// The pointer to the optional part reaches 255 octets. That a part is too long is told before a pointer that is too far.
+/// The pointer to the optional part reaches 255 octets. A part that is too long is reported before a pointer that is too far.
 #[test]
 fn the_optional_part_may_be_too_far(rt: HostRuntime) -> Result<(), Fail> {
     assert_eq!(rt; first_other(rt.alloc(), &XUDTS)?, None);

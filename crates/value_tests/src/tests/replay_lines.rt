@@ -33,7 +33,7 @@ fn sent(alloc: Global) -> Result<List<Outcome>, Fail> {
     Ok(outcomes)
 }
 
-/// The text of that message on line 7, where nothing is left to be done.
+/// The text of that message on line 7, if nothing is left to be done.
 fn text_of_cut(alloc: Global, plan: &Plan) -> Result<Octets, OutOfMemory> {
     let served = cut(alloc)?;
     let nothing = List::new(alloc);

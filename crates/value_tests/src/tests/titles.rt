@@ -34,7 +34,7 @@ const TITLES: [(u8, u8, &str, bool); 8] = [
     (0, 3, "490", false),
 ];
 
-/// The place of the first of these titles of which that isn't so.
+/// The place of the first of these titles for which the answer is another one.
 fn first_other(plan: &Plan, titles: &[(u8, u8, &str, bool)]) -> Result<Option<usize>, Fail> {
     for (place, (node, nature, digits, want)) in titles.iter().enumerate() {
         let at = spot(*node, *nature, digits)?;

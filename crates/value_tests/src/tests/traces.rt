@@ -12,7 +12,7 @@ msg a 4103 00ff\n\
 \n\
 fence";
 
-/// Whether a line has this number, and is a message of so many octets from this point at the relay a.
+/// Whether a line has this number, and is a message of this number of octets from this point at the relay a.
 fn is_msg(got: &Numbered, number: u32, point: u16, count: usize) -> bool {
     match &got.line {
         Line::Msg {
@@ -55,7 +55,7 @@ fn are_all(lines: &[Numbered]) -> bool {
     }
 }
 
-/// Appends what a reader tells of the text, in pieces of a length, and then of its end, whose fault it answers.
+/// Appends what a reader gives of the text, in pieces of a length, and then of its end, whose fault it answers.
 fn read_into(
     reader: &mut Reader,
     lines: &mut Vec<Numbered>,
@@ -96,15 +96,15 @@ fn any_cutting_gives_the_same_lines(rt: HostRuntime) -> Result<(), Fail> {
 /// What a reader is handed.
 #[derive(Clone, Copy)]
 enum Turn {
-    /// A piece, which is this text so many times.
+    /// A piece, which is this text repeated as often as the number says.
     Feeds(&'static str, usize),
     Ends,
 }
 
-/// What a reader is handed, and how many lines it gives, with the fault behind them.
+/// What a reader is handed, and how many lines it gives, with the fault after them.
 type Step = (Turn, usize, Option<LineFault>);
 
-/// A text so many times.
+/// A text repeated.
 fn repeated(alloc: Global, text: &str, count: usize) -> Result<Vec<u8>, AllocError> {
     let mut octets = Vec::new(alloc);
     for _ in 0..count {
@@ -113,13 +113,13 @@ fn repeated(alloc: Global, text: &str, count: usize) -> Result<Vec<u8>, AllocErr
     Ok(octets)
 }
 
-/// How many lines a piece gives, and the fault behind them.
+/// How many lines a piece gives, and the fault after them.
 fn fed(reader: &mut Reader, piece: &[u8]) -> Result<(usize, Option<LineFault>), Fail> {
     let told = reader.feed(piece)?;
     Ok((told.lines.as_slice().len(), told.fault))
 }
 
-/// How many lines the end gives, and the fault behind them.
+/// How many lines the end gives, and the fault after them.
 fn finished(reader: &mut Reader) -> Result<(usize, Option<LineFault>), Fail> {
     let told = reader.finish()?;
     Ok((told.lines.as_slice().len(), told.fault))
@@ -140,7 +140,7 @@ fn told(
     }
 }
 
-/// The place of the first step of which something else is told.
+/// The place of the first step with another result.
 fn first_other(alloc: Global, reader: &mut Reader, steps: &[Step]) -> Result<Option<usize>, Fail> {
     for (place, (turn, count, fault)) in steps.iter().enumerate() {
         if told(alloc, reader, turn)? != (*count, *fault) {
@@ -201,7 +201,7 @@ const END: [Step; 4] = [
     (Turn::Ends, 0, None),
 ];
 
-/// A fault stands from its line feed on, a limit at its octet, and nothing comes after the end.
+/// A fault holds from its line feed on, a limit at its octet, and nothing follows the end.
 #[test]
 fn readers_are_handed_pieces(rt: HostRuntime) -> Result<(), Fail> {
     let alloc = rt.alloc();

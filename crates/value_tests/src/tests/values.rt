@@ -3,7 +3,7 @@ use sccp_base::{Digits, DigitsFault, List, Mark, Marking, Octets, PointCode};
 use std::alloc::Global;
 use std::test::Fail;
 
-/// Whether two octets that are appended and turned round stand in the second order, and those of a copy made before in the
+/// Whether two octets that are appended and turned round are in the second order, and those of a copy made before in the
 /// first.
 fn octets_grow(alloc: Global, octets: &mut Octets) -> Result<(bool, bool), Fail> {
     octets.push(0xAB)?;
@@ -16,7 +16,7 @@ fn octets_grow(alloc: Global, octets: &mut Octets) -> Result<(bool, bool), Fail>
     ))
 }
 
-/// Whether none, which is appended behind a point code, stands first where both are turned round.
+/// Whether none, which is appended after a point code, is first if both are turned round.
 fn list_grows(list: &mut List<Option<PointCode>>) -> Result<bool, Fail> {
     list.push(PointCode::new(2050))?;
     list.push(PointCode::new(16384))?;
@@ -51,8 +51,8 @@ fn digits_are_packed(rt: HostRuntime) -> Result<(), Fail> {
     Ok(())
 }
 
-/// Whether marks that are prohibited out of their order stand in it, and then whether the third and the fourth are held where
-/// the third is allowed and a mark that isn't held, and how many a copy has.
+/// Whether marks that are prohibited out of their order are in it. Next, whether the third and the fourth are held after the
+/// third is allowed and a mark that is not held. Last, how many a copy has.
 fn told(
     alloc: Global,
     marking: &mut Marking,

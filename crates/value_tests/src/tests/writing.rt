@@ -5,7 +5,7 @@ use sccp_message::canonical;
 use std::alloc::Global;
 use std::test::Fail;
 
-/// A UDT of which each part stands behind the one before.
+/// A UDT of which each part follows the one before.
 const UDT: &str = "0900030E120B1206001204947101000021044301080802AABB";
 /// The same with two octets between the calling address and the data.
 const UDT_WITH_A_GAP: &str = "0900030E140B12060012049471010000210443010808000002AABB";

@@ -2,6 +2,6 @@ use Rattle.std.proofs.Common.{◌≡◌, drop}
 use Rattle.chain_call.specs.Notes.{first_refusal}
 use Rattle.chain_call.proofs.finding.first_refusal.Given as goal
 
--- what is left tells it of them all
+-- the first one among what is left is the first of them all
 abbrev pub invariant-loop-h : goal.invariant-loop-h
 invariant-loop-h l = first_refusal l.fn.point (drop l.h-index l.handed) ≡ first_refusal l.fn.point l.handed

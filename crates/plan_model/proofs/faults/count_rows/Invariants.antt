@@ -1,13 +1,14 @@
-use Rattle.std.proofs.Common.{◌≡◌, take}
+use Rattle.std.proofs.Common.{◌≡◌, ◌+◌, take}
 use Rattle.std.specs.Prelude.{min}
 use Rattle.std.specs.List.{AllWithin}
 use Rattle.plan_rules.specs.Tables.{IsTable}
+use Rattle.plan_model.specs.Limits.{most_rows}
 use Rattle.plan_model.specs.Network.{rows_in_all}
 use Rattle.plan_model.proofs.faults.count_rows.Given as goal
 
--- the rows of the nodes so far, up to 4,097
+-- the rows of the nodes so far, up to one more than a plan may have
 abbrev pub invariant-loop-node : goal.invariant-loop-node
 invariant-loop-node l = record {
-  count : l.count ≡ min (rows_in_all (take l.node-index l.nodes)) 4097;
+  count : l.count ≡ min (rows_in_all (take l.node-index l.nodes)) (most_rows + 1);
   tables : AllWithin (λ node. IsTable node.table) l.nodes 0 l.node-index;
 }

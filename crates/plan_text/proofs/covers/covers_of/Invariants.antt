@@ -7,7 +7,7 @@ use Rattle.plan_text.specs.Covers.{cover_of, covers_of}
 use Rattle.plan_text.proofs.EachOk.{ahead}
 use Rattle.plan_text.proofs.covers.covers_of.Given as goal
 
--- the covers so far, and those behind them, are what is read
+-- the covers so far, then those that follow, are what is read
 abbrev pub invariant-loop-i : goal.invariant-loop-i
 invariant-loop-i l = record {
   value : with_front l.read (ahead view (cover_of (map view l.nodes)) l.i l.covers) ≡ covers_of (map view l.nodes) (map view l.covers);

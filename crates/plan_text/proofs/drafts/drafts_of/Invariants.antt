@@ -5,7 +5,7 @@ use Rattle.plan_text.specs.Drafts.{draft_of, drafts_of}
 use Rattle.plan_text.proofs.EachOk.{ahead}
 use Rattle.plan_text.proofs.drafts.drafts_of.Given as goal
 
--- the nodes so far, and those behind them, are what is read
+-- the nodes so far, then those that follow, are what is read
 abbrev pub invariant-loop-i : goal.invariant-loop-i
 invariant-loop-i l = record {
   value : with_front l.read (ahead view (draft_of (map view l.nodes)) l.i l.nodes) ≡ drafts_of (map view l.nodes);

@@ -1,4 +1,5 @@
 use Rattle.std.proofs.Common.{ℕ, ◌↔◌}
+use Rattle.plan_model.specs.Limits.{most_classes}
 use Rattle.plan_model.specs.Network.{Network}
 use Rattle.plan_model.proofs.SafeWays.{safe_not_bad}
 use Rattle.plan_classes.specs.Classes.{ReachesAtLeast}
@@ -7,7 +8,7 @@ use Rattle.plan_verify.specs.declared.verdict.Verdict.TheVariants.{Accepted, Ref
 use Rattle.plan_verify.specs.Lawful.{IsLawful, IsAccepted, IsSafeFor}
 use Rattle.plan_verify.proofs.laws.verdicts_are_exact.Goals as goal
 
-exact : (plan : Network) (verdict : Verdict) → IsLawful plan verdict → (ReachesAtLeast plan 262144 → ⊥) → (IsAccepted verdict ↔ (bound : ℕ) × IsSafeFor plan bound)
+exact : (plan : Network) (verdict : Verdict) → IsLawful plan verdict → (ReachesAtLeast plan most_classes → ⊥) → (IsAccepted verdict ↔ (bound : ℕ) × IsSafeFor plan bound)
 exact plan (Accepted accepted) lawful narrow = (λ t. (accepted.bound, lawful.0), λ s. tt)
 exact plan (Refused same w) lawful narrow = (λ t. absurd t, λ s. safe_not_bad plan s.0 w.cover w.spot w.markings w.hops w.kind s.1.few s.1.safe lawful.bad)
 exact plan (TooWide same) lawful narrow = (λ t. absurd t, λ s. narrow lawful)

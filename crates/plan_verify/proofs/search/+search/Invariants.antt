@@ -8,7 +8,7 @@ use Rattle.plan_verify.specs.Attained.{RanksFrom, LeadsHigh}
 use Rattle.plan_verify.specs.Searching.{Keeps, IsSound}
 use Rattle.plan_verify.proofs.search.+search.Given as goal
 
--- a part has fewer open digits, and what a target leads to as many and one rewriting more behind it
+-- a part has fewer open digits; a next class has the same number of them, and one rewriting more is done
 abbrev pub decreases-explore : goal.decreases-explore
 decreases-explore l = 5 * ((14 - l.depth) + l.class.now.most) + 4
 
@@ -38,7 +38,7 @@ decreases-explore_row l = 5 * ((14 - l.depth) + l.class.now.most) + 1
 abbrev pub decreases-explore_target : goal.decreases-explore_target
 decreases-explore_target l = 5 * ((14 - l.depth) + l.class.now.most)
 
--- the targets so far lead well, and one of them as high as can be
+-- the targets so far lead well, and one of them leads to the greatest rank
 abbrev pub invariant-explore_row-loop-place : goal.invariant-explore_row-loop-place
 invariant-explore_row-loop-place l = record {
   keeps : Keeps l.fn.ranks l.ranks;

@@ -1,4 +1,5 @@
 use Rattle.std.proofs.Common.{ℕ, ◌≤◌, ◌∙◌, Err, length, subst, sym, ap, arith}
+use Rattle.plan_model.specs.Limits.{most_classes}
 use Rattle.plan_classes.specs.Classes.{Reachable}
 use Rattle.plan_check.proofs.Listed.{listed}
 use Rattle.plan_verify.specs.declared.found.Found.{Found}
@@ -30,12 +31,12 @@ returns-else-len-lt-LIMIT-clause-keeps c = keeps_put _ _ c.args.class.now c.in-R
 pub returns-else-len-lt-LIMIT-clause-found : goal.returns-else-len-lt-LIMIT-clause-found
 returns-else-len-lt-LIMIT-clause-found c =
     let found = subst (λ (f : Found). IsFollowed c.args.plan.now c.args.class.now c.args.depth c.args.ranks.now f) c.in-Rank.is c.requires.found in
-    let many : 262144 ≤ length c.put.new.self = omega (arith, c.if-len-lt-LIMIT.false, c.len.ensures.count) in
+    let many : most_classes ≤ length c.put.new.self = omega (arith, c.if-len-lt-LIMIT.false, c.len.ensures.count) in
     let sound = sound_put _ _ _ _ c.in-Rank.rank c.args.depth c.requires.sound (sym c.get.ensures ∙ c.in-None.is) c.in-Ok.ensures.ok found.0 c.requires.reached in
-    listed (λ t. (depth : ℕ) × Reachable c.args.plan.now depth t) c.put.new.self 262144 sound.reached c.len.ensures.sound.ordered many
+    listed (λ t. (depth : ℕ) × Reachable c.args.plan.now depth t) c.put.new.self most_classes sound.reached c.len.ensures.sound.ordered many
 
 pub returns-in-Err-Full-clause-found : goal.returns-in-Err-Full-clause-found
 returns-in-Err-Full-clause-found c =
     let full = c.put.ensures.full.0 (c.in-Err-Full.is ∙ ap Err c.in-Err-Full.field-0-is) in
-    let many : 262144 ≤ length c.args.ranks.now = omega (arith, full.full) in
-    listed (λ t. (depth : ℕ) × Reachable c.args.plan.now depth t) c.args.ranks.now 262144 c.requires.sound.reached c.put.ensures.sound.ordered many
+    let many : most_classes ≤ length c.args.ranks.now = omega (arith, full.full) in
+    listed (λ t. (depth : ℕ) × Reachable c.args.plan.now depth t) c.args.ranks.now most_classes c.requires.sound.reached c.put.ensures.sound.ordered many

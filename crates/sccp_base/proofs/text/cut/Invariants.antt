@@ -3,6 +3,6 @@ use Rattle.std.specs.Option.{option_map}
 use Rattle.sccp_base.specs.Text.{cut_at}
 use Rattle.sccp_base.proofs.text.cut.Given as goal
 
--- what was passed stands before the separator
+-- the octets passed so far are before the separator
 abbrev pub invariant-loop-place : goal.invariant-loop-place
 invariant-loop-place l = cut_at l.separator l.text ≡ option_map (λ parts. (take l.place l.text ++ parts.0, parts.1)) (cut_at l.separator (drop l.place l.text))

@@ -5,7 +5,7 @@ use Rattle.sccp_couple.specs.Marked.{is_unmarked}
 use Rattle.sccp_couple.proofs.references.least_unmarked.Goals as goal
 use Rattle.sccp_couple.proofs.references.least_unmarked.Goals.{in-Some+else-is_unmarked, in_default}
 
--- a number that doesn't pass is left out
+-- a number that does not pass the test is left out
 skip : (p : ℕ → Bool) (a n m : ℕ) → p a ≡ false → n ≡ suc m → filter p (range_with_len a n) ≡ filter p (range_with_len (a + 1) m)
 skip p a n m h e =
     ap (λ (k : ℕ). filter p (range_with_len a k)) e ∙ cond-false (p a) (a ∷ filter p (range_with_len (a + 1) m)) (filter p (range_with_len (a + 1) m)) h

@@ -2,7 +2,7 @@ use Rattle.std.proofs.Common.{◌≡◌, length, take}
 use Rattle.sccp_couple.proofs.OwnMarks.{AreMarked}
 use Rattle.sccp_couple.proofs.references.mark_own.Given as goal
 
--- the own references so far have their marks
+-- the own references seen so far have their marks
 abbrev pub invariant-loop-section : goal.invariant-loop-section
 invariant-loop-section l = record {
   count : length l.marks ≡ length l.fn.marks;

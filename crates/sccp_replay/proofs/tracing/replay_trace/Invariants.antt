@@ -7,7 +7,7 @@ use Rattle.sccp_replay.specs.Trace.{trace_of}
 use Rattle.sccp_work.specs.Work.{read}
 use Rattle.sccp_replay.proofs.tracing.replay_trace.Given as goal
 
--- whatever may still come of the trace; so many lines were taken, of a text of at least as many octets as pieces
+-- Whatever may still follow of the trace: this number of lines was taken, of a text of at least as many octets as pieces.
 abbrev pub invariant-loop-turn : goal.invariant-loop-turn
 invariant-loop-turn g l = record {
   goes : GoesOn (read l.fn.name (λ octets. trace_work l.fn.at (trace_of octets))) l.count l.at (lines_in l.batch) [] l.reader (g.F.Files.left l.files)

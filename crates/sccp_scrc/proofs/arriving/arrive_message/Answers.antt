@@ -1,5 +1,5 @@
 use Rattle.std.proofs.Common.{sym, ◌∙◌}
-use Rattle.sccp_scrc.specs.Unitdata.{called_of}
+use Rattle.sccp_message.specs.Unitdata.{called_of}
 use Rattle.sccp_scrc.proofs.Behind.{titled}
 use Rattle.sccp_scrc.proofs.arriving.arrive_message.Goals as goal
 

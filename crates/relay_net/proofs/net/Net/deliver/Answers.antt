@@ -4,7 +4,7 @@ use Rattle.relay_net.specs.declared.happening.Happening.TheVariants.{Delivered}
 use Rattle.relay_net.proofs.Places.{stay_in_place, states_applied, outcomes_applied}
 use Rattle.relay_net.proofs.net.Net.deliver.Goals as goal
 
--- What is delivered asks nothing of the plan.
+-- Delivery does not depend on the plan.
 pub invariant_of-self : goal.invariant_of-self
 invariant_of-self c =
     stay_in_place (network [] []) c.self.inside.states.items c.from.result c.index_mut.result.now c.receive.new.self (Delivered c.args.message.now) c.receive.result c.self.invariant

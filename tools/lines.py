@@ -1,0 +1,620 @@
+#!/usr/bin/env python3
+"""Reads the lines that the program prints. Tools import it, and ./sccp --json runs it.
+
+  read_line(line, command=None)     the record of one line, with or without its line feed
+  read_lines(lines, command=None)   the record of each line, in order; any number of lines in constant memory
+  read_groups(lines, command=None)  the same, but lines that belong to the one before them are in its record (see below)
+  write_line(record)                the line of a record, without a line feed
+  mark_text(mark)                   the text of a mark, as point:2-0-1
+  FORMS                             the forms by their names
+  RETURN_CAUSES, REFUSAL_CAUSES, ERROR_CAUSES    the texts of causes by their numbers
+
+A record is a dict. Its "form" is the name of a form in FORMS, and its other keys are the fields of that form, each of one type.
+Every line that the program prints is read by exactly one form of its command, the first word of the call. The fields give the
+whole line back. Without a command all forms are tried; then a line such as `5 undecodable short` is taken for a replay's, not for
+one of `cuts`. A line of no form gives {"form": "text", "text": LINE}.
+
+  number      a whole number, as an int
+  name        a text: the name of a relay or of a file, a point code such as "2-0-1", a selector such as "4:0:1:4", a word
+  octets      hexadecimal digits in upper case, two for each octet; "" if there are none. Digits of a title likewise, one each
+  list        of names (via), of marks (held, marks), of numbers (place.rows), of texts (shapes)
+  mark        {"kind": "point", "point": "2-0-1"}; so is a mark of kind "sccp"; one of kind "subsystem" has also "ssn": 6
+  yes or no   a bool. What is absent (`-`) is None
+
+Fields in [] are only there if the line has them. `A.B` is the key B of the dict A.
+
+  form               fields                                       lines, and the commands that print them
+  usage              shapes                                       every command
+  too_long                                                        every command that reads a file
+  read_fault                                                      the same
+  bad_plan           [which] FAULT                                every command that reads a plan
+  bad_trace_line     line fault                                   show, import, replay
+  unknown_node       [line]                                       route, connect, send-on; with a line: replay
+  accepted           [which] bound                                verify; with which ("old" or "new"): change
+  refused            [which] KIND cover steady                    verify, replay, load, connect; with which: change
+  too_wide           [which]                                      the same
+  hop                [which] node title held step ..              verify, route, replay, load, connect, change
+  change_accepted    bound                                        change
+  change_refused     KIND old_cover new_cover                     change
+  change_too_wide                                                 change
+  other_nodes                                                     change
+  plan_accepted      [line] plan file bound                       replay: the first plan (no line), and later ones
+  plan_refused       line file KIND cover steady                  replay: a later plan; so are the next three
+  plan_too_wide      line file
+  plan_bad           line file FAULT
+  plan_other_nodes   line file
+  journey            line plan via end ..                         replay: a message that was routed
+  sends              line to octets                               replay: a message that is sent because of the line
+  event              line event node [point] [ssn]                replay: event is pause, resume, no-sccp, up, down or tick
+  management         [line] [status] [point] [ssn]                replay; without any field: send-on
+  connection         [line] type                                  replay; without a line: send-on
+  undecodable        [line] WHY                                   show-hex, show, send-on; with a line: replay
+  end                lines                                        replay
+  count              of number                                    load: of is messages, ended, returned or translations
+  leaves             to octets                                    send-on
+  not_split          why                                          send-on
+  local              ssn                                          send-on
+  returned           cause marks                                  send-on
+  opened             via to                                       connect
+  forth, back        octets                                       connect
+  sections           number                                       connect
+  connection_refused cause text                                   connect
+  unanswered, unsettled, end_is_node                              connect
+  trace_message      node origin octets                           import
+  skipped            why [number]                                 import
+  cut                count ok [WHY]                               cuts: ok is a bool
+  message            type                                         show-hex, show, as all that follow but empty
+  class              class options
+  source, destination, send, receive, credit, hop_counter         each with one field, number
+  more, canonical    yes
+  return_cause, refusal_cause, error_cause    cause text          text is None for a cause without one
+  release_cause, reset_cause                  cause
+  called, calling    route point ssn title national               route is "ssn" or "title"; point, ssn and title may be None
+  data               octets
+  parameter          name octets
+  empty                                                           show: the line after each message; import: an empty line
+
+KIND is kind, and for "loop" hop, for "forbidden" point and ssn, for "no row" cause; "long" and "overgrown" have no more.
+FAULT is fault with place.node, place.row, place.cover and place.key as far as the fault has them. "rule" has also rule ("twice" with
+place.rows, "strip too long" or "kind two" with place.row), and "limit" has of. "not toml" and "no cover" have no place.
+WHY is fault, and for "bad pointer" and "bad part" number, for "address" number and why, for "field" name.
+
+title of a hop is title.selector, title.ssn and title.digits. step is "sent" with next and target, "ended" with point, ssn and
+target, "blocked" or "no row" with cause, or "overgrown". title of an address is None, or title.selector and title.digits, or
+title.raw (its kind) and title.octets.
+
+end of a journey is "ended" with point, ssn and octets; "local" with ssn, data and [segment] ("more", "full", "whole" with whole, or
+"dropped" with reason); "returned" with cause, marks and service; or "cut". service is None, or service.octets with service.way: "sent"
+with service.to, "closed" with service.mark, "via" with service.via and service.end ("ended" with service.point, service.ssn and
+service.arrived; "local" with service.ssn; "lost" with service.cause; "management"; "cut"; or None).
+
+read_groups puts hops into the list "hops" of the record before them that is a verdict or an answer on a changeover (accepted,
+refused, change_accepted, change_refused, plan_refused); hops without one, as of `route`, become {"form": "route", "hops": [..]}.
+The lines of a message of `show` and `show-hex` become the list "parts" of its record. The records `sends` go into the list "sends"
+of the record of the same line, if it stands before them.
+"""
+import contextlib
+import json
+import os
+import re
+import signal
+import subprocess
+import sys
+
+# ---- The texts of causes (Q.713 sections 3.12, 3.14 and 3.15)
+
+RETURN_CAUSES = {
+    0: "no translation for an address of such nature", 1: "no translation for this specific address", 2: "subsystem congestion",
+    3: "subsystem failure", 4: "unequipped user", 5: "MTP failure", 6: "network congestion", 7: "unqualified",
+    8: "error in message transport", 9: "error in local processing", 10: "destination cannot perform reassembly", 11: "SCCP failure",
+    12: "hop counter violation", 13: "segmentation not supported", 14: "segmentation failure",
+}
+REFUSAL_CAUSES = {
+    4: "destination address unknown", 5: "destination inaccessible", 6: "QoS not available non-transient",
+    7: "QoS not available transient", 10: "subsystem failure", 16: "hop counter violation", 17: "SCCP failure",
+    18: "no translation for an address of such nature", 19: "unequipped user",
+}
+ERROR_CAUSES = {0: "unassigned destination reference", 1: "inconsistent source reference"}
+
+# ---- The types of fields: what a field looks like, how it is read, and how it is written
+
+WHOLE = "(?:0|[1-9][0-9]{0,19})"
+CODE = f"{WHOLE}-(?:[0-9]|[1-9][0-9]|1[0-9][0-9]|2[0-4][0-9]|25[0-5])-[0-7]"
+NODE = "[A-Za-z0-9_-]{1,16}"
+MARK = f"(?:(?:point|sccp):{CODE}|subsystem:{CODE}/{WHOLE})"
+SHAPE = "[a-z][a-z-]*(?: [A-Z]+)*"
+
+
+def read_mark(text):
+    kind, _, place = text.partition(":")
+    point, _, ssn = place.partition("/")
+    return {"kind": kind, "point": point, "ssn": int(ssn)} if ssn else {"kind": kind, "point": point}
+
+
+def mark_text(mark):
+    return f"{mark['kind']}:{mark['point']}" + (f"/{mark['ssn']}" if "ssn" in mark else "")
+
+
+def as_it_is(text):
+    return text
+
+
+class Type:
+    """What a field looks like, how its value is read, and how it is written."""
+
+    def __init__(self, pattern, read=as_it_is, write=as_it_is):
+        self.pattern, self.read, self.write = pattern, read, write
+
+
+def parts(mark, read=as_it_is, write=as_it_is):
+    """The functions that read and write a list with this mark between its parts."""
+    return lambda text: [read(part) for part in text.split(mark)], lambda values: mark.join(write(value) for value in values)
+
+
+def or_else(absent, read, write, value):
+    """The functions that read and write a value, which has this text if it is absent."""
+    return lambda text: value if text == absent else read(text), lambda given: absent if given == value else write(given)
+
+
+def without(causes):
+    """A number that has no text in this table."""
+    return Type(f"(?!(?:{'|'.join(map(str, causes))})\\b){WHOLE}", int, str)
+
+
+CONNECTION_ORIENTED = "CR, CC, CREF, RLSD, RLC, DT1, DT2, AK, ED, EA, RSR, RSC, ERR, IT"
+CONNECTIONLESS = "UDT, UDTS, XUDT, XUDTS, LUDT, LUDTS"
+
+
+def words(text):
+    """One of these words, which have commas between them."""
+    return Type(f"(?:{text.replace(', ', '|')})")
+
+
+NUMBER = Type(WHOLE, int, str)
+NAME = Type(NODE)
+POINT = Type(CODE)
+OCTETS = Type("(?:-|(?:[0-9A-F]{2})+)", *or_else("-", as_it_is, as_it_is, ""))
+DIGITS = Type("(?:-|[0-9A-F]+)", *or_else("-", as_it_is, as_it_is, ""))
+MARKS = Type(f"(?:none|{MARK}(?:,{MARK})*)", *or_else("none", *parts(",", read_mark, mark_text), []))
+NAMES = Type(f"{NODE}(?:,{NODE})*", *parts(","))
+SELECTOR = Type(f"(?:[12]:{WHOLE}|3:{WHOLE}:{WHOLE}|4:{WHOLE}:{WHOLE}:{WHOLE})")
+
+# A field is a number unless it is named here: the type of each, by the last part of its name or by its whole one.
+TYPES = {
+    "node": NAME, "next": NAME, "place.node": NUMBER,
+    "point": POINT, "to": POINT, "origin": POINT,
+    "octets": OCTETS, "data": OCTETS, "whole": OCTETS, "arrived": OCTETS, "digits": DIGITS,
+    "held": MARKS, "marks": MARKS, "mark": Type(MARK, read_mark, mark_text), "via": NAMES,
+    "selector": SELECTOR,
+    "file": Type("[!-~]{1,255}"),
+    "parameter.name": Type("[0-9A-F]{2}"), "name": Type("[0-9A-F]{2}"),
+    "rows": Type(f"{WHOLE} {WHOLE}", *parts(" ", int, str)),
+    "shapes": Type(f"{SHAPE}(?: \\| {SHAPE})*", *parts(" | ")),
+    # Types of fields with other names
+    "of_data": words(CONNECTION_ORIENTED),
+    "status_word": words("ssa, ssp, sst, sor, sog, ssc"),
+    "key_word": words("version, node, cover, name, point, subsystems, concerned, row, selector, prefix, first, backup, targets, ssn, "
+                      "least, most, allowed, unknown key"),
+    "placed_fault": words("wrong shape, bad value, repeated, unknown node, relay to self, bad cover"),
+    "line_fault": words("too many, too long, not a line"),
+    "address_fault": words("empty, short, extra, odd without digits"),
+    "return_cause": without(RETURN_CAUSES), "refusal_cause": without(REFUSAL_CAUSES), "error_cause": without(ERROR_CAUSES),
+}
+
+# ---- The forms
+#
+# In a pattern {A.B} is a field, and {A.B:TYPE} one of a type of another name. {A.B=WORDS} is a field that has these words, and
+# {A.B:=VALUE:WORDS} one that has the value for which these words are printed. (P|Q) is P or Q, and <NAME> what NAME is below.
+
+PARTS = {
+    "WHICH": "({which=old} |{which=new} )",
+    "KIND": "({kind=loop} {hop}|{kind=long}|{kind=overgrown}|{kind=forbidden} {point}/{ssn}|{kind=no row} {cause})",
+    "STEADY": "steady ({steady:=true:yes}|{steady:=false:no})",
+    "PLACE": "(|node {place.node} (|row {place.row} )|cover {place.cover} ){place.key:key_word}",
+    "RULE": "({rule=twice} {place.rows}|{rule=strip too long} {place.row}|{rule=kind two} {place.row})",
+    "LIMIT": "{fault=limit} ({of=nodes}|{of=rows}|{of=covers})",
+    "BAD_PLAN": "bad plan ({fault=not toml}|{fault=no cover}|<LIMIT>|{fault:placed_fault} <PLACE>|{fault=rule} node {place.node} <RULE>)",
+    "NUMBERED": "{fault=bad pointer} {number}|{fault=bad part} {number}|{fault=address} {number} {why:address_fault}",
+    "WHY": "({fault=unknown type}|{fault=short}|{fault=bad optional}|<NUMBERED>|{fault=field} {name})",
+    "SENT": "{step=sent} {next} target {target}|{step=ended} {point}/{ssn} target {target}",
+    "STEP": "(<SENT>|{step=blocked} {cause}|{step=no row} {cause}|{step=overgrown})",
+    "TITLE": "{title.selector} {title.ssn} {title.digits}",
+    "HOP": "at {node} <TITLE> held {held} <STEP>",
+    "SEGMENT": "(| segment ({segment=more}|{segment=full}|{segment=whole} {whole}|{segment=dropped} {reason}))",
+    "LOST": "{service.end=lost} {service.cause}|{service.end=management}|{service.end=cut}",
+    "CAME": "{service.end=ended} {service.point}/{service.ssn} {service.arrived}|{service.end=local} {service.ssn}",
+    "BACK": "({service.end:=null:}| (<CAME>|<LOST>))",
+    "WAY": "({service.way=sent} {service.to}|{service.way=closed} {service.mark}|{service.way=via} {service.via}<BACK>)",
+    "SERVICE": "({service:=null:no service}|service {service.octets} <WAY>)",
+    "RETURNED": "{end=returned} {cause} marks {marks} <SERVICE>",
+    "END": "({end=ended} {point}/{ssn} {octets}|{end=local} {ssn} data {data}<SEGMENT>|<RETURNED>|{end=cut})",
+    "STATUS": "({status:=null:unknown}|{status:status_word} {point}/{ssn})",
+    "DASHED": "point ({point:=null:-}|{point}) ssn ({ssn:=null:-}|{ssn})",
+    "RAW": "title raw:{title.raw} digits {title.octets}",
+    "OWN_TITLE": "({title:=null:title - digits -}|title {title.selector} digits {title.digits}|<RAW>)",
+    "PARTY": "route ({route=ssn}|{route=title}) <DASHED> <OWN_TITLE>({national:=false:}|{national:=true: national})",
+    "YES": "({yes:=true:yes}|{yes:=false:no})",
+}
+
+
+def either(name, text):
+    """The pattern of a field that is one of these words."""
+    return "(" + "|".join(f"{{{name}={word}}}" for word in text.split(", ")) + ")"
+
+
+def causes(words, table, other):
+    """The pattern of a line on a cause: its number, and its text if the table has one."""
+    return f"{words} (" + "|".join(f"{{cause:={number}:{number}}} {{text={text}}}" for number, text in table.items()) + f"|{{cause:{other}}}{{text:=null:}})"
+
+
+EVERY = "show-hex show cuts route verify change replay load send-on connect import"
+FILES = "show route verify change replay send-on connect import"
+COMMANDS = frozenset(EVERY.split())
+JUDGED = "verify replay load connect"
+SHOWN = "show-hex show"
+
+# Each form: its name, and the commands of each of its patterns.
+TABLE = [
+    ("usage", (EVERY, "usage: {shapes}")),
+    ("too_long", (FILES, "too long")),
+    ("read_fault", (FILES, "read fault")),
+    ("bad_plan", ("route verify replay send-on connect import", "<BAD_PLAN>"), ("change", "<WHICH><BAD_PLAN>")),
+    ("bad_trace_line", ("show import replay", "bad trace line {line} {fault:line_fault}")),
+    ("unknown_node", ("route connect send-on", "unknown node"), ("replay", "{line} unknown node")),
+    ("accepted", ("verify", "accepted bound {bound}"), ("change", "<WHICH>accepted bound {bound}")),
+    ("refused", (JUDGED, "refused <KIND> cover {cover} <STEADY>"), ("change", "<WHICH>refused <KIND> cover {cover} <STEADY>")),
+    ("too_wide", (JUDGED, "too wide"), ("change", "<WHICH>too wide")),
+    ("hop", (f"{JUDGED} route change", "<HOP>"), ("change", "<WHICH><HOP>")),
+    ("change_accepted", ("change", "change accepted bound {bound}")),
+    ("change_refused", ("change", "change refused <KIND> covers {old_cover} {new_cover}")),
+    ("change_too_wide", ("change", "change too wide")),
+    ("other_nodes", ("change", "other nodes")),
+    ("plan_accepted", ("replay", "({line} plan {plan}|plan {plan:=1:1}) {file} accepted bound {bound}")),
+    ("plan_refused", ("replay", "{line} plan {file} refused <KIND> cover {cover} <STEADY>")),
+    ("plan_too_wide", ("replay", "{line} plan {file} too wide")),
+    ("plan_bad", ("replay", "{line} plan {file} <BAD_PLAN>")),
+    ("plan_other_nodes", ("replay", "{line} plan {file} other nodes")),
+    ("journey", ("replay", "{line} by {plan} via {via} <END>")),
+    ("sends", ("replay", "{line} sends {to} {octets}")),
+    ("event",
+     ("replay", "{line} ({event=pause}|{event=resume}|{event=no-sccp}) {node} {point}"),
+     ("replay", "{line} ({event=up}|{event=down}) {node} {ssn}"),
+     ("replay", "{line} {event=tick} {node}")),
+    ("management", ("send-on", "management"), ("replay", "{line} management <STATUS>")),
+    ("connection", ("send-on", "connection {type:of_data}"), ("replay", "{line} connection {type:of_data}")),
+    ("undecodable", (f"{SHOWN} send-on", "undecodable <WHY>"), ("replay", "{line} undecodable <WHY>")),
+    ("end", ("replay", "end {lines}")),
+    ("count", ("load", "({of=messages}|{of=ended}|{of=returned}|{of=translations}) {number}")),
+    ("leaves", ("send-on", "to {to} {octets}")),
+    ("not_split", ("send-on", "not split ({why=already segment}|{why=too many}|{why=not writable})")),
+    ("local", ("send-on", "local {ssn}")),
+    ("returned", ("send-on", "returned {cause} marks {marks}")),
+    ("opened", ("connect", "opened via {via} to {to}")),
+    ("forth", ("connect", "forth {octets}")),
+    ("back", ("connect", "back {octets}")),
+    ("sections", ("connect", "sections {number}")),
+    ("connection_refused", ("connect", causes("refused", REFUSAL_CAUSES, "refusal_cause"))),
+    ("unanswered", ("connect", "unanswered")),
+    ("unsettled", ("connect", "unsettled")),
+    ("end_is_node", ("connect", "end is a node")),
+    ("trace_message", ("import", "msg {node} {origin} {octets}")),
+    ("skipped", ("import", "# ({why=refused} {number}|{why=service} {number}|{why=point}|{why=unknown node}|{why=empty})")),
+    ("cut", ("cuts", "{count} ({ok:=true:ok}|{ok:=false:undecodable} <WHY>)")),
+    ("message", (SHOWN, either("type", f"{CONNECTION_ORIENTED}, {CONNECTIONLESS}"))),
+    ("class", (SHOWN, "class {class} options {options}")),
+    ("source", (SHOWN, "source {number}")),
+    ("destination", (SHOWN, "destination {number}")),
+    ("send", (SHOWN, "send {number}")),
+    ("receive", (SHOWN, "receive {number}")),
+    ("credit", (SHOWN, "credit {number}")),
+    ("hop_counter", (SHOWN, "hops {number}")),
+    ("more", (SHOWN, "more <YES>")),
+    ("canonical", (SHOWN, "canonical <YES>")),
+    ("return_cause", (SHOWN, causes("return cause", RETURN_CAUSES, "return_cause"))),
+    ("refusal_cause", (SHOWN, causes("refusal cause", REFUSAL_CAUSES, "refusal_cause"))),
+    ("error_cause", (SHOWN, causes("error cause", ERROR_CAUSES, "error_cause"))),
+    ("release_cause", (SHOWN, "release cause {cause}")),
+    ("reset_cause", (SHOWN, "reset cause {cause}")),
+    ("called", (SHOWN, "called <PARTY>")),
+    ("calling", (SHOWN, "calling <PARTY>")),
+    ("data", (SHOWN, "data {octets}")),
+    ("parameter", (SHOWN, "parameter {name} {octets}")),
+    ("empty", ("show import", "")),
+]
+
+
+def expanded(pattern):
+    """The patterns without alternatives that a pattern stands for."""
+    pieces = re.findall(r"[(|)]|[^(|)]+", pattern)
+
+    def until_close():
+        done, open_ones = [], [""]
+        while pieces and pieces[0] != ")":
+            piece = pieces.pop(0)
+            if piece == "|":
+                done, open_ones = done + open_ones, [""]
+            elif piece == "(":
+                inner = until_close()
+                pieces.pop(0)
+                open_ones = [before + after for before in open_ones for after in inner]
+            else:
+                open_ones = [before + piece for before in open_ones]
+        return done + open_ones
+
+    return until_close()
+
+
+def spelled(pattern):
+    """A pattern with what its names in <> are."""
+    while "<" in pattern:
+        pattern = re.sub("<([A-Z_]+)>", lambda named: PARTS[named[1]], pattern)
+    return pattern
+
+
+class Field:
+    """A field of a pattern: its path, its type, and, if it is the same in every line of the pattern, its value."""
+
+    def __init__(self, path, kind, is_fixed=False, value=None):
+        self.path, self.kind, self.is_fixed, self.value = path, kind, is_fixed, value
+
+    @staticmethod
+    def of(name, kind, words, value):
+        path = tuple(name.split("."))
+        if words is None:
+            return Field(path, TYPES.get(kind or name) or TYPES.get(path[-1], NUMBER))
+        fixed = words if value is None else json.loads(value)
+        return Field(path, Type(re.escape(words), lambda _: fixed, lambda _: words), True, fixed)
+
+    def may_be(self, value):
+        return not self.is_fixed or type(value) is type(self.value) and value == self.value
+
+
+class Pattern:
+    """One pattern without alternatives: which lines it has, and their fields."""
+
+    PIECE = re.compile(r"\{([a-z_.]+)(?::([a-z_]+))?(?::?=(?:([^:{}]*):)?([^:{}]*))?\}")
+
+    def __init__(self, commands, text):
+        self.commands, self.text = frozenset(commands.split()), text
+        # Words and fields in turn.
+        self.pieces = self.PIECE.split(text)
+        fields = [Field.of(name, kind, words, value) for name, kind, value, words in zip(*(self.pieces[at::5] for at in range(1, 5)))]
+        self.words, self.fields = self.pieces[::5], fields
+        self.paths = {field.path for field in fields}
+        self.expression = None
+
+    def read(self, form, line):
+        """The record of a line, or None."""
+        if self.expression is None:
+            made = [re.escape(words) + f"({field.kind.pattern})" for words, field in zip(self.words, self.fields)]
+            self.expression = re.compile("".join(made) + re.escape(self.words[-1]))
+        found = self.expression.fullmatch(line)
+        if not found:
+            return None
+        record = {"form": form}
+        for field, text in zip(self.fields, found.groups()):
+            into = record
+            for key in field.path[:-1]:
+                into = into.setdefault(key, {})
+            into[field.path[-1]] = field.kind.read(text)
+        return record
+
+    def write(self, values):
+        """The line with these values by the paths of their fields, or None if the pattern has other fields or other fixed values."""
+        if values.keys() != self.paths or not all(field.may_be(values[field.path]) for field in self.fields):
+            return None
+        made = [words + field.kind.write(values[field.path]) for words, field in zip(self.words, self.fields)]
+        return "".join(made) + self.words[-1]
+
+    def key(self):
+        """What key_of gives of each line of the pattern."""
+        made = [words + (field.kind.write(field.value) if field.is_fixed else "0") for words, field in zip(self.words, self.fields)]
+        return key_of("".join(made) + self.words[-1])
+
+
+class Form:
+    """One form of lines: its name, and the patterns that make it up."""
+
+    def __init__(self, name, *patterns):
+        self.name = name
+        self.patterns = [Pattern(commands, plain) for commands, text in patterns for plain in expanded(spelled(text))]
+
+    def read(self, line, command=None):
+        """The record of a line, or None if the form doesn't have it."""
+        for pattern in self.patterns:
+            if command is None or command in pattern.commands:
+                record = pattern.read(self.name, line)
+                if record is not None:
+                    return record
+        return None
+
+    def write(self, record):
+        values = dict(flat(record))
+        del values["form",]
+        for pattern in self.patterns:
+            line = pattern.write(values)
+            if line is not None:
+                return line
+        raise ValueError(f"no line of the form {self.name} has these fields: {record}")
+
+
+def flat(record, before=()):
+    """The values of a record by their paths. A mark, and what is in a list, is a value."""
+    for key, value in record.items():
+        if isinstance(value, dict) and "kind" not in value:
+            yield from flat(value, (*before, key))
+        else:
+            yield (*before, key), value
+
+
+FORMS = {name: Form(name, *patterns) for name, *patterns in TABLE}
+
+
+def key_of(line):
+    """The words by which the patterns of a line are found: its first one, with the second one after a number, old, new or change."""
+    first, *more = line.split(" ", 2)
+    if more and (first.isdigit() or first in ("old", "new", "change")):
+        return ("0" if first.isdigit() else first, more[0])
+    return first
+
+
+KNOWN = {}
+for each in FORMS.values():
+    for one in each.patterns:
+        KNOWN.setdefault(one.key(), []).append((each.name, one))
+
+# ---- Reading and writing
+
+
+def read_line(line, command=None):
+    """The record of a line, which may have its line feed. A line of no form is one of the form text."""
+    line = line[:-1] if line.endswith("\n") else line
+    for name, pattern in KNOWN.get(key_of(line), ()):
+        if command in pattern.commands or command is None:
+            record = pattern.read(name, line)
+            if record is not None:
+                return record
+    return {"form": "text", "text": line}
+
+
+def read_lines(lines, command=None):
+    """The record of each line."""
+    return (read_line(line, command) for line in lines)
+
+
+def write_line(record):
+    """The line of a record, without a line feed."""
+    return record["text"] if record["form"] == "text" else FORMS[record["form"]].write(record)
+
+
+# ---- Lines that belong together
+
+HAVE_HOPS = ("accepted", "refused", "change_accepted", "change_refused", "plan_refused", "route")
+
+
+def read_groups(lines, command=None):
+    """The record of each line, but one that belongs to the record before it is put into a list there."""
+    last = None
+    for record in read_lines(lines, command):
+        name = record["form"]
+        if name == "hop" and (last is None or last["form"] not in HAVE_HOPS):
+            if last is not None:
+                yield last
+            last = {"form": "route"}
+        if last is not None:
+            into = list_in(last, record)
+            if into:
+                last.setdefault(into, []).append(record)
+                continue
+            yield last
+        last = record
+    if last is not None:
+        yield last
+
+
+def list_in(last, record):
+    """The list of the last record that this one belongs to, or None."""
+    name = record["form"]
+    if name == "hop":
+        return "hops"
+    if name == "sends" and last.get("line") == record["line"]:
+        return "sends"
+    if last["form"] == "message" and name in OF_MESSAGES and (not last.get("parts") or last["parts"][-1]["form"] != "canonical"):
+        return "parts"
+    return None
+
+
+OF_MESSAGES = [name for name, *patterns in TABLE if name != "message" and patterns[0][0] == SHOWN]
+
+# ---- The program's lines as JSON
+
+NO_PROGRAM, WRITE_FAULT = 70, 75
+SIGNALS = (signal.SIGINT, signal.SIGTERM, signal.SIGHUP, signal.SIGQUIT)
+
+
+def say(text):
+    with contextlib.suppress(OSError, AttributeError):
+        sys.stderr.write(f"sccp: {text}\n")
+        sys.stderr.flush()
+
+
+class Objects:
+    """The JSON objects of the lines of one call, and how many lines had no form."""
+
+    def __init__(self, command):
+        self.command, self.lines, self.unread = command, 0, 0
+
+    def of(self, line):
+        """The object of a line. One without a line feed was cut off, so it has no form."""
+        text = line.decode("utf-8", "backslashreplace")
+        record = read_line(text, self.command) if text.endswith("\n") else {"form": "text", "text": text}
+        self.lines += 1
+        if record["form"] == "text":
+            self.unread += 1
+            if self.unread == 1:
+                say(f"--json: line {self.lines} has no form that is known: {record['text'][:200]}")
+        return json.dumps(record) + "\n"
+
+    def end(self):
+        if self.unread > 1:
+            say(f"--json: {self.unread} lines have no form that is known")
+
+
+def write_all(octets):
+    while octets:
+        octets = octets[os.write(1, octets):]
+
+
+def pass_on(source, objects):
+    """Writes the object of each line as the line comes, and gives whether standard output has taken all of them."""
+    rest = b""
+    try:
+        while piece := os.read(source, 1 << 16):
+            *lines, rest = (rest + piece).split(b"\n")
+            write_all("".join(objects.of(line + b"\n") for line in lines).encode())
+        if rest:
+            write_all(objects.of(rest).encode())
+    except OSError:
+        return False
+    return True
+
+
+def run(program, words):
+    """Runs the program, and ends as it does. Signals go to the program, whose end ends this."""
+    started, early = [], []
+
+    def hand_on(number, _):
+        for it in started:
+            it.send_signal(number)
+        early.append(number)
+
+    # One that whoever called has ignored stays so, as under nohup.
+    for number in SIGNALS:
+        if signal.getsignal(number) is not signal.SIG_IGN:
+            signal.signal(number, hand_on)
+    # The launcher has them wait until now.
+    signal.pthread_sigmask(signal.SIG_UNBLOCK, SIGNALS)
+    try:
+        started.append(subprocess.Popen([program, *words], stdout=subprocess.PIPE))
+    except OSError as error:
+        say(f"{program}: {error.strerror}")
+        return NO_PROGRAM
+    if early:
+        started[0].send_signal(early[0])
+    objects = Objects(words[0] if words and words[0] in COMMANDS else None)
+    is_written = pass_on(started[0].stdout.fileno(), objects)
+    # If the output takes no more, neither does the pipe of the program.
+    started[0].stdout.close()
+    status = started[0].wait()
+    objects.end()
+    if status < 0:
+        signal.signal(-status, signal.SIG_DFL)
+        os.kill(os.getpid(), -status)
+    return status if is_written else WRITE_FAULT
+
+
+if __name__ == "__main__":
+    if len(sys.argv) < 2:
+        say("usage: lines.py PROGRAM WORD..")
+        sys.exit(64)
+    sys.exit(run(sys.argv[1], sys.argv[2:]))
