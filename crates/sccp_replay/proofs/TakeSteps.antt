@@ -181,11 +181,6 @@ told_stopped work count at at' batch batch' lines reader left stop first mid now
     let fed : Fed = ahead reader true may.0 in
     all may.0 may.1 (Err stop) now (takes (closing_of (count + length fed.lines) fed.fault) fed.lines)
 
-pub trace_memory : (work : Work) (count : ℕ) (at : Standing) (batch : List Numbered) (reader : reading.Standing) (left : Option (List ℕ)) (first now : Moment) → GoesOn work count at batch [] reader left first now → Works work (Err Memory) first now
-trace_memory work count at batch reader left first now all =
-    let may = may_come left in
-    all may.0 may.1 (Err Memory) now (Works-memory (rest_work count at batch [] reader may.0) now)
-
 -- ---- the end
 
 behind_nothing : (count : ℕ) (at : Standing) (batch : List Numbered) (fault : Option LineFault) → work_behind count at batch [] (only fault) ≡ lines_work (closing_of count fault) at batch []

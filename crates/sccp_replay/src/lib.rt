@@ -11,8 +11,8 @@ mod crew;
 mod gathered;
 mod joined;
 mod later_lines;
-mod replay;
 mod replayer;
+mod replaying;
 mod router;
 mod settle;
 mod settled;
@@ -21,5 +21,5 @@ mod tell;
 mod tracing;
 mod workers;
 
-pub use replay::replay;
+pub use replaying::replay;
 pub use workers::Workers;

@@ -10,7 +10,7 @@ use Rattle.sccp_work.specs.Writing.{Writes}
 use Rattle.sccp_work.specs.declared.stop.Stop.TheVariants.{Memory}
 use Rattle.sccp_replay.proofs.TakeSteps.{printed}
 use Rattle.sccp_work.proofs.WorkLemmas.{Works-memory}
-use Rattle.sccp_replay.proofs.replay.replay_accepted.Goals as goal
+use Rattle.sccp_replay.proofs.replaying.replay_accepted.Goals as goal
 
 pub returns-in_err-line : goal.returns-in_err-line
 returns-in_err-line g c =

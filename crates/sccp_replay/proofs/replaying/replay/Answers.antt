@@ -8,7 +8,7 @@ use Rattle.sccp_replay.specs.Replay.{replay_work, replayed}
 use Rattle.sccp_work.specs.Work.{Work, judge}
 use Rattle.sccp_work.specs.declared.stop.Stop.TheVariants.{Memory}
 use Rattle.sccp_work.proofs.WorkLemmas.{Works-judge, Works-memory}
-use Rattle.sccp_replay.proofs.replay.replay.Goals as goal
+use Rattle.sccp_replay.proofs.replaying.replay.Goals as goal
 
 pub returns-in_err-verdict : goal.returns-in_err-verdict
 unfolding replay_work
