@@ -3,7 +3,7 @@
   read_line(line, command=None)     the record of one line, with or without its line feed
   read_lines(lines, command=None)   the record of each line, in order; any number of lines in constant memory
   read_groups(lines, command=None)  the same, but lines that belong to the one before them are in its record (see below)
-  write_line(record)                the line of a record, without a line feed
+  write_line(record)                the line of a record, without a line feed; of one with lists by read_groups its own line
   mark_text(mark)                   the text of a mark, as point:2-0-1
   FORMS                             the forms by their names
   RETURN_CAUSES, REFUSAL_CAUSES, ERROR_CAUSES    the texts of causes by their numbers
@@ -410,8 +410,7 @@ class Form:
         self.patterns = [Pattern(commands, plain) for commands, text in patterns for plain in expanded(spelled(text))]
 
     def write(self, record):
-        values = dict(flat(record))
-        values.pop(("form",))
+        values = {path: value for path, value in flat(record) if path[0] not in ("form", *LISTS)}
         for pattern in self.patterns:
             line = pattern.write(values)
             if line is not None:
@@ -451,6 +450,9 @@ def by_keys():
 KNOWN = by_keys()
 
 # ---- Reading and writing
+
+# What read_groups adds to records.
+LISTS = ("hops", "parts", "sends")
 
 
 def read_line(line, command=None):

@@ -344,11 +344,13 @@ class Streams(unittest.TestCase):
         kind, to, of, same, empty, short, _ = (read(line, "show") for line in shown)
         self.assertEqual([{**kind, "parts": [to, of, same]}, empty, short, empty], groups("show", *shown))
         self.assertEqual([], groups("verify"))
+        self.assertEqual([bad, "change accepted bound 2", "4 pause a 2-0-1"], [lines.write_line(group) for group in (
+            groups("verify", bad, first, second)[0], groups("change", *mixed)[2], groups("replay", *later)[2])])
 
     def test_groups_of_the_cases_have_each_line_once(self):
         def spread(group):
-            inner = [part for name in ("hops", "parts", "sends") for part in group.get(name, ())]
-            head = {key: value for key, value in group.items() if key not in ("hops", "parts", "sends")}
+            inner = [part for name in lines.LISTS for part in group.get(name, ())]
+            head = {key: value for key, value in group.items() if key not in lines.LISTS}
             return ([] if head == {"form": "route"} else [head]) + inner
         for words, printed in CALLS:
             command = words[0] if words[0] in lines.COMMANDS else None
