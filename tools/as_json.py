@@ -100,7 +100,7 @@ class Signals:
 
 def run(program, words):
     """Runs the program, and gives its status or ends by its signal."""
-    objects = Objects(words[0] if words and words[0] in lines.COMMANDS else None)
+    objects = Objects(words[0] if words else None)
     signals = Signals(objects)
     try:
         started = subprocess.Popen([program, *words], stdout=subprocess.PIPE)

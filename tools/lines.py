@@ -10,8 +10,8 @@
 
 A record is a dict. Its "form" is the name of a form in FORMS, and its other keys are the fields of that form, each of one type.
 Every line that the program prints is read by exactly one form of its command, which is the first word of the call, and can be
-written again from the fields. Without a command all forms are tried; a line such as `5 undecodable short` is then taken for one
-of a replay, not of `cuts`. A line of no form gives {"form": "text", "text": LINE}.
+written again from the fields. Without a command that is known all forms are tried; a line such as `5 undecodable short` is then taken
+for one of a replay, not of `cuts`. A line of no form gives {"form": "text", "text": LINE}.
 
   number      a whole number, as an int
   text        the name of a relay or of a file, a point code such as "2-0-1", a selector such as "4:0:1:4", or words
@@ -235,7 +235,8 @@ def either(name, text):
 
 def causes(table, other):
     """The pattern of a cause: its number, and its text if the table has one."""
-    return "(" + "".join(f"{{cause:={number}:{number}}} {{text={text}}}|" for number, text in table.items()) + f"{{cause:{other}}}{{text:=null:}})"
+    with_texts = [f"{{cause:={number}:{number}}} {{text={text}}}" for number, text in table.items()]
+    return f"({'|'.join(with_texts)}|{{cause:{other}}}{{text:=null:}})"
 
 
 EVERY = "show-hex show cuts route verify change replay load send-on connect import"
@@ -459,7 +460,7 @@ def read_line(line, command=None):
     """The record of a line, which may have its line feed. A line of no form is one of the form text."""
     line = line[:-1] if line.endswith("\n") else line
     for name, pattern in KNOWN.get(key_of(line), ()):
-        if command in pattern.commands or command is None:
+        if command in pattern.commands or command not in COMMANDS:
             record = pattern.read(name, line)
             if record is not None:
                 return record
