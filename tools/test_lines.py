@@ -209,11 +209,11 @@ FAULTY = {
         "bad plan rule node 0 twice 1", "bad plan rule node 0 kind two", "bad plan", "bad plan limit",
     ],
     "change": [
-        "accepted bound 2",
+        "accepted bound 2", "too wide", "refused long cover 0 steady yes", "bad plan no cover",
     ],
     "replay": [
         "plan 2 plan.toml accepted bound 1", "plan 1 a b accepted bound 1", "plan 1 accepted bound 1", "2 by 1 via a, ended 2-0-1/6 09",
-        "2 by 1 via a ended 2-0-1/6 098", "2 by 1 via a ended 2-0-1/6", "2 by 1 via a returned 5 marks none",
+        "2 by 1 via a ended 2-0-1/6 098", "2 by 1 via a ended 2-0-1/6 0a", "2 by 1 via a ended 2-0-1/6", "2 by 1 via a returned 5 marks none",
         "2 by 1 via a returned 5 marks none service 0A", "2 by 1 via a local 8 data AA segment", "02 by 1 via a cut",
         "3 pause b 2-0-1/6", "3 pause b", "3 up b", "3 tick", "3 management", "end", "3 ok",
     ],
@@ -397,6 +397,8 @@ class Streams(unittest.TestCase):
         shown = ["RLC", "destination 1", "source 2", "canonical yes", "", "undecodable short", ""]
         kind, to, of, same, empty, short, _ = (read(line, "show") for line in shown)
         self.assertEqual([{**kind, "parts": [to, of, same]}, empty, short, empty], groups("show", *shown))
+        self.assertEqual([pause, read("5 sends 1-0-1 0A")], groups("replay", later[4], "5 sends 1-0-1 0A"))
+        self.assertEqual([{**kind, "parts": [same]}, to], groups("show", "RLC", "canonical yes", "destination 1"))
         self.assertEqual([], groups("verify"))
         self.assertEqual([bad, "change accepted bound 2", "4 pause a 2-0-1"], [lines.write_line(group) for group in (
             groups("verify", bad, first, second)[0], groups("change", *mixed)[2], groups("replay", *later)[2])])
