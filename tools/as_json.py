@@ -13,6 +13,7 @@ import signal
 import subprocess
 import sys
 
+sys.dont_write_bytecode = True
 import lines
 
 NO_PROGRAM, WRITE_FAULT, USAGE = 70, 75, 64

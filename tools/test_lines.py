@@ -16,6 +16,7 @@ import unittest
 HERE = os.path.dirname(os.path.abspath(__file__))
 TOP = os.path.dirname(HERE)
 sys.path.insert(0, HERE)
+sys.dont_write_bytecode = True
 import lines
 
 STORED = os.path.join(TOP, "crates", "worked_cases", "stdout")
@@ -213,7 +214,8 @@ FAULTY = {
     ],
     "replay": [
         "plan 2 plan.toml accepted bound 1", "plan 1 a b accepted bound 1", "plan 1 accepted bound 1", "2 by 1 via a, ended 2-0-1/6 09",
-        "2 by 1 via a ended 2-0-1/6 098", "2 by 1 via a ended 2-0-1/6 0a", "2 by 1 via a ended 2-0-1/6", "2 by 1 via a returned 5 marks none",
+        "2 by 1 via a ended 2-0-1/6 098", "2 by 1 via a ended 2-0-1/6 0a", "2 by 1 via a ended 2-0-1/6",
+        "2 by 1 via a returned 5 marks none",
         "2 by 1 via a returned 5 marks none service 0A", "2 by 1 via a local 8 data AA segment", "02 by 1 via a cut",
         "3 pause b 2-0-1/6", "3 pause b", "3 up b", "3 tick", "3 management", "end", "3 ok",
     ],
