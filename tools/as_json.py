@@ -14,6 +14,7 @@ import subprocess
 import sys
 
 sys.dont_write_bytecode = True
+sys.path.insert(0, os.path.dirname(os.path.realpath(__file__)))
 import lines
 
 NO_PROGRAM, WRITE_FAULT, USAGE = 70, 75, 64
@@ -34,17 +35,17 @@ class Objects:
     """Writes the objects of the lines of one call."""
 
     def __init__(self, command):
-        self.command, self.lines, self.unread, self.is_writing = command, 0, 0, False
+        self.command, self.count, self.unread, self.is_writing = command, 0, 0, False
 
     def of(self, line):
         """The object of a line. One without a line feed was cut off, so it has no form."""
         text = line.decode("utf-8", "backslashreplace")
         record = lines.read_line(text, self.command) if text.endswith("\n") else {"form": "text", "text": text}
-        self.lines += 1
+        self.count += 1
         if record["form"] == "text":
             self.unread += 1
             if self.unread == 1:
-                say(f"--json: line {self.lines} has no form that is known: {record['text'][:200]}")
+                say(f"--json: line {self.count} has no form that is known: {record['text'][:200]}")
         return json.dumps(record) + "\n"
 
     def write(self, whole):
