@@ -1,27 +1,26 @@
-#!/usr/bin/env python3
-"""Reads the lines that the program prints. Tools import it, and ./sccp --json runs it.
+"""Reads the lines that the program prints, for other tools. One of them is as_json.py, which ./sccp --json runs.
 
   read_line(line, command=None)     the record of one line, with or without its line feed
   read_lines(lines, command=None)   the record of each line, in order; any number of lines in constant memory
   read_groups(lines, command=None)  the same, but lines that belong to the one before them are in its record (see below)
-  write_line(record)                the line of a record, without a line feed
+  write_line(record)                the line of a record, without a line feed; of one with lists by read_groups its own line
   mark_text(mark)                   the text of a mark, as point:2-0-1
   FORMS                             the forms by their names
   RETURN_CAUSES, REFUSAL_CAUSES, ERROR_CAUSES    the texts of causes by their numbers
 
 A record is a dict. Its "form" is the name of a form in FORMS, and its other keys are the fields of that form, each of one type.
-Every line that the program prints is read by exactly one form of its command, the first word of the call. The fields give the
-whole line back. Without a command all forms are tried; then a line such as `5 undecodable short` is taken for a replay's, not for
-one of `cuts`. A line of no form gives {"form": "text", "text": LINE}.
+Every line that the program prints is read by exactly one form of its command, which is the first word of the call, and can be
+written again from the fields. Without a command that is known all forms are tried; a line such as `5 undecodable short` is then taken
+for one of a replay, not of `cuts`. A line of no form gives {"form": "text", "text": LINE}.
 
   number      a whole number, as an int
-  name        a text: the name of a relay or of a file, a point code such as "2-0-1", a selector such as "4:0:1:4", a word
-  octets      hexadecimal digits in upper case, two for each octet; "" if there are none. Digits of a title likewise, one each
-  list        of names (via), of marks (held, marks), of numbers (place.rows), of texts (shapes)
-  mark        {"kind": "point", "point": "2-0-1"}; so is a mark of kind "sccp"; one of kind "subsystem" has also "ssn": 6
-  yes or no   a bool. What is absent (`-`) is None
+  text        the name of a relay or of a file, a point code such as "2-0-1", a selector such as "4:0:1:4", or words
+  octets      a text of hexadecimal digits in upper case, two for each octet, or "" if there are none; digits of a title likewise
+  list        of names (via), of marks (held, marks), of numbers (place.rows), or of texts (shapes)
+  mark        {"kind": "point", "point": "2-0-1"}, or the same with "sccp"; one of kind "subsystem" also has "ssn": 6
+  yes or no   a bool; what is absent (`-`) is None
 
-Fields in [] are only there if the line has them. `A.B` is the key B of the dict A.
+Fields in [] are only there if the line has them. A.B is the key B of the dict A.
 
   form               fields                                       lines, and the commands that print them
   usage              shapes                                       every command
@@ -75,31 +74,25 @@ Fields in [] are only there if the line has them. `A.B` is the key B of the dict
   empty                                                           show: the line after each message; import: an empty line
 
 KIND is kind, and for "loop" hop, for "forbidden" point and ssn, for "no row" cause; "long" and "overgrown" have no more.
-FAULT is fault with place.node, place.row, place.cover and place.key as far as the fault has them. "rule" has also rule ("twice" with
-place.rows, "strip too long" or "kind two" with place.row), and "limit" has of. "not toml" and "no cover" have no place.
+FAULT is fault, with place.node, place.row, place.cover and place.key as far as the place has them. "rule" also has rule: "twice" with
+place.rows, "strip too long" or "kind two" with place.row. "limit" has of, and "not toml" and "no cover" have no more.
 WHY is fault, and for "bad pointer" and "bad part" number, for "address" number and why, for "field" name.
 
 title of a hop is title.selector, title.ssn and title.digits. step is "sent" with next and target, "ended" with point, ssn and
 target, "blocked" or "no row" with cause, or "overgrown". title of an address is None, or title.selector and title.digits, or
 title.raw (its kind) and title.octets.
 
-end of a journey is "ended" with point, ssn and octets; "local" with ssn, data and [segment] ("more", "full", "whole" with whole, or
-"dropped" with reason); "returned" with cause, marks and service; or "cut". service is None, or service.octets with service.way: "sent"
-with service.to, "closed" with service.mark, "via" with service.via and service.end ("ended" with service.point, service.ssn and
-service.arrived; "local" with service.ssn; "lost" with service.cause; "management"; "cut"; or None).
+end of a journey is "ended" with point, ssn and octets; "local" with ssn, data and [segment]; "returned" with cause, marks and
+service; or "cut". segment is "more", "full", "whole" with whole, or "dropped" with reason. service is None, or has service.octets and
+service.way: "sent" with service.to, "closed" with service.mark, or "via" with service.via and service.end. That is "ended" with
+service.point, service.ssn and service.arrived; "local" with service.ssn; "lost" with service.cause; "management"; "cut"; or None.
 
-read_groups puts hops into the list "hops" of the record before them that is a verdict or an answer on a changeover (accepted,
-refused, change_accepted, change_refused, plan_refused); hops without one, as of `route`, become {"form": "route", "hops": [..]}.
-The lines of a message of `show` and `show-hex` become the list "parts" of its record. The records `sends` go into the list "sends"
-of the record of the same line, if it stands before them.
+read_groups puts hops into the list "hops" of the record before them, if that is accepted, refused, change_accepted, change_refused
+or plan_refused; other hops, as those of `route`, become {"form": "route", "hops": [..]}. The lines of a message become the list "parts"
+of the record message. The records sends go into the list "sends" of the record before them, if it is of the same line of the trace.
 """
-import contextlib
 import json
-import os
 import re
-import signal
-import subprocess
-import sys
 
 # ---- The texts of causes (Q.713 sections 3.12, 3.14 and 3.15)
 
@@ -140,20 +133,25 @@ def as_it_is(text):
 
 
 class Type:
-    """What a field looks like, how its value is read, and how it is written."""
+    """A type of fields: the expression of their texts, and the functions that make a value of a text and a text of a value."""
 
     def __init__(self, pattern, read=as_it_is, write=as_it_is):
         self.pattern, self.read, self.write = pattern, read, write
 
 
-def parts(mark, read=as_it_is, write=as_it_is):
-    """The functions that read and write a list with this mark between its parts."""
-    return lambda text: [read(part) for part in text.split(mark)], lambda values: mark.join(write(value) for value in values)
+def listed(mark, read=as_it_is, write=as_it_is):
+    """The functions of a list with this mark between its members."""
+    return lambda text: [read(member) for member in text.split(mark)], lambda values: mark.join(write(value) for value in values)
 
 
-def or_else(absent, read, write, value):
-    """The functions that read and write a value, which has this text if it is absent."""
+def or_else(absent, value, read=as_it_is, write=as_it_is):
+    """The functions of a value with a text of its own."""
     return lambda text: value if text == absent else read(text), lambda given: absent if given == value else write(given)
+
+
+def one_of(texts):
+    """One of these texts, which have commas between them."""
+    return Type(f"(?:{texts.replace(', ', '|')})")
 
 
 def without(causes):
@@ -163,23 +161,16 @@ def without(causes):
 
 CONNECTION_ORIENTED = "CR, CC, CREF, RLSD, RLC, DT1, DT2, AK, ED, EA, RSR, RSC, ERR, IT"
 CONNECTIONLESS = "UDT, UDTS, XUDT, XUDTS, LUDT, LUDTS"
-
-
-def words(text):
-    """One of these words, which have commas between them."""
-    return Type(f"(?:{text.replace(', ', '|')})")
-
-
 NUMBER = Type(WHOLE, int, str)
 NAME = Type(NODE)
 POINT = Type(CODE)
-OCTETS = Type("(?:-|(?:[0-9A-F]{2})+)", *or_else("-", as_it_is, as_it_is, ""))
-DIGITS = Type("(?:-|[0-9A-F]+)", *or_else("-", as_it_is, as_it_is, ""))
-MARKS = Type(f"(?:none|{MARK}(?:,{MARK})*)", *or_else("none", *parts(",", read_mark, mark_text), []))
-NAMES = Type(f"{NODE}(?:,{NODE})*", *parts(","))
+OCTETS = Type("(?:-|(?:[0-9A-F]{2})+)", *or_else("-", ""))
+DIGITS = Type("(?:-|[0-9A-F]+)", *or_else("-", ""))
+MARKS = Type(f"(?:none|{MARK}(?:,{MARK})*)", *or_else("none", [], *listed(",", read_mark, mark_text)))
+NAMES = Type(f"{NODE}(?:,{NODE})*", *listed(","))
 SELECTOR = Type(f"(?:[12]:{WHOLE}|3:{WHOLE}:{WHOLE}|4:{WHOLE}:{WHOLE}:{WHOLE})")
 
-# A field is a number unless it is named here: the type of each, by the last part of its name or by its whole one.
+# The types of fields by their whole names or by the last part of them. A field that is not named here is a number.
 TYPES = {
     "node": NAME, "next": NAME, "place.node": NUMBER,
     "point": POINT, "to": POINT, "origin": POINT,
@@ -187,26 +178,26 @@ TYPES = {
     "held": MARKS, "marks": MARKS, "mark": Type(MARK, read_mark, mark_text), "via": NAMES,
     "selector": SELECTOR,
     "file": Type("[!-~]{1,255}"),
-    "parameter.name": Type("[0-9A-F]{2}"), "name": Type("[0-9A-F]{2}"),
-    "rows": Type(f"{WHOLE} {WHOLE}", *parts(" ", int, str)),
-    "shapes": Type(f"{SHAPE}(?: \\| {SHAPE})*", *parts(" | ")),
-    # Types of fields with other names
-    "of_data": words(CONNECTION_ORIENTED),
-    "status_word": words("ssa, ssp, sst, sor, sog, ssc"),
-    "key_word": words("version, node, cover, name, point, subsystems, concerned, row, selector, prefix, first, backup, targets, ssn, "
-                      "least, most, allowed, unknown key"),
-    "placed_fault": words("wrong shape, bad value, repeated, unknown node, relay to self, bad cover"),
-    "line_fault": words("too many, too long, not a line"),
-    "address_fault": words("empty, short, extra, odd without digits"),
+    "name": Type("[0-9A-F]{2}"),
+    "rows": Type(f"{WHOLE} {WHOLE}", *listed(" ", int, str)),
+    "shapes": Type(f"{SHAPE}(?: \\| {SHAPE})*", *listed(" | ")),
+    # Types that the patterns name.
+    "of_connection": one_of(CONNECTION_ORIENTED),
+    "status_word": one_of("ssa, ssp, sst, sor, sog, ssc"),
+    "key_word": one_of("version, node, cover, name, point, subsystems, concerned, row, selector, prefix, first, backup, targets, ssn, "
+                       "least, most, allowed, unknown key"),
+    "placed_fault": one_of("wrong shape, bad value, repeated, unknown node, relay to self, bad cover"),
+    "line_fault": one_of("too many, too long, not a line"),
+    "address_fault": one_of("empty, short, extra, odd without digits"),
     "return_cause": without(RETURN_CAUSES), "refusal_cause": without(REFUSAL_CAUSES), "error_cause": without(ERROR_CAUSES),
 }
 
 # ---- The forms
 #
-# In a pattern {A.B} is a field, and {A.B:TYPE} one of a type of another name. {A.B=WORDS} is a field that has these words, and
-# {A.B:=VALUE:WORDS} one that has the value for which these words are printed. (P|Q) is P or Q, and <NAME> what NAME is below.
+# In a pattern {A.B} is a field of the type of its name, and {A.B:TYPE} one of that type. {A.B=WORDS} is a field with these words, and
+# {A.B:=VALUE:WORDS} one with a value for which these words are printed. (P|Q) is P or Q, and <NAME> is what NAME is below.
 
-PARTS = {
+NAMED = {
     "WHICH": "({which=old} |{which=new} )",
     "KIND": "({kind=loop} {hop}|{kind=long}|{kind=overgrown}|{kind=forbidden} {point}/{ssn}|{kind=no row} {cause})",
     "STEADY": "steady ({steady:=true:yes}|{steady:=false:no})",
@@ -242,9 +233,10 @@ def either(name, text):
     return "(" + "|".join(f"{{{name}={word}}}" for word in text.split(", ")) + ")"
 
 
-def causes(words, table, other):
-    """The pattern of a line on a cause: its number, and its text if the table has one."""
-    return f"{words} (" + "|".join(f"{{cause:={number}:{number}}} {{text={text}}}" for number, text in table.items()) + f"|{{cause:{other}}}{{text:=null:}})"
+def causes(table, other):
+    """The pattern of a cause: its number, and its text if the table has one."""
+    with_texts = [f"{{cause:={number}:{number}}} {{text={text}}}" for number, text in table.items()]
+    return f"({'|'.join(with_texts)}|{{cause:{other}}}{{text:=null:}})"
 
 
 EVERY = "show-hex show cuts route verify change replay load send-on connect import"
@@ -253,7 +245,7 @@ COMMANDS = frozenset(EVERY.split())
 JUDGED = "verify replay load connect"
 SHOWN = "show-hex show"
 
-# Each form: its name, and the commands of each of its patterns.
+# Each form: its name, and each of its patterns after the commands that print such lines.
 TABLE = [
     ("usage", (EVERY, "usage: {shapes}")),
     ("too_long", (FILES, "too long")),
@@ -281,7 +273,7 @@ TABLE = [
      ("replay", "{line} ({event=up}|{event=down}) {node} {ssn}"),
      ("replay", "{line} {event=tick} {node}")),
     ("management", ("send-on", "management"), ("replay", "{line} management <STATUS>")),
-    ("connection", ("send-on", "connection {type:of_data}"), ("replay", "{line} connection {type:of_data}")),
+    ("connection", ("send-on", "connection {type:of_connection}"), ("replay", "{line} connection {type:of_connection}")),
     ("undecodable", (f"{SHOWN} send-on", "undecodable <WHY>"), ("replay", "{line} undecodable <WHY>")),
     ("end", ("replay", "end {lines}")),
     ("count", ("load", "({of=messages}|{of=ended}|{of=returned}|{of=translations}) {number}")),
@@ -293,7 +285,7 @@ TABLE = [
     ("forth", ("connect", "forth {octets}")),
     ("back", ("connect", "back {octets}")),
     ("sections", ("connect", "sections {number}")),
-    ("connection_refused", ("connect", causes("refused", REFUSAL_CAUSES, "refusal_cause"))),
+    ("connection_refused", ("connect", "refused " + causes(REFUSAL_CAUSES, "refusal_cause"))),
     ("unanswered", ("connect", "unanswered")),
     ("unsettled", ("connect", "unsettled")),
     ("end_is_node", ("connect", "end is a node")),
@@ -310,9 +302,9 @@ TABLE = [
     ("hop_counter", (SHOWN, "hops {number}")),
     ("more", (SHOWN, "more <YES>")),
     ("canonical", (SHOWN, "canonical <YES>")),
-    ("return_cause", (SHOWN, causes("return cause", RETURN_CAUSES, "return_cause"))),
-    ("refusal_cause", (SHOWN, causes("refusal cause", REFUSAL_CAUSES, "refusal_cause"))),
-    ("error_cause", (SHOWN, causes("error cause", ERROR_CAUSES, "error_cause"))),
+    ("return_cause", (SHOWN, "return cause " + causes(RETURN_CAUSES, "return_cause"))),
+    ("refusal_cause", (SHOWN, "refusal cause " + causes(REFUSAL_CAUSES, "refusal_cause"))),
+    ("error_cause", (SHOWN, "error cause " + causes(ERROR_CAUSES, "error_cause"))),
     ("release_cause", (SHOWN, "release cause {cause}")),
     ("reset_cause", (SHOWN, "reset cause {cause}")),
     ("called", (SHOWN, "called <PARTY>")),
@@ -324,35 +316,34 @@ TABLE = [
 
 
 def expanded(pattern):
-    """The patterns without alternatives that a pattern stands for."""
-    pieces = re.findall(r"[(|)]|[^(|)]+", pattern)
+    """The patterns without alternatives that a pattern is made of."""
+    return alternatives(re.findall(r"[(|)]|[^(|)]+", pattern))
 
-    def until_close():
-        done, open_ones = [], [""]
-        while pieces and pieces[0] != ")":
-            piece = pieces.pop(0)
-            if piece == "|":
-                done, open_ones = done + open_ones, [""]
-            elif piece == "(":
-                inner = until_close()
-                pieces.pop(0)
-                open_ones = [before + after for before in open_ones for after in inner]
-            else:
-                open_ones = [before + piece for before in open_ones]
-        return done + open_ones
 
-    return until_close()
+def alternatives(pieces):
+    """The patterns of these pieces up to the bracket that closes them, which are taken out."""
+    done, begun = [], [""]
+    while pieces:
+        piece = pieces.pop(0)
+        if piece == ")":
+            break
+        if piece == "|":
+            done, begun = done + begun, [""]
+        else:
+            inner = alternatives(pieces) if piece == "(" else [piece]
+            begun = [before + after for before in begun for after in inner]
+    return done + begun
 
 
 def spelled(pattern):
     """A pattern with what its names in <> are."""
     while "<" in pattern:
-        pattern = re.sub("<([A-Z_]+)>", lambda named: PARTS[named[1]], pattern)
+        pattern = re.sub("<([A-Z_]+)>", lambda named: NAMED[named[1]], pattern)
     return pattern
 
 
 class Field:
-    """A field of a pattern: its path, its type, and, if it is the same in every line of the pattern, its value."""
+    """A field of a pattern: its path, its type, and its value if each line of the pattern has the same."""
 
     def __init__(self, path, kind, is_fixed=False, value=None):
         self.path, self.kind, self.is_fixed, self.value = path, kind, is_fixed, value
@@ -376,16 +367,16 @@ class Pattern:
 
     def __init__(self, commands, text):
         self.commands, self.text = frozenset(commands.split()), text
-        # Words and fields in turn.
-        self.pieces = self.PIECE.split(text)
-        fields = [Field.of(name, kind, words, value) for name, kind, value, words in zip(*(self.pieces[at::5] for at in range(1, 5)))]
-        self.words, self.fields = self.pieces[::5], fields
-        self.paths = {field.path for field in fields}
+        # Words, and between them the four groups of each field.
+        self.words, *groups = (self.PIECE.split(text)[at::5] for at in range(5))
+        self.fields = [Field.of(name, kind, words, value) for name, kind, value, words in zip(*groups)]
+        self.paths = {field.path for field in self.fields}
         self.expression = None
 
     def read(self, form, line):
         """The record of a line, or None."""
         if self.expression is None:
+            # Not before it is needed, since there are hundreds.
             made = [re.escape(words) + f"({field.kind.pattern})" for words, field in zip(self.words, self.fields)]
             self.expression = re.compile("".join(made) + re.escape(self.words[-1]))
         found = self.expression.fullmatch(line)
@@ -419,18 +410,8 @@ class Form:
         self.name = name
         self.patterns = [Pattern(commands, plain) for commands, text in patterns for plain in expanded(spelled(text))]
 
-    def read(self, line, command=None):
-        """The record of a line, or None if the form doesn't have it."""
-        for pattern in self.patterns:
-            if command is None or command in pattern.commands:
-                record = pattern.read(self.name, line)
-                if record is not None:
-                    return record
-        return None
-
     def write(self, record):
-        values = dict(flat(record))
-        del values["form",]
+        values = {path: value for path, value in flat(record) if path[0] not in ("form", *LISTS)}
         for pattern in self.patterns:
             line = pattern.write(values)
             if line is not None:
@@ -439,7 +420,7 @@ class Form:
 
 
 def flat(record, before=()):
-    """The values of a record by their paths. A mark, and what is in a list, is a value."""
+    """The values of a record by their paths. A mark is one value."""
     for key, value in record.items():
         if isinstance(value, dict) and "kind" not in value:
             yield from flat(value, (*before, key))
@@ -458,19 +439,28 @@ def key_of(line):
     return first
 
 
-KNOWN = {}
-for each in FORMS.values():
-    for one in each.patterns:
-        KNOWN.setdefault(one.key(), []).append((each.name, one))
+def by_keys():
+    """The patterns, and the names of their forms, by what key_of gives of their lines."""
+    found = {}
+    for form in FORMS.values():
+        for pattern in form.patterns:
+            found.setdefault(pattern.key(), []).append((form.name, pattern))
+    return found
+
+
+KNOWN = by_keys()
 
 # ---- Reading and writing
+
+# What read_groups adds to records.
+LISTS = ("hops", "parts", "sends")
 
 
 def read_line(line, command=None):
     """The record of a line, which may have its line feed. A line of no form is one of the form text."""
     line = line[:-1] if line.endswith("\n") else line
     for name, pattern in KNOWN.get(key_of(line), ()):
-        if command in pattern.commands or command is None:
+        if command in pattern.commands or command not in COMMANDS:
             record = pattern.read(name, line)
             if record is not None:
                 return record
@@ -490,131 +480,31 @@ def write_line(record):
 # ---- Lines that belong together
 
 HAVE_HOPS = ("accepted", "refused", "change_accepted", "change_refused", "plan_refused", "route")
+OF_MESSAGES = [name for name, (commands, _), *_ in TABLE if commands == SHOWN and name != "message"]
 
 
 def read_groups(lines, command=None):
     """The record of each line, but one that belongs to the record before it is put into a list there."""
     last = None
     for record in read_lines(lines, command):
-        name = record["form"]
-        if name == "hop" and (last is None or last["form"] not in HAVE_HOPS):
-            if last is not None:
-                yield last
-            last = {"form": "route"}
-        if last is not None:
-            into = list_in(last, record)
-            if into:
-                last.setdefault(into, []).append(record)
-                continue
+        into = list_in(last, record)
+        if into:
+            last.setdefault(into, []).append(record)
+            continue
+        if last:
             yield last
-        last = record
-    if last is not None:
+        last = {"form": "route", "hops": [record]} if record["form"] == "hop" else record
+    if last:
         yield last
 
 
 def list_in(last, record):
     """The list of the last record that this one belongs to, or None."""
-    name = record["form"]
-    if name == "hop":
+    form = record["form"]
+    if last and form == "hop" and last["form"] in HAVE_HOPS:
         return "hops"
-    if name == "sends" and last.get("line") == record["line"]:
+    if last and form == "sends" and last.get("line") == record["line"]:
         return "sends"
-    if last["form"] == "message" and name in OF_MESSAGES and (not last.get("parts") or last["parts"][-1]["form"] != "canonical"):
+    if last and form in OF_MESSAGES and last["form"] == "message" and last.get("parts", [last])[-1]["form"] != "canonical":
         return "parts"
     return None
-
-
-OF_MESSAGES = [name for name, *patterns in TABLE if name != "message" and patterns[0][0] == SHOWN]
-
-# ---- The program's lines as JSON
-
-NO_PROGRAM, WRITE_FAULT = 70, 75
-SIGNALS = (signal.SIGINT, signal.SIGTERM, signal.SIGHUP, signal.SIGQUIT)
-
-
-def say(text):
-    with contextlib.suppress(OSError, AttributeError):
-        sys.stderr.write(f"sccp: {text}\n")
-        sys.stderr.flush()
-
-
-class Objects:
-    """The JSON objects of the lines of one call, and how many lines had no form."""
-
-    def __init__(self, command):
-        self.command, self.lines, self.unread = command, 0, 0
-
-    def of(self, line):
-        """The object of a line. One without a line feed was cut off, so it has no form."""
-        text = line.decode("utf-8", "backslashreplace")
-        record = read_line(text, self.command) if text.endswith("\n") else {"form": "text", "text": text}
-        self.lines += 1
-        if record["form"] == "text":
-            self.unread += 1
-            if self.unread == 1:
-                say(f"--json: line {self.lines} has no form that is known: {record['text'][:200]}")
-        return json.dumps(record) + "\n"
-
-    def end(self):
-        if self.unread > 1:
-            say(f"--json: {self.unread} lines have no form that is known")
-
-
-def write_all(octets):
-    while octets:
-        octets = octets[os.write(1, octets):]
-
-
-def pass_on(source, objects):
-    """Writes the object of each line as the line comes, and gives whether standard output has taken all of them."""
-    rest = b""
-    try:
-        while piece := os.read(source, 1 << 16):
-            *lines, rest = (rest + piece).split(b"\n")
-            write_all("".join(objects.of(line + b"\n") for line in lines).encode())
-        if rest:
-            write_all(objects.of(rest).encode())
-    except OSError:
-        return False
-    return True
-
-
-def run(program, words):
-    """Runs the program, and ends as it does. Signals go to the program, whose end ends this."""
-    started, early = [], []
-
-    def hand_on(number, _):
-        for it in started:
-            it.send_signal(number)
-        early.append(number)
-
-    # One that whoever called has ignored stays so, as under nohup.
-    for number in SIGNALS:
-        if signal.getsignal(number) is not signal.SIG_IGN:
-            signal.signal(number, hand_on)
-    # The launcher has them wait until now.
-    signal.pthread_sigmask(signal.SIG_UNBLOCK, SIGNALS)
-    try:
-        started.append(subprocess.Popen([program, *words], stdout=subprocess.PIPE))
-    except OSError as error:
-        say(f"{program}: {error.strerror}")
-        return NO_PROGRAM
-    if early:
-        started[0].send_signal(early[0])
-    objects = Objects(words[0] if words and words[0] in COMMANDS else None)
-    is_written = pass_on(started[0].stdout.fileno(), objects)
-    # If the output takes no more, neither does the pipe of the program.
-    started[0].stdout.close()
-    status = started[0].wait()
-    objects.end()
-    if status < 0:
-        signal.signal(-status, signal.SIG_DFL)
-        os.kill(os.getpid(), -status)
-    return status if is_written else WRITE_FAULT
-
-
-if __name__ == "__main__":
-    if len(sys.argv) < 2:
-        say("usage: lines.py PROGRAM WORD..")
-        sys.exit(64)
-    sys.exit(run(sys.argv[1], sys.argv[2:]))

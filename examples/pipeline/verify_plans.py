@@ -20,7 +20,8 @@ def case(plan):
         return f"<testcase name={quoteattr(plan)}/>", False
     lines = [json.loads(line) for line in done.stdout.splitlines()]
     why = " ".join([f"status {done.returncode}"] + [line[key] for line in lines[:1] for key in ("form", "kind", "fault") if key in line])
-    route = "\n".join(f"{line['node']} {line['title']['digits']}: {line['step']} {line.get('next', '')}".strip() for line in lines if line["form"] == "hop")
+    hops = [line for line in lines if line["form"] == "hop"]
+    route = "\n".join(f"{hop['node']} {hop['title']['digits']}: {hop['step']} {hop.get('next', '')}".strip() for hop in hops)
     return f"<testcase name={quoteattr(plan)}><failure message={quoteattr(why)}>{escape(route)}</failure></testcase>", True
 
 
