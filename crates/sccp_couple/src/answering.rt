@@ -8,6 +8,7 @@ ghost use Rattle.sccp_couple.specs.Sections.{known, section_at};
 ghost use Rattle.sccp_couple.specs.Coupling.{on_confirm, on_refusal, on_data, on_release, on_complete, release, to_one};
 ghost use Rattle.sccp_couple.specs.Sending.{written_sent};
 
+use crate::connection_confirm::ConnectionConfirm;
 use crate::section::Section;
 use crate::sections::Sections;
 use crate::sending::{confirm_toward, data_toward, error, refuse_toward, to_one, to_two};
@@ -22,46 +23,39 @@ fn confirm_known(
     alloc: Global,
     sections: &mut Sections,
     section: &Section,
-    origin: PointCode,
-    slr: Reference,
-    class: u8,
-    params: &List<Param>,
+    confirm: &ConnectionConfirm,
 ) -> Result<List<Sent>, OutOfMemory>
-    requires { are_short params.now ≡ true }
-    ensures state { OnOk result (sections.new ≡ (on_confirm sections.old origin slr class params.now (Some section.now)).sections) }
-    ensures sent { IfOk result (λ sent. sent ≡ map written_sent (on_confirm sections.old origin slr class params.now (Some section.now)).sent) }
+    requires { are_short confirm.now.params.now ≡ true }
+    ensures state { OnOk result (sections.new ≡ (on_confirm sections.old confirm.now.origin confirm.now.slr confirm.now.class confirm.now.params.now (Some section.now)).sections) }
+    ensures sent { IfOk result (λ sent. sent ≡ map written_sent (on_confirm sections.old confirm.now.origin confirm.now.slr confirm.now.class confirm.now.params.now (Some section.now)).sent) }
     ensures err { OnErr result (sections.new ≡ sections.old) }
 {
     if !section.near && section.remote.is_none() {
         let near = sections.other_of(section);
-        let sent = confirm_toward(alloc, near, class, params)?;
-        sections.confirm(section.own, slr);
+        let sent = confirm_toward(alloc, near, confirm.class, confirm.params)?;
+        sections.confirm(section.own, confirm.slr);
         return Ok(sent);
     }
-    if section.remote == Some(slr) {
+    if section.remote == Some(confirm.slr) {
         return Ok(List::new(alloc));
     }
-    error(alloc, origin, slr, 1)
+    error(alloc, confirm.origin, confirm.slr, 1)
 }
 
 /// Connection confirm (CC).
 pub(crate) fn on_confirm(
     alloc: Global,
     sections: &mut Sections,
-    origin: PointCode,
-    dlr: Reference,
-    slr: Reference,
-    class: u8,
-    params: &List<Param>,
+    confirm: &ConnectionConfirm,
 ) -> Result<List<Sent>, OutOfMemory>
-    requires { are_short params.now ≡ true }
-    ensures state { OnOk result (sections.new ≡ (on_confirm sections.old origin slr class params.now (known sections.old origin dlr)).sections) }
-    ensures sent { IfOk result (λ sent. sent ≡ map written_sent (on_confirm sections.old origin slr class params.now (known sections.old origin dlr)).sent) }
+    requires { are_short confirm.now.params.now ≡ true }
+    ensures state { OnOk result (sections.new ≡ (on_confirm sections.old confirm.now.origin confirm.now.slr confirm.now.class confirm.now.params.now (known sections.old confirm.now.origin confirm.now.dlr)).sections) }
+    ensures sent { IfOk result (λ sent. sent ≡ map written_sent (on_confirm sections.old confirm.now.origin confirm.now.slr confirm.now.class confirm.now.params.now (known sections.old confirm.now.origin confirm.now.dlr)).sent) }
     ensures err { OnErr result (sections.new ≡ sections.old) }
 {
-    match sections.known(origin, dlr) {
-        None => error(alloc, origin, slr, 0),
-        Some(section) => confirm_known(alloc, sections, &section, origin, slr, class, params),
+    match sections.known(confirm.origin, confirm.dlr) {
+        None => error(alloc, confirm.origin, confirm.slr, 0),
+        Some(section) => confirm_known(alloc, sections, &section, confirm),
     }
 }
 

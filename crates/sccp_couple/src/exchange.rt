@@ -7,8 +7,12 @@ ghost use Rattle.sccp_couple.specs.Sending.{written_sent, HasShortParts};
 ghost use Rattle.sccp_couple.specs.Ways.{event_of};
 
 use crate::answering::{on_complete, on_confirm, on_data, on_refusal};
+use crate::connection_confirm::ConnectionConfirm;
+use crate::connection_request::ConnectionRequest;
+use crate::released::Released;
 use crate::releasing::on_release;
 use crate::requesting::on_request;
+use crate::routing_control::RoutingControl;
 use crate::section::Section;
 use crate::sections::Sections;
 use plan_model::Plan;
@@ -75,33 +79,35 @@ impl Exchange {
                 class,
                 called,
                 params,
-            } => on_request(
-                alloc,
-                plan,
-                self.node,
-                marking,
-                &mut self.sections,
-                origin,
-                *slr,
-                *class,
-                called,
-                params,
-            ),
+            } => {
+                let control = RoutingControl {
+                    plan,
+                    node: self.node,
+                    marking,
+                };
+                let request = ConnectionRequest {
+                    origin,
+                    slr: *slr,
+                    class: *class,
+                    called,
+                    params,
+                };
+                on_request(alloc, &control, &mut self.sections, &request)
+            }
             Message::Cc {
                 dlr,
                 slr,
                 class,
                 params,
             } => {
-                on_confirm(
-                    alloc,
-                    &mut self.sections,
+                let confirm = ConnectionConfirm {
                     origin,
-                    *dlr,
-                    *slr,
-                    *class,
+                    dlr: *dlr,
+                    slr: *slr,
+                    class: *class,
                     params,
-                )
+                };
+                on_confirm(alloc, &mut self.sections, &confirm)
             }
             Message::Cref { dlr, cause, params } => {
                 on_refusal(alloc, &mut self.sections, origin, *dlr, *cause, params)
@@ -112,15 +118,14 @@ impl Exchange {
                 cause,
                 params,
             } => {
-                on_release(
-                    alloc,
-                    &mut self.sections,
+                let released = Released {
                     origin,
-                    *dlr,
-                    *slr,
-                    *cause,
+                    dlr: *dlr,
+                    slr: *slr,
+                    cause: *cause,
                     params,
-                )
+                };
+                on_release(alloc, &mut self.sections, &released)
             }
             Message::Rlc { dlr, slr } => {
                 on_complete(&mut self.sections, origin, *dlr, *slr);

@@ -7,14 +7,18 @@
 #![tactic(auto)]
 
 mod answering;
+mod connection_confirm;
+mod connection_request;
 mod exchange;
 mod finding;
 mod laws;
 mod making;
 mod params;
 mod references;
+mod released;
 mod releasing;
 mod requesting;
+mod routing_control;
 mod section;
 mod sections;
 mod sending;

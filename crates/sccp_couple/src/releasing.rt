@@ -7,51 +7,50 @@ ghost use Rattle.sccp_couple.specs.Sections.{known};
 ghost use Rattle.sccp_couple.specs.Coupling.{on_release, release, to_one};
 ghost use Rattle.sccp_couple.specs.Sending.{written_sent};
 
+use crate::released::Released;
 use crate::section::Section;
 use crate::sections::Sections;
 use crate::sending::{error, to_one, to_two};
-use sccp_base::{List, OutOfMemory, PointCode, Reference};
-use sccp_layout::{Param, copied_params};
+use sccp_base::{List, OutOfMemory, Reference};
+use sccp_layout::copied_params;
 use sccp_manage::Sent;
 use sccp_message::Message;
 use std::alloc::Global;
 
 /// Completes the release toward its origin.
-fn complete(
-    alloc: Global,
-    origin: PointCode,
-    dlr: Reference,
-    slr: Reference,
-) -> Result<List<Sent>, OutOfMemory>
-    ensures { IfOk result (λ sent. sent ≡ map written_sent (to_one origin (Message.Rlc slr dlr))) }
+fn complete(alloc: Global, released: &Released) -> Result<List<Sent>, OutOfMemory>
+    ensures { IfOk result (λ sent. sent ≡ map written_sent (to_one released.now.origin (Message.Rlc released.now.slr released.now.dlr))) }
 {
-    to_one(alloc, origin, Message::Rlc { dlr: slr, slr: dlr })
+    let completed = Message::Rlc {
+        dlr: released.slr,
+        slr: released.dlr,
+    };
+    to_one(alloc, released.origin, completed)
 }
 
 /// Completes the release toward its origin, and sends a release to the other point.
 #[tactic(auto, using(crate::proofs::Fits::release_fits))]
 fn complete_and_release(
     alloc: Global,
-    origin: PointCode,
-    dlr: Reference,
-    slr: Reference,
+    released: &Released,
     other: &Section,
     remote: Reference,
-    cause: u8,
-    params: &List<Param>,
 ) -> Result<List<Sent>, OutOfMemory>
-    requires { are_short params.now ≡ true }
-    ensures { IfOk result (λ sent. sent ≡ map written_sent (to_one origin (Message.Rlc slr dlr) ++ to_one other.now.point (Message.Rlsd remote other.now.own cause params.now))) }
+    requires { are_short released.now.params.now ≡ true }
+    ensures { IfOk result (λ sent. sent ≡ map written_sent (to_one released.now.origin (Message.Rlc released.now.slr released.now.dlr) ++ to_one other.now.point (Message.Rlsd remote other.now.own released.now.cause released.now.params.now))) }
 {
-    let params = copied_params(alloc, params)?;
-    let completed = Message::Rlc { dlr: slr, slr: dlr };
-    let released = Message::Rlsd {
+    let params = copied_params(alloc, released.params)?;
+    let completed = Message::Rlc {
+        dlr: released.slr,
+        slr: released.dlr,
+    };
+    let onward = Message::Rlsd {
         dlr: remote,
         slr: other.own,
-        cause,
+        cause: released.cause,
         params,
     };
-    to_two(alloc, origin, completed, other.point, released)
+    to_two(alloc, released.origin, completed, other.point, onward)
 }
 
 /// Ends the section, and releases its other one. If the other one has no remote, it ends as well.
@@ -60,34 +59,28 @@ fn release_both(
     sections: &mut Sections,
     section: &Section,
     other: Reference,
-    origin: PointCode,
-    dlr: Reference,
-    slr: Reference,
-    cause: u8,
-    params: &List<Param>,
+    released: &Released,
 ) -> Result<List<Sent>, OutOfMemory>
-    requires short { are_short params.now ≡ true }
+    requires short { are_short released.now.params.now ≡ true }
     requires other { section.now.other ≡ Some other }
-    ensures state { OnOk result (sections.new ≡ (release sections.old section.now (to_one origin (Message.Rlc slr dlr)) cause params.now (Some other)).sections) }
-    ensures sent { IfOk result (λ sent. sent ≡ map written_sent (release sections.old section.now (to_one origin (Message.Rlc slr dlr)) cause params.now (Some other)).sent) }
+    ensures state { OnOk result (sections.new ≡ (release sections.old section.now (to_one released.now.origin (Message.Rlc released.now.slr released.now.dlr)) released.now.cause released.now.params.now (Some other)).sections) }
+    ensures sent { IfOk result (λ sent. sent ≡ map written_sent (release sections.old section.now (to_one released.now.origin (Message.Rlc released.now.slr released.now.dlr)) released.now.cause released.now.params.now (Some other)).sent) }
     ensures err { OnErr result (sections.new ≡ sections.old) }
 {
     match sections.at(other) {
         None => {
-            let sent = complete(alloc, origin, dlr, slr)?;
+            let sent = complete(alloc, released)?;
             sections.end_both(section);
             Ok(sent)
         }
         Some(far) => match far.remote {
             None => {
-                let sent = complete(alloc, origin, dlr, slr)?;
+                let sent = complete(alloc, released)?;
                 sections.end_both(section);
                 Ok(sent)
             }
             Some(remote) => {
-                let sent = complete_and_release(
-                    alloc, origin, dlr, slr, &far, remote, cause, params,
-                )?;
+                let sent = complete_and_release(alloc, released, &far, remote)?;
                 sections.end(section.own);
                 sections.release(other);
                 Ok(sent)
@@ -101,29 +94,23 @@ fn release_known(
     alloc: Global,
     sections: &mut Sections,
     section: &Section,
-    origin: PointCode,
-    dlr: Reference,
-    slr: Reference,
-    cause: u8,
-    params: &List<Param>,
+    released: &Released,
 ) -> Result<List<Sent>, OutOfMemory>
-    requires { are_short params.now ≡ true }
-    ensures state { OnOk result (sections.new ≡ (on_release sections.old origin dlr slr cause params.now (Some section.now)).sections) }
-    ensures sent { IfOk result (λ sent. sent ≡ map written_sent (on_release sections.old origin dlr slr cause params.now (Some section.now)).sent) }
+    requires { are_short released.now.params.now ≡ true }
+    ensures state { OnOk result (sections.new ≡ (on_release sections.old released.now.origin released.now.dlr released.now.slr released.now.cause released.now.params.now (Some section.now)).sections) }
+    ensures sent { IfOk result (λ sent. sent ≡ map written_sent (on_release sections.old released.now.origin released.now.dlr released.now.slr released.now.cause released.now.params.now (Some section.now)).sent) }
     ensures err { OnErr result (sections.new ≡ sections.old) }
 {
-    if section.remote != Some(slr) {
-        return error(alloc, origin, slr, 1);
+    if section.remote != Some(released.slr) {
+        return error(alloc, released.origin, released.slr, 1);
     }
     match section.other {
         None => {
-            let sent = complete(alloc, origin, dlr, slr)?;
+            let sent = complete(alloc, released)?;
             sections.end(section.own);
             Ok(sent)
         }
-        Some(other) => release_both(
-            alloc, sections, section, other, origin, dlr, slr, cause, params,
-        ),
+        Some(other) => release_both(alloc, sections, section, other, released),
     }
 }
 
@@ -131,19 +118,15 @@ fn release_known(
 pub(crate) fn on_release(
     alloc: Global,
     sections: &mut Sections,
-    origin: PointCode,
-    dlr: Reference,
-    slr: Reference,
-    cause: u8,
-    params: &List<Param>,
+    released: &Released,
 ) -> Result<List<Sent>, OutOfMemory>
-    requires { are_short params.now ≡ true }
-    ensures state { OnOk result (sections.new ≡ (on_release sections.old origin dlr slr cause params.now (known sections.old origin dlr)).sections) }
-    ensures sent { IfOk result (λ sent. sent ≡ map written_sent (on_release sections.old origin dlr slr cause params.now (known sections.old origin dlr)).sent) }
+    requires { are_short released.now.params.now ≡ true }
+    ensures state { OnOk result (sections.new ≡ (on_release sections.old released.now.origin released.now.dlr released.now.slr released.now.cause released.now.params.now (known sections.old released.now.origin released.now.dlr)).sections) }
+    ensures sent { IfOk result (λ sent. sent ≡ map written_sent (on_release sections.old released.now.origin released.now.dlr released.now.slr released.now.cause released.now.params.now (known sections.old released.now.origin released.now.dlr)).sent) }
     ensures err { OnErr result (sections.new ≡ sections.old) }
 {
-    match sections.known(origin, dlr) {
-        None => complete(alloc, origin, dlr, slr),
-        Some(section) => release_known(alloc, sections, &section, origin, dlr, slr, cause, params),
+    match sections.known(released.origin, released.dlr) {
+        None => complete(alloc, released),
+        Some(section) => release_known(alloc, sections, &section, released),
     }
 }

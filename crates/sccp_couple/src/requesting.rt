@@ -8,13 +8,14 @@ ghost use Rattle.sccp_couple.specs.Coupling.{request_goes, on_request, to_one};
 ghost use Rattle.sccp_couple.specs.Sending.{written_sent};
 ghost use Rattle.sccp_couple.specs.Ways.{request_way};
 
+use crate::connection_request::ConnectionRequest;
 use crate::references::new_references;
+use crate::routing_control::RoutingControl;
 use crate::sections::Sections;
 use crate::sending::{refusal, to_one};
 use crate::way::{Way, request_way};
-use plan_model::Plan;
 use sccp_address::Address;
-use sccp_base::{List, Marking, OutOfMemory, PointCode, Reference};
+use sccp_base::{List, OutOfMemory, PointCode};
 use sccp_layout::Param;
 use sccp_manage::Sent;
 use sccp_message::Message;
@@ -25,60 +26,57 @@ use std::alloc::Global;
 fn go_on(
     alloc: Global,
     sections: &mut Sections,
-    origin: PointCode,
-    slr: Reference,
-    class: u8,
+    request: &ConnectionRequest,
     to: PointCode,
     called: Address,
     params: List<Param>,
 ) -> Result<List<Sent>, OutOfMemory>
     requires called { length (written called) ≤ 21 }
     requires params { are_short params ≡ true }
-    ensures state { OnOk result (sections.new ≡ (request_goes sections.old origin slr class (Onward to called params)).sections) }
-    ensures sent { IfOk result (λ sent. sent ≡ map written_sent (request_goes sections.old origin slr class (Onward to called params)).sent) }
+    ensures state { OnOk result (sections.new ≡ (request_goes sections.old request.now.origin request.now.slr request.now.class (Onward to called params)).sections) }
+    ensures sent { IfOk result (λ sent. sent ≡ map written_sent (request_goes sections.old request.now.origin request.now.slr request.now.class (Onward to called params)).sent) }
     ensures err { OnErr result (sections.new ≡ sections.old) }
 {
     if 4094 < sections.list().as_slice().len() {
-        return refusal(alloc, origin, slr, 7);
+        drop(called);
+        drop(params);
+        return refusal(alloc, request.origin, request.slr, 7);
     }
     let (near, far) = new_references(sections.list().as_slice());
-    let request = Message::Cr {
+    let onward = Message::Cr {
         slr: far,
-        class,
+        class: request.class,
         called,
         params,
     };
-    let sent = to_one(alloc, to, request)?;
-    sections.couple(near, far, origin, slr, to)?;
-    Ok(sent)
+    let sent = to_one(alloc, to, onward)?;
+    match sections.couple(near, far, request.origin, request.slr, to) {
+        Ok(()) => Ok(sent),
+        Err(fault) => {
+            drop(sent);
+            Err(fault)
+        }
+    }
 }
 
 /// Connection request (CR). It is not answered if a near section shows that it was received before.
 pub(crate) fn on_request(
     alloc: Global,
-    plan: &Plan,
-    node: u8,
-    marking: &Marking,
+    control: &RoutingControl,
     sections: &mut Sections,
-    origin: PointCode,
-    slr: Reference,
-    class: u8,
-    called: &Address,
-    params: &List<Param>,
+    request: &ConnectionRequest,
 ) -> Result<List<Sent>, OutOfMemory>
-    requires node { node < length plan.now.nodes }
-    requires short { are_short params.now ≡ true }
-    ensures state { OnOk result (sections.new ≡ (on_request sections.old origin slr class (request_way plan.now node marking.now class called.now params.now)).sections) }
-    ensures sent { IfOk result (λ sent. sent ≡ map written_sent (on_request sections.old origin slr class (request_way plan.now node marking.now class called.now params.now)).sent) }
+    requires node { control.now.node < length control.now.plan.now.nodes }
+    requires short { are_short request.now.params.now ≡ true }
+    ensures state { OnOk result (sections.new ≡ (on_request sections.old request.now.origin request.now.slr request.now.class (request_way control.now.plan.now control.now.node control.now.marking.now request.now.class request.now.called.now request.now.params.now)).sections) }
+    ensures sent { IfOk result (λ sent. sent ≡ map written_sent (on_request sections.old request.now.origin request.now.slr request.now.class (request_way control.now.plan.now control.now.node control.now.marking.now request.now.class request.now.called.now request.now.params.now)).sent) }
     ensures err { OnErr result (sections.new ≡ sections.old) }
 {
-    if sections.has_near(origin, slr) {
+    if sections.has_near(request.origin, request.slr) {
         return Ok(List::new(alloc));
     }
-    match request_way(alloc, plan, node, marking, class, called, params)? {
-        Way::Refused(cause) => refusal(alloc, origin, slr, cause),
-        Way::Onward { to, called, params } => go_on(
-            alloc, sections, origin, slr, class, to, called, params,
-        ),
+    match request_way(alloc, control, request)? {
+        Way::Refused(cause) => refusal(alloc, request.origin, request.slr, cause),
+        Way::Onward { to, called, params } => go_on(alloc, sections, request, to, called, params),
     }
 }

@@ -11,9 +11,11 @@ ghost use Rattle.sccp_message.specs.Fields.{param as param_of};
 ghost use Rattle.sccp_scrc.specs.Arriving.{point_of, subsystems_of};
 ghost use Rattle.sccp_scrc.specs.Rewriting.{spot_of};
 ghost use Rattle.plan_model.specs.Routes.{StaysIn};
-ghost use Rattle.sccp_couple.specs.Ways.{at_subsystem, refusal_of, after_step, is_used_up, request_way, count_first, HasRoom};
+ghost use Rattle.sccp_couple.specs.Ways.{at_subsystem, refusal_of, after_step, is_used_up, request_way, count_first, translated, HasRoom};
 
+use crate::connection_request::ConnectionRequest;
 use crate::params::{HOPS, count_first, first_octet};
+use crate::routing_control::RoutingControl;
 use plan_model::{Node, Plan, Spot, Step, step};
 use sccp_address::Address;
 use sccp_base::{List, Mark, Marking, OutOfMemory, PointCode};
@@ -132,30 +134,30 @@ fn onward(
 #[tactic(auto, using(crate::proofs::Counting::relay_room, crate::proofs::Counting::place_room))]
 fn after_step(
     alloc: Global,
-    plan: &Plan,
-    node: u8,
-    called: &Address,
+    control: &RoutingControl,
+    request: &ConnectionRequest,
     spot: &Spot,
-    params: &List<Param>,
     step: &Step,
 ) -> Result<Way, OutOfMemory>
-    requires node { node < length plan.now.nodes }
-    requires stays { StaysIn plan.now step.now }
-    requires spot { spot_of node called.now ≡ Some spot.now }
-    requires at { spot.now.node ≡ node }
-    requires short { are_short params.now ≡ true }
-    ensures value { IfOk result (λ way. way ≡ after_step plan.now node called.now params.now step.now) }
+    requires node { control.now.node < length control.now.plan.now.nodes }
+    requires stays { StaysIn control.now.plan.now step.now }
+    requires spot { spot_of control.now.node request.now.called.now ≡ Some spot.now }
+    requires at { spot.now.node ≡ control.now.node }
+    requires short { are_short request.now.params.now ≡ true }
+    ensures value { IfOk result (λ way. way ≡ after_step control.now.plan.now control.now.node request.now.called.now request.now.params.now step.now) }
     ensures room { IfOk result HasRoom }
 {
+    let called = request.called;
+    let params = request.params;
     match step {
         Step::Sent { next, .. } => {
             // The proof learns only from this call that there are at most 32 digits.
             let _count = next.digits.len();
-            let to = plan.point_of(next.node);
+            let to = control.plan.point_of(next.node);
             onward(alloc, to, onward_address(called, spot, step), params)
         }
         Step::Ended { pc, .. } => {
-            if *pc == plan.point_of(node) {
+            if *pc == control.plan.point_of(control.node) {
                 return Ok(Way::Refused(6));
             }
             let _count = spot.digits.len();
@@ -167,33 +169,45 @@ fn after_step(
     }
 }
 
+/// What a relay makes of a request that is routed on a title, which must have digits.
+fn translated(
+    alloc: Global,
+    control: &RoutingControl,
+    request: &ConnectionRequest,
+) -> Result<Way, OutOfMemory>
+    requires node { control.now.node < length control.now.plan.now.nodes }
+    requires short { are_short request.now.params.now ≡ true }
+    ensures value { IfOk result (λ way. way ≡ translated control.now.plan.now control.now.node control.now.marking.now request.now.called.now request.now.params.now (spot_of control.now.node request.now.called.now)) }
+    ensures room { IfOk result HasRoom }
+{
+    let Some(spot) = spot(control.node, request.called) else {
+        return Ok(Way::Refused(18));
+    };
+    let step = step(alloc, control.plan, &spot, control.marking)?;
+    after_step(alloc, control, request, &spot, &step)
+}
+
 /// What a relay makes of a request. The tests are made in this order: class, routing, hop counter, title.
 pub(crate) fn request_way(
     alloc: Global,
-    plan: &Plan,
-    node: u8,
-    marking: &Marking,
-    class: u8,
-    called: &Address,
-    params: &List<Param>,
+    control: &RoutingControl,
+    request: &ConnectionRequest,
 ) -> Result<Way, OutOfMemory>
-    requires node { node < length plan.now.nodes }
-    requires short { are_short params.now ≡ true }
-    ensures value { IfOk result (λ way. way ≡ request_way plan.now node marking.now class called.now params.now) }
+    requires node { control.now.node < length control.now.plan.now.nodes }
+    requires short { are_short request.now.params.now ≡ true }
+    ensures value { IfOk result (λ way. way ≡ request_way control.now.plan.now control.now.node control.now.marking.now request.now.class request.now.called.now request.now.params.now) }
     ensures room { IfOk result HasRoom }
 {
-    if class & 0x0F != 2 {
+    if request.class & 0x0F != 2 {
         return Ok(Way::Refused(6));
     }
+    let called = request.called;
     if called.by_ssn {
-        return Ok(Way::Refused(at_subsystem(plan, node, marking, called.ssn)));
+        let cause = at_subsystem(control.plan, control.node, control.marking, called.ssn);
+        return Ok(Way::Refused(cause));
     }
-    if is_used_up(params) {
+    if is_used_up(request.params) {
         return Ok(Way::Refused(16));
     }
-    let Some(spot) = spot(node, called) else {
-        return Ok(Way::Refused(18));
-    };
-    let step = step(alloc, plan, &spot, marking)?;
-    after_step(alloc, plan, node, called, &spot, params, &step)
+    translated(alloc, control, request)
 }

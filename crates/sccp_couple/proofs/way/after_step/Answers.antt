@@ -10,6 +10,6 @@ use Rattle.sccp_couple.proofs.way.after_step.Goals as goal
 pub onward-requires-in-Ended-clause-called : goal.onward-requires-in-Ended-clause-called
 onward-requires-in-Ended-clause-called c =
     subst (λ (o : Option Address). IsSomeAnd o (λ a. length (written a) ≤ 21))
-    (sym (c.onward_address-in-Ended.ensures ∙ ap (λ (s : Step). onward_address s c.args.called.now) c.in-Ended.is))
-    (place_room c.args.called.now c.args.node c.in-Ended.ssn c.args.spot.now c.requires.spot
+    (sym (c.onward_address-in-Ended.ensures ∙ ap (λ (s : Step). onward_address s c.args.request.now.called.now) c.in-Ended.is))
+    (place_room c.args.request.now.called.now c.args.control.now.node c.in-Ended.ssn c.args.spot.now c.requires.spot
     (subst (λ (n : ℕ). n ≤ 32) c.len-count-in-Ended.ensures.value c.len-count-in-Ended.ensures.limit))
