@@ -1,5 +1,4 @@
 -- The definitions of this crate, one file a subject.
-pub mod Relays
 pub mod Journeys
 pub mod Riding
 pub mod Headline
