@@ -39,10 +39,6 @@ last_turn plan states left node origin b x lt e never =
     stays (arrivals.Management m) never = refl
     stays (arrivals.Undecodable fault) never = refl
 
-pub longer : {E : Type 0} (r : Result (Option Arrival) E) (new old pushed p q : List ℕ) (node : ℕ) → pushed ≡ old ++ node ∷ [] → q ≡ node ∷ p → IfOk r (λ last. new ≡ pushed ++ p) → IfOk r (λ last. new ≡ old ++ q)
-longer (Ok x) new old pushed p q node a b h = h ∙ (ap (λ (xs : List ℕ). xs ++ p) a ∙ (append_assoc old (node ∷ []) p ∙ ap (λ (xs : List ℕ). old ++ xs) (sym b)))
-longer (Err e) new old pushed p q node a b h = tt
-
 -- ---- the last node
 
 -- the last node of a trip is one of the plan
@@ -64,14 +60,3 @@ last_within plan states (suc left) first node origin b is lt at =
 
 pub last_of_trip : (plan : Network) (states : List (List Mark)) (entry origin : ℕ) (b : List ℕ) → IsPlan plan → entry < length plan.nodes → last_node 0 (trip_of plan states entry origin b).path < length plan.nodes
 last_of_trip plan states entry origin b is lt = let some : 0 < length plan.nodes = omega (arith, lt) in last_within plan states (most_arrivals (reading b)) 0 entry origin b is some lt
-
--- a relayed message goes to a node of the plan
-pub relays_within : {E : Type 0} (r : Result Arrival E) (plan : Network) (node : ℕ) (b : List ℕ) → IfOk r (λ a. (pc : ℕ) (sent : List ℕ) → a ≡ Relayed pc sent → IsRelayed plan node b pc sent) → IfOk r (λ a. RelaysWithin plan a)
-relays_within (Err e) plan node b h = tt
-relays_within (Ok (Relayed pc sent)) plan node b h = (h pc sent refl).relay
-relays_within (Ok (arrivals.Ended pc ssn octets)) plan node b h = tt
-relays_within (Ok (arrivals.Local ssn new)) plan node b h = tt
-relays_within (Ok (arrivals.Returned cause marks service)) plan node b h = tt
-relays_within (Ok (arrivals.Connection new)) plan node b h = tt
-relays_within (Ok (arrivals.Management new)) plan node b h = tt
-relays_within (Ok (arrivals.Undecodable fault)) plan node b h = tt

@@ -1,4 +1,3 @@
-pub mod Relays
 pub mod Journeys
 pub mod Riding
 pub mod Headline

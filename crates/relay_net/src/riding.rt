@@ -1,29 +1,29 @@
 //! The way of a message from relay to relay. It is changed in place and written only when it leaves them.
-ghost use Rattle.std.specs.Prelude.{◌≡◌, ◌<◌, ◌++◌, length, map, IfOk, IfSome};
+ghost use Rattle.std.specs.Prelude.{◌≡◌, ◌<◌, ◌++◌, length, map, false, IfOk};
 ghost use Rattle.sccp_message.specs.Written.{message_octets};
 ghost use Rattle.sccp_message.specs.Unitdata.{called_of};
-ghost use Rattle.plan_model.specs.Network.{node_of};
+ghost use Rattle.plan_model.specs.Network.{IsPlan};
 ghost use Rattle.sccp_scrc.specs.Arriving.{by_called, arrival};
-ghost use Rattle.sccp_scrc.specs.Passing.{sent_on, IsPassed, ReadsAgain};
+ghost use Rattle.sccp_scrc.specs.Passing.{sent_on, is_relayed, IsPassed, ReadsAgain};
 ghost use Rattle.relay_net.specs.Journeys.{held_at, travel};
-ghost use Rattle.relay_net.specs.Relays.{RelaysWithin};
-ghost use Rattle.relay_net.specs.Riding.{GoesOn};
+ghost use Rattle.relay_net.specs.Riding.{GoesOn, Rests};
 
 use crate::holds_marking::HoldsMarking;
-use crate::travelling::{point_of, travel};
-use plan_model::Plan;
+use crate::travelling::point_of;
+use plan_model::{Hop, Plan};
 use sccp_base::{List, Marking, OutOfMemory, PointCode};
 use sccp_message::Message;
-use sccp_scrc::{Arrival, arrive_message, pass_on};
+use sccp_scrc::{Arrival, Passed, arrive_message, arrive_stepped, pass_on};
 use std::alloc::Global;
 
-/// The state of a message on its way: the number of arrivals that are left, the first of them at this node, from this
-/// origin.
+/// The end of the way of a message from relay to relay: the number of arrivals that are left, the first of them at this node,
+/// from this origin. If its title was looked up there, the hop is what was found.
 #[derive(Drop)]
 pub(crate) struct Rest {
     pub(crate) left: u8,
     pub(crate) node: u8,
     pub(crate) origin: PointCode,
+    pub(crate) hop: Option<Hop>,
 }
 
 /// The marking that a node holds.
@@ -34,22 +34,22 @@ fn marking_at<S: HoldsMarking>(states: &[S], node: u8) -> &Marking
     states[usize::from(node)].marking()
 }
 
-/// The next point of a message that reads again once it is written, under the marking that the node holds. It is that of a
-/// node. The message stays one that reads again.
+/// Passes a message on to the next relay, under the marking that the node holds. The message reads again once it is written,
+/// and stays one that does.
 fn pass<S: HoldsMarking>(
     alloc: Global,
     plan: &Plan,
     states: &[S],
     node: u8,
     message: &mut Message,
-) -> Result<Option<PointCode>, OutOfMemory>
+) -> Result<Passed, OutOfMemory>
     requires node { node < length plan.now.nodes }
     requires states { length states.now ≡ length plan.now.nodes }
     requires again { ReadsAgain message.old }
     ensures value { let held = held_at (map S.held states.now) node in
-        IfOk result (λ pc. IsPassed (λ origin. by_called plan.now node held origin message.old (called_of message.old)) (sent_on plan.now node held message.old) message.old message.new pc) }
-    ensures again { IfOk result (λ pc. ReadsAgain message.new) }
-    ensures within { IfOk result (λ pc. IfSome pc (λ point. node_of plan.now.nodes point < length plan.now.nodes)) }
+        IfOk result (IsPassed plan.now node held (λ origin. by_called plan.now node held origin message.old (called_of message.old)) (sent_on plan.now node held message.old) message.old message.new) }
+    ensures again { IfOk result (λ passed. ReadsAgain message.new) }
+    ensures plan { IsPlan plan.now }
 {
     let _nodes = plan.nodes();
     let marking = marking_at(states, node);
@@ -74,81 +74,84 @@ fn ride<S: HoldsMarking>(
     ensures again { IfOk result (λ rest. ReadsAgain message.new) }
     ensures goes { let held = map S.held states.now in
         IfOk result (λ rest. GoesOn path.old (travel plan.now held left node origin (message_octets message.old)) path.new (travel plan.now held rest.left rest.node rest.origin (message_octets message.new))) }
+    ensures rests { IfOk result (λ rest. 0 < rest.left → Rests plan.now rest.node (held_at (map S.held states.now) rest.node) message.new rest.hop) }
 {
     if left == 0 {
-        return Ok(Rest { left, node, origin });
+        return Ok(Rest {
+            left,
+            node,
+            origin,
+            hop: None,
+        });
     }
     match pass(alloc, plan, states, node, message)? {
-        Some(pc) => {
+        Passed::On { next } => {
             path.push(node)?;
-            let next = plan.relay_at(pc);
             let from = point_of(plan, node);
             ride(alloc, plan, states, left - 1, next, from, message, path)
         }
-        None => Ok(Rest { left, node, origin }),
+        Passed::Stays(hop) => Ok(Rest {
+            left,
+            node,
+            origin,
+            hop,
+        }),
     }
 }
 
-/// What becomes of the message at a node, under the marking that the node holds: the same as of its octets.
-fn stop_message<S: HoldsMarking>(
+/// What becomes of a message at the node where it rests, under the marking that the node holds: the same as of its octets.
+fn stop<S: HoldsMarking>(
     alloc: Global,
     plan: &Plan,
     states: &[S],
-    node: u8,
-    origin: PointCode,
+    rest: Rest,
     message: Message,
 ) -> Result<Arrival, OutOfMemory>
-    requires node { node < length plan.now.nodes }
+    requires node { rest.node < length plan.now.nodes }
     requires states { length states.now ≡ length plan.now.nodes }
     requires again { ReadsAgain message }
-    ensures value { IfOk result (λ a. a ≡ arrival plan.now node (held_at (map S.held states.now) node) origin (message_octets message)) }
-    ensures within { IfOk result (λ a. RelaysWithin plan.now a) }
+    requires rests { Rests plan.now rest.node (held_at (map S.held states.now) rest.node) message rest.hop }
+    ensures value { IfOk result (λ a. a ≡ arrival plan.now rest.node (held_at (map S.held states.now) rest.node) rest.origin (message_octets message)) }
+    ensures unrelayed { IfOk result (λ a. is_relayed a ≡ false) }
 {
-    let _nodes = plan.nodes();
+    let Rest {
+        node, origin, hop, ..
+    } = rest;
     let marking = marking_at(states, node);
-    arrive_message(alloc, plan, node, marking, origin, message)
+    match hop {
+        Some(hop) => arrive_stepped(alloc, plan, node, marking, origin, message, hop),
+        None => arrive_message(alloc, plan, node, marking, origin, message),
+    }
 }
 
-/// The rest of a trip. From here on what is relayed goes on by its octets.
+/// The last arrival of a message that rests, none if no arrival is left. Its node is appended to the path.
 fn end_ride<S: HoldsMarking>(
     alloc: Global,
     plan: &Plan,
     states: &[S],
-    left: u8,
-    node: u8,
-    origin: PointCode,
+    rest: Rest,
     message: Message,
     path: &mut List<u8>,
 ) -> Result<Option<Arrival>, OutOfMemory>
-    requires node { node < length plan.now.nodes }
+    requires node { rest.node < length plan.now.nodes }
     requires states { length states.now ≡ length plan.now.nodes }
     requires again { ReadsAgain message }
-    ensures last { IfOk result (λ last. last ≡ (travel plan.now (map S.held states.now) left node origin (message_octets message)).last) }
-    ensures path { IfOk result (λ last. path.new ≡ path.old ++ (travel plan.now (map S.held states.now) left node origin (message_octets message)).path) }
+    requires rests { 0 < rest.left → Rests plan.now rest.node (held_at (map S.held states.now) rest.node) message rest.hop }
+    ensures last { IfOk result (λ last. last ≡ (travel plan.now (map S.held states.now) rest.left rest.node rest.origin (message_octets message)).last) }
+    ensures path { IfOk result (λ last. path.new ≡ path.old ++ (travel plan.now (map S.held states.now) rest.left rest.node rest.origin (message_octets message)).path) }
 {
-    if left == 0 {
+    if rest.left == 0 {
+        drop(rest);
         drop(message);
         return Ok(None);
     }
-    match path.push(node) {
-        Ok(()) => match stop_message(alloc, plan, states, node, origin, message)? {
-            Arrival::Relayed { pc, octets } => {
-                let next = plan.relay_at(pc);
-                let from = point_of(plan, node);
-                travel(
-                    alloc,
-                    plan,
-                    states,
-                    left - 1,
-                    next,
-                    from,
-                    octets.as_slice(),
-                    path,
-                )
-            }
-            last => Ok(Some(last)),
+    match path.push(rest.node) {
+        Ok(()) => match stop(alloc, plan, states, rest, message) {
+            Ok(last) => Ok(Some(last)),
+            Err(fault) => Err(fault),
         },
         Err(fault) => {
+            drop(rest);
             drop(message);
             Err(fault)
         }
@@ -156,7 +159,7 @@ fn end_ride<S: HoldsMarking>(
 }
 
 /// The last arrival of the message, none if it is cut off; `left` arrivals at most. Its nodes are appended to the path.
-pub(crate) fn travel_unwritten<S: HoldsMarking>(
+pub(crate) fn travel<S: HoldsMarking>(
     alloc: Global,
     plan: &Plan,
     states: &[S],
@@ -174,16 +177,7 @@ pub(crate) fn travel_unwritten<S: HoldsMarking>(
 {
     let mut ridden = message;
     match ride(alloc, plan, states, left, node, origin, &mut ridden, path) {
-        Ok(rest) => end_ride(
-            alloc,
-            plan,
-            states,
-            rest.left,
-            rest.node,
-            rest.origin,
-            ridden,
-            path,
-        ),
+        Ok(rest) => end_ride(alloc, plan, states, rest, ridden, path),
         Err(fault) => {
             drop(ridden);
             Err(fault)

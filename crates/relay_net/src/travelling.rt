@@ -1,48 +1,22 @@
 //! The journey of a message, by its octets.
 ghost use Rattle.std.specs.Prelude.{◌≡◌, ◌<◌, ◌++◌, length, map, Some, Ok, IfOk};
 ghost use Rattle.plan_model.specs.declared.spot.Spot.{Spot};
-ghost use Rattle.plan_model.specs.Network.{node_of};
 ghost use Rattle.sccp_message.specs.declared.message.Message.{Message};
-ghost use Rattle.sccp_scrc.specs.Arriving.{arrival, point_of};
-ghost use Rattle.relay_net.specs.Journeys.{held_at, travel, most_arrivals, trip_of, end_at, end_of, service_in, last_node, back_by, back_of, journey};
+ghost use Rattle.sccp_scrc.specs.Arriving.{point_of};
+ghost use Rattle.relay_net.specs.Journeys.{most_arrivals, trip_of, end_at, end_of, service_in, last_node, back_by, back_of, journey};
 ghost use Rattle.relay_net.specs.Headline.{IsCoveredMessage, GoesWell, IsCutOff};
-ghost use Rattle.relay_net.specs.Relays.{RelaysWithin};
 
 use crate::back::Back;
 use crate::end::End;
 use crate::holds_marking::HoldsMarking;
-use crate::riding::travel_unwritten;
+use crate::riding::travel;
 use crate::travelled::Journey;
 use plan_check::Accepted;
 use plan_model::Plan;
 use sccp_base::{Boxed, List, Octets, OutOfMemory, PointCode};
 use sccp_message::{DecodeFault, Message, decode};
-use sccp_scrc::{Arrival, Service, Way, arrive};
+use sccp_scrc::{Arrival, Service, Way};
 use std::alloc::Global;
-
-/// What becomes of the octets at a node, under the marking that the node holds.
-fn stop<S: HoldsMarking>(
-    alloc: Global,
-    plan: &Plan,
-    states: &[S],
-    node: u8,
-    origin: PointCode,
-    octets: &[u8],
-) -> Result<Arrival, OutOfMemory>
-    requires node { node < length plan.now.nodes }
-    requires states { length states.now ≡ length plan.now.nodes }
-    ensures value { IfOk result (λ a. a ≡ arrival plan.now node (held_at (map S.held states.now) node) origin octets.now) }
-    ensures within { IfOk result (λ a. RelaysWithin plan.now a) }
-{
-    arrive(
-        alloc,
-        plan,
-        node,
-        states[usize::from(node)].marking(),
-        origin,
-        octets,
-    )
-}
 
 /// The point code of the node at this place of the plan.
 pub(crate) fn point_of(plan: &Plan, node: u8) -> PointCode
@@ -50,45 +24,6 @@ pub(crate) fn point_of(plan: &Plan, node: u8) -> PointCode
     ensures { result ≡ point_of plan.now node }
 {
     plan.nodes().as_slice()[usize::from(node)].pc
-}
-
-/// The last arrival of octets, none if they are cut off; `left` arrivals at most. Their nodes are appended to the path.
-pub(crate) fn travel<S: HoldsMarking>(
-    alloc: Global,
-    plan: &Plan,
-    states: &[S],
-    left: u8,
-    node: u8,
-    origin: PointCode,
-    octets: &[u8],
-    path: &mut List<u8>,
-) -> Result<Option<Arrival>, OutOfMemory>
-    requires node { node < length plan.now.nodes }
-    requires states { length states.now ≡ length plan.now.nodes }
-    ensures last { IfOk result (λ last. last ≡ (travel plan.now (map S.held states.now) left node origin octets.now).last) }
-    ensures path { IfOk result (λ last. path.new ≡ path.old ++ (travel plan.now (map S.held states.now) left node origin octets.now).path) }
-{
-    if left == 0 {
-        return Ok(None);
-    }
-    path.push(node)?;
-    match stop(alloc, plan, states, node, origin, octets)? {
-        Arrival::Relayed { pc, octets } => {
-            let next = plan.relay_at(pc);
-            let from = point_of(plan, node);
-            travel(
-                alloc,
-                plan,
-                states,
-                left - 1,
-                next,
-                from,
-                octets.as_slice(),
-                path,
-            )
-        }
-        last => Ok(Some(last)),
-    }
 }
 
 /// The most arrivals of a message. One with a hop counter is not relayed at its fifteenth (Q.713 section 3.18).
@@ -117,10 +52,13 @@ fn follow<S: HoldsMarking>(
     match decode(alloc, octets) {
         Ok(message) => {
             let left = most_arrivals_of(&message);
-            travel_unwritten(alloc, plan, states, left, entry, origin, message, path)
+            travel(alloc, plan, states, left, entry, origin, message, path)
         }
         Err(DecodeFault::OutOfMemory) => Err(OutOfMemory),
-        Err(_) => travel(alloc, plan, states, 14, entry, origin, octets, path),
+        Err(fault) => {
+            path.push(entry)?;
+            Ok(Some(Arrival::Undecodable(fault)))
+        }
     }
 }
 

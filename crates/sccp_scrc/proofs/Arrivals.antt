@@ -3,9 +3,9 @@ use Rattle.std.specs.Prelude.{◌≡◌, ◌≢◌, ℕ, ◌-◌, ◌<◌, ◌�
 use Rattle.std.specs.List.{find, All}
 use Rattle.std.specs.Option.{option_map_or}
 use Rattle.std.proofs.Common.{suc, sym, ◌∙◌, ap, subst, inl, inr, ⊎_elim, arith}
-use Rattle.std.proofs.lemmas.Bool.{eqb-true, leb-true, false_from_ne_true}
+use Rattle.std.proofs.lemmas.Bool.{eqb-true, eq-eqb, leb-true, false_from_ne_true}
 use Rattle.std.proofs.lemmas.Option.{slice_get_cases}
-use Rattle.std.proofs.lemmas.List.Sums.{passes_at_first}
+use Rattle.std.proofs.lemmas.List.Sums.{passes_at_first, position_or_len_is}
 use Rattle.sccp_base.specs.Marks.{holds}
 use Rattle.sccp_base.specs.declared.mark.Mark.{Mark}
 use Rattle.sccp_base.specs.declared.mark.Mark.TheVariants.{PointCode, Sccp, Subsystem}
@@ -149,6 +149,20 @@ there plan pc lt =
     ap (λ o. option_map_or (λ (n : Node). n.pc) o 0) at.2 ∙ eqb-true at.0.pc pc (sym (ap (has_point pc) at.3) ∙ passes_at_first (has_point pc) plan.nodes at.0 lt))
     (λ (beyond : (length plan.nodes ≤ i) × (slice_get plan.nodes i ≡ None)). let le : length plan.nodes ≤ i = beyond.0 in absurd (omega (arith, le, lt)))
     (slice_get_cases plan.nodes i).1
+
+-- each node is found again by its point code
+pub node_again : (plan : Network) (node : ℕ) → IsPlan plan → node < length plan.nodes → node_of plan.nodes (point_of plan node) ≡ node
+node_again plan node is lt =
+    ⊎_elim
+    (λ (at : (c : Node) × (node < length plan.nodes) × (slice_get plan.nodes node ≡ Some c) × (get_or plan.nodes node c ≡ c)).
+    let le : node ≤ length plan.nodes = omega (arith, lt) in
+    let own : (get_or plan.nodes node at.0).pc ≡ at.0.pc = ap (λ (n : Node). n.pc) at.3 in
+    ap (λ o. node_of plan.nodes (option_map_or (λ (n : Node). n.pc) o 0)) at.2
+    ∙ position_or_len_is (has_point at.0.pc) plan.nodes node at.0 le
+      (λ k before. false_from_ne_true (has_point at.0.pc (get_or plan.nodes k at.0)) (λ e. is.points k node at.0 before lt (eqb-true (get_or plan.nodes k at.0).pc at.0.pc e ∙ sym own)))
+      (λ within. eq-eqb (get_or plan.nodes node at.0).pc at.0.pc own))
+    (λ (beyond : (length plan.nodes ≤ node) × (slice_get plan.nodes node ≡ None)). let le : length plan.nodes ≤ node = beyond.0 in absurd (omega (arith, le, lt)))
+    (slice_get_cases plan.nodes node).1
 
 -- the next node of a title: the one with the target's point code, which is another one of the plan
 record IsNext (plan : Network) (s next : Spot) (pc : ℕ) : Type 0 where

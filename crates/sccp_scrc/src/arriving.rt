@@ -9,13 +9,14 @@ ghost use Rattle.plan_model.specs.Routes.{StaysIn};
 ghost use Rattle.sccp_scrc.specs.declared.service.Service.{Service};
 ghost use Rattle.sccp_scrc.specs.Next.{onward_address, next_place};
 ghost use Rattle.sccp_scrc.specs.Arriving.{by_called, point_of, subsystems_of, at_subsystem, after_step, at_title, is_last_hop, arrival};
+ghost use Rattle.sccp_scrc.specs.Passing.{IsStepped};
 ghost use Rattle.sccp_scrc.specs.Outcomes.{IsRelayed, IsEnded, IsLocal, IsReturned};
 
 use crate::arrival::Arrival;
 use crate::leaving::{place, relay};
 use crate::returning::returned;
 use crate::rewriting::{address_after, spot_in};
-use plan_model::{Plan, Step, step};
+use plan_model::{Hop, Plan, Step, step};
 use sccp_address::Address;
 use sccp_base::{List, Mark, Marking, OutOfMemory, PointCode};
 use sccp_message::{DecodeFault, Message, decode};
@@ -204,6 +205,25 @@ pub fn arrive_message(
             }
         }
     }
+}
+
+/// The same for a message that `pass_on` left as it is: the hop that was looked up is not looked up again.
+pub fn arrive_stepped(
+    alloc: Global,
+    plan: &Plan,
+    node: u8,
+    marking: &Marking,
+    origin: PointCode,
+    message: Message,
+    hop: Hop,
+) -> Result<Arrival, OutOfMemory>
+    requires node { node < length plan.now.nodes }
+    requires stepped { IsStepped plan.now node marking.now (λ from. by_called plan.now node marking.now from message (called_of message)) message hop }
+    ensures { IfOk result (λ a. a ≡ by_called plan.now node marking.now origin message (called_of message)) }
+{
+    let Hop { spot, step } = hop;
+    let to = address_after(&message, &spot, &step);
+    after(alloc, plan, node, marking, origin, message, to, step)
 }
 
 /// What becomes of octets.

@@ -12,6 +12,7 @@ mod arriving;
 mod fields;
 mod leaving;
 mod lengths;
+mod passed;
 mod passing;
 mod returning;
 mod rewriting;
@@ -19,7 +20,8 @@ mod service;
 mod way;
 
 pub use arrival::Arrival;
-pub use arriving::{arrive, arrive_message};
+pub use arriving::{arrive, arrive_message, arrive_stepped};
+pub use passed::Passed;
 pub use passing::pass_on;
 pub use rewriting::{one_less, onward_address, spot};
 pub use service::Service;

@@ -8,15 +8,16 @@ ghost use Rattle.plan_model.specs.Routes.{StaysIn};
 ghost use Rattle.sccp_scrc.specs.Unitdata.{redirected, octets_of};
 ghost use Rattle.sccp_scrc.specs.Rewriting.{one_less};
 ghost use Rattle.sccp_scrc.specs.Arriving.{by_called, after_step, at_title};
-ghost use Rattle.sccp_scrc.specs.Passing.{sent_by, sent_from, sent_on, IsPassed};
+ghost use Rattle.sccp_scrc.specs.Passing.{sent_by, sent_from, sent_on, IsSent, IsPassed};
 
-use crate::arriving::{is_last_hop, own_point};
+use crate::arriving::is_last_hop;
 use crate::leaving::octets_of;
 use crate::lengths::fits;
+use crate::passed::Passed;
 use crate::rewriting::{relay_address, restore_in_place, rewrite_in_place, spot_in};
-use plan_model::{Plan, Step, step};
+use plan_model::{Hop, Plan, Step, step};
 use sccp_address::Address;
-use sccp_base::{Marking, OutOfMemory, PointCode};
+use sccp_base::{Marking, OutOfMemory};
 use sccp_message::Message;
 use std::alloc::Global;
 
@@ -59,7 +60,7 @@ fn pass_to(alloc: Global, message: &mut Message, to: Address) -> Result<bool, Ou
     pass_written(alloc, message, to)
 }
 
-/// The point to which a step sends the message on, if it sends it on and the message can be written.
+/// The place of the relay to which a step sends the message on, if it sends it on and the message can be written.
 #[tactic(auto, using(crate::proofs::Staying::place_stays))]
 fn pass_by_step(
     alloc: Global,
@@ -68,49 +69,56 @@ fn pass_by_step(
     marking: &Marking,
     message: &mut Message,
     step: &Step,
-) -> Result<Option<PointCode>, OutOfMemory>
+) -> Result<Option<u8>, OutOfMemory>
     requires stays { StaysIn plan.now step.now }
     ensures { (address : Address) → called_of message.old ≡ Some address →
-        IfOk result (λ pc. IsPassed (λ origin. after_step plan.now node marking.now origin message.old address step.now) (sent_by address message.old step.now) message.old message.new pc) }
+        IfOk result (λ next. IsSent plan.now (λ origin. after_step plan.now node marking.now origin message.old address step.now) (sent_by address message.old step.now) message.old message.new next) }
 {
     match step {
-        Step::Sent { next, .. } => {
-            let pc = own_point(plan, next.node);
-            match relay_address(message, *next) {
-                Some(to) => {
-                    if pass_to(alloc, message, to)? {
-                        Ok(Some(pc))
-                    } else {
-                        Ok(None)
-                    }
+        Step::Sent { next, .. } => match relay_address(message, *next) {
+            Some(to) => {
+                if pass_to(alloc, message, to)? {
+                    Ok(Some(next.node))
+                } else {
+                    Ok(None)
                 }
-                None => Ok(None),
             }
-        }
+            None => Ok(None),
+        },
         _ => Ok(None),
     }
 }
 
-/// The point to which a message that is routed on title is sent on. First the hop counter is tested.
+/// What is done with a message that is routed on title. First the hop counter is tested.
 fn pass_by_title(
     alloc: Global,
     plan: &Plan,
     node: u8,
     marking: &Marking,
     message: &mut Message,
-) -> Result<Option<PointCode>, OutOfMemory>
+) -> Result<Passed, OutOfMemory>
     requires node { node < length plan.now.nodes }
     ensures { (address : Address) → called_of message.old ≡ Some address →
-        IfOk result (λ pc. IsPassed (λ origin. at_title plan.now node marking.now origin message.old address) (sent_from plan.now node marking.now message.old address) message.old message.new pc) }
+        IfOk result (IsPassed plan.now node marking.now (λ origin. at_title plan.now node marking.now origin message.old address) (sent_from plan.now node marking.now message.old address) message.old message.new) }
 {
     if is_last_hop(message.hops()) {
-        return Ok(None);
+        return Ok(Passed::Stays(None));
     }
     match spot_in(node, message) {
-        None => Ok(None),
+        None => Ok(Passed::Stays(None)),
         Some(spot) => {
             let step = step(alloc, plan, &spot, marking)?;
-            pass_by_step(alloc, plan, node, marking, message, &step)
+            match pass_by_step(alloc, plan, node, marking, message, &step) {
+                Ok(Some(next)) => {
+                    drop(step);
+                    Ok(Passed::On { next })
+                }
+                Ok(None) => Ok(Passed::Stays(Some(Hop { spot, step }))),
+                Err(fault) => {
+                    drop(step);
+                    Err(fault)
+                }
+            }
         }
     }
 }
@@ -125,9 +133,10 @@ fn is_titled(message: &Message) -> bool
     }
 }
 
-/// Sends a message on from the node at this place of the plan, which holds the marking, and gives the point code of the next
-/// relay. The message is then the one that goes there, and can be written. `None` exactly if the message is not relayed:
-/// then it stays, and `arrive_message` gives what becomes of it. (After want of memory nothing is promised of the message.)
+/// Sends a message on from the node at this place of the plan, which holds the marking, and gives the place of the next
+/// relay. The message is then the one that goes there, and can be written. `Stays` exactly if the message is not relayed:
+/// then it stays as it is, and `arrive_stepped` or `arrive_message` gives what becomes of it. (After want of memory nothing is
+/// promised of the message.)
 #[tactic(auto, using(crate::proofs::Staying::subsystem_stays))]
 pub fn pass_on(
     alloc: Global,
@@ -135,13 +144,13 @@ pub fn pass_on(
     node: u8,
     marking: &Marking,
     message: &mut Message,
-) -> Result<Option<PointCode>, OutOfMemory>
+) -> Result<Passed, OutOfMemory>
     requires node { node < length plan.now.nodes }
-    ensures { IfOk result (λ pc. IsPassed (λ origin. by_called plan.now node marking.now origin message.old (called_of message.old)) (sent_on plan.now node marking.now message.old) message.old message.new pc) }
+    ensures { IfOk result (IsPassed plan.now node marking.now (λ origin. by_called plan.now node marking.now origin message.old (called_of message.old)) (sent_on plan.now node marking.now message.old) message.old message.new) }
 {
     if is_titled(message) {
         pass_by_title(alloc, plan, node, marking, message)
     } else {
-        Ok(None)
+        Ok(Passed::Stays(None))
     }
 }

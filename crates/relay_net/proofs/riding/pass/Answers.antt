@@ -1,6 +1,6 @@
 use Rattle.std.specs.Prelude.{map}
 use Rattle.relay_net.specs.Journeys.{held_at}
-use Rattle.relay_net.proofs.Passages.{passed_at, passed_again, passed_within}
+use Rattle.relay_net.proofs.Passages.{passed_at, passed_again}
 use Rattle.relay_net.proofs.riding.pass.Goals as goal
 
 pub returns-clause-value : goal.returns-clause-value
@@ -10,7 +10,3 @@ returns-clause-value g c =
 pub returns-clause-again : goal.returns-clause-again
 returns-clause-again g c =
     passed_again c.pass_on.result c.args.plan.now c.args.node c.marking_at-marking.result.now c.args.message.now c.pass_on.new.message c.nodes-nodes.ensures.sound c.requires.again c.pass_on.ensures
-
-pub returns-clause-within : goal.returns-clause-within
-returns-clause-within g c =
-    passed_within c.pass_on.result c.args.plan.now c.args.node c.marking_at-marking.result.now c.args.message.now c.pass_on.new.message c.nodes-nodes.ensures.sound c.requires.again c.pass_on.ensures
