@@ -115,7 +115,10 @@ fn stop<S: HoldsMarking>(
     ensures unrelayed { IfOk result (λ a. is_relayed a ≡ false) }
 {
     let Rest {
-        node, origin, hop, ..
+        node,
+        origin,
+        hop,
+        ..
     } = rest;
     let marking = marking_at(states, node);
     match hop {

@@ -159,8 +159,8 @@ node_again plan node is lt =
     let own : (get_or plan.nodes node at.0).pc ≡ at.0.pc = ap (λ (n : Node). n.pc) at.3 in
     ap (λ o. node_of plan.nodes (option_map_or (λ (n : Node). n.pc) o 0)) at.2
     ∙ position_or_len_is (has_point at.0.pc) plan.nodes node at.0 le
-      (λ k before. false_from_ne_true (has_point at.0.pc (get_or plan.nodes k at.0)) (λ e. is.points k node at.0 before lt (eqb-true (get_or plan.nodes k at.0).pc at.0.pc e ∙ sym own)))
-      (λ within. eq-eqb (get_or plan.nodes node at.0).pc at.0.pc own))
+    (λ k before. false_from_ne_true (has_point at.0.pc (get_or plan.nodes k at.0)) (λ e. is.points k node at.0 before lt (eqb-true (get_or plan.nodes k at.0).pc at.0.pc e ∙ sym own)))
+    (λ within. eq-eqb (get_or plan.nodes node at.0).pc at.0.pc own))
     (λ (beyond : (length plan.nodes ≤ node) × (slice_get plan.nodes node ≡ None)). let le : length plan.nodes ≤ node = beyond.0 in absurd (omega (arith, le, lt)))
     (slice_get_cases plan.nodes node).1
 
