@@ -4,6 +4,7 @@ use Rattle.std.proofs.Common.{zero, suc, sym, ◌∙◌, ap, subst, append_assoc
 use Rattle.std.proofs.lemmas.Bool.{false≢true}
 use Rattle.sccp_base.specs.declared.mark.Mark.{Mark}
 use Rattle.sccp_message.specs.declared.message.Message.{Message}
+use Rattle.sccp_message.specs.declared.fault.DecodeFault.{DecodeFault}
 use Rattle.sccp_message.specs.Reading.{reading}
 use Rattle.sccp_message.specs.Written.{message_octets}
 use Rattle.sccp_message.specs.Unitdata.{called_of}
