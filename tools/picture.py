@@ -95,12 +95,12 @@ class Route:
     """The hops that belong to a verdict, and the line of the verdict."""
 
     def __init__(self, record):
-        self.verdict = {key: value for key, value in record.items() if key != "hops"}
+        self.verdict = without_hops(record)
         self.hops = [Hop(number, hop) for number, hop in enumerate(record["hops"])]
         self.is_bad = "refused" in record["form"]
 
     def line(self):
-        return "" if self.verdict["form"] == "route" else lines.write_line(self.verdict)
+        return "" if self.verdict["form"] == "route" else line_of(self.verdict)
 
     def find_steps(self, plans):
         """Looks the steps of the hops up: `plans` has the plan of each word old and new, or one under None."""
@@ -114,6 +114,15 @@ class Route:
 
     def title(self):
         return self.hops[0].title
+
+
+def without_hops(record):
+    return {key: value for key, value in record.items() if key != "hops"}
+
+
+def line_of(record):
+    """The printed line of a record, without the hops after it."""
+    return lines.write_line(without_hops(record))
 
 
 def routes_in(records):
