@@ -230,7 +230,7 @@ class Drawing:
     def settings(self):
         is_long = len({hop.relay for hop in self.hops}) > WIDEST
         graph = {"rankdir": "TB" if is_long else "LR", "fontname": "Helvetica", "fontsize": 11, "labelloc": "b", "labeljust": "l",
-                 "nodesep": 0.5, "ranksep": 0.5 if is_long else 0.9, "bgcolor": "white"}
+                 "nodesep": 0.3, "ranksep": 0.4 if is_long else 0.6, "bgcolor": "white"}
         found = [f"  graph {attributes(graph)};"]
         if self.has_words and self.hops:
             found.append('  label="%s";' % "".join(escaped(line) + "\\l" for line in self.legend()))

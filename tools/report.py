@@ -50,6 +50,8 @@ p { margin: .5rem 0; max-width: 46rem; }
 .verdict.good { border-color: var(--good); background: var(--good-soft); }
 .verdict.warn { border-color: var(--warn); background: var(--warn-soft); }
 code, .code { font: .875em/1.5 ui-monospace, "DejaVu Sans Mono", Menlo, Consolas, monospace; overflow-wrap: anywhere; }
+td code, .nb { white-space: nowrap; }
+td code.long { white-space: normal; }
 .scroll { overflow-x: auto; margin: .6rem 0; }
 table { border-collapse: collapse; font-size: .9rem; }
 td, th { border-bottom: 1px solid var(--line); padding: .25rem .9rem .25rem 0; text-align: left; vertical-align: top; }
@@ -109,6 +111,11 @@ def text(value):
 def tag(name, *inner, **given):
     shown = "".join(f' {key.rstrip("_")}="{html.escape(str(value))}"' for key, value in given.items() if value)
     return Raw(f"<{name}{shown}>{''.join(map(text, inner))}</{name}>")
+
+
+def whole(value):
+    """A text in which points and places do not break over two lines."""
+    return Raw(re.sub(r"\d+-\d+-\d+(/\d+)?", lambda found: f'<span class="nb">{found[0]}</span>', text(value)))
 
 
 def joined(parts, between=""):
@@ -262,7 +269,7 @@ def cover_words(cover):
 def row_words(row):
     if row is None:
         return Raw("")
-    words = [code(row.prefix or "any digits")] + ([f" subsystem {row.ssn}"] if row.ssn is not None else [])
+    words = [code(row.prefix) if row.prefix else "any digits"] + ([f" subsystem {row.ssn}"] if row.ssn is not None else [])
     words += [tag("span", f", row {row.place}" + (f", line {row.line}" if row.line else ""), class_="dim")]
     words += [tag("span", f" ({row.comment})", class_="dim")] if row.comment else []
     return joined(words)
@@ -353,10 +360,10 @@ def hops_table(route):
     for hop in route.hops:
         title = code(f"{hop.title.selector} {hop.title.ssn} {hop.title.digits or '-'}")
         if hop.step:
-            cells = [row_words(hop.step.row), hop.outcome()]
+            cells = [row_words(hop.step.row), whole(hop.outcome())]
         else:
             cells = [Raw(""), joined([code(lines.write_line(hop.record)), " (the plan has another step here)"])]
-        rows.append([hop.number] + ([hop.which or ""] if has_which else []) + [tag("b", hop.relay), title, marks_words(hop.held)] + cells)
+        rows.append([hop.number] + ([hop.which or ""] if has_which else []) + [tag("b", hop.relay), title, whole(marks_words(hop.held))] + cells)
     return table(head, rows, bad=[len(rows) - 1] if route.is_bad else [])
 
 
@@ -434,7 +441,7 @@ def leads_words(relay):
 def places_words(relay):
     places = dict.fromkeys(target.words() for row in relay.rows for target in row.targets if target.relay is None)
     shown = list(places)[:8]
-    return ", ".join(shown) + (f" and {len(places) - 8} more" if len(places) > 8 else "")
+    return whole(", ".join(shown) + (f" and {len(places) - 8} more" if len(places) > 8 else ""))
 
 
 def relays(report):
@@ -442,10 +449,13 @@ def relays(report):
         return Raw("")
     route = picture.first_route(picture.routes_in(report.verified))
     on_route = {hop.relay for hop in route.hops} if route and route.is_bad else set()
-    rows = [[tag("b", relay.name), relay.point, ", ".join(map(str, relay.subsystems)), ", ".join(relay.concerned), len(relay.rows), leads_words(relay), places_words(relay)]
-            for relay in report.plan.relays]
+    columns = [("relay", lambda relay: tag("b", relay.name)), ("point", lambda relay: whole(relay.point)),
+               ("subsystems", lambda relay: ", ".join(map(str, relay.subsystems))), ("concerned", lambda relay: whole(", ".join(relay.concerned))),
+               (("rows",), lambda relay: len(relay.rows)), ("hands titles to", leads_words), ("titles end at", places_words)]
+    columns = [column for column in columns if any(column[1](relay) != "" for relay in report.plan.relays)]
+    rows = [[shown(relay) for _, shown in columns] for relay in report.plan.relays]
     bad = [place for place, relay in enumerate(report.plan.relays) if relay.name in on_route]
-    inner = [table(["relay", "point", "subsystems", "concerned", ("rows",), "hands titles to", "titles end at"], rows, bad)]
+    inner = [table([head for head, _ in columns], rows, bad)]
     return section("Relays", *inner, *(rows_of(relay) for relay in report.plan.relays if relay.rows))
 
 
@@ -507,7 +517,7 @@ def end_words(kind, detail):
 def ends_table(counts):
     order = ["returned", "cut", "ended", "local"]
     ranked = sorted(counts.ends.items(), key=lambda item: (order.index(item[0][0]), -item[1], item[0]))
-    rows = [[kind, end_words(kind, detail), relay, marks_words(marks.split(",")) if marks and marks != "none" else "", f"{count:,}"]
+    rows = [[kind, whole(end_words(kind, detail)), relay, whole(marks_words(marks.split(","))) if marks else "", f"{count:,}"]
             for (kind, detail, marks, relay), count in ranked[:MOST_ENDS]]
     rest = ranked[MOST_ENDS:]
     if rest:
@@ -521,10 +531,16 @@ def totals_words(counts):
     for (kind, *_), count in counts.ends.items():
         ends[kind] = ends.get(kind, 0) + count
     said = [f"{ends[kind]:,} {words}" for kind, words in (("ended", "ended at a place"), ("local", "for a subsystem of a relay"), ("returned", "returned"), ("cut", "cut")) if kind in ends]
-    others = [f"{count:,} lines {form.replace('_', ' ')}" for form, count in sorted(counts.others.items())]
+    others = [counted(count, *OTHERS.get(form, (f"line of the form {form}", f"lines of the form {form}"))) for form, count in sorted(counts.others.items())]
     events = sum(counts.events.values())
-    said = f"{counted(counts.last, 'line')} of the trace, {counted(counts.messages, 'message')} routed: {', '.join(said) or 'none'}. {counted(events, 'event')}"
-    return said + (f"; {', '.join(others)}." if others else ".")
+    parts = counted(sum(counts.segments.values()), "segment") if counts.segments else ""
+    routed = f"{counted(counts.last, 'line')} of the trace. {counted(counts.messages, 'message')} routed: {', '.join(said) or 'none'}."
+    return routed + " " + ", ".join(filter(None, [counted(events, "event"), *others, parts and f"{parts} for subsystems of relays"])) + "."
+
+
+OTHERS = {"management": ("message for SCCP management", "messages for SCCP management"), "sends": ("message sent by a relay itself", "messages sent by relays themselves"),
+          "connection": ("connection-oriented message",), "undecodable": ("message that does not read", "messages that do not read"),
+          "unknown_node": ("line for a relay that the plan does not have", "lines for relays that the plan does not have")}
 
 
 def plans_table(counts):
@@ -566,7 +582,7 @@ def events_list(counts):
 
 
 def calls(report):
-    rows = [[code(" ".join(["./sccp", *call["words"]])), call["status"], f"{call['lines']:,}"] for call in report.program.calls]
+    rows = [[tag("code", " ".join(["./sccp", *call["words"]]), class_="long"), call["status"], f"{call['lines']:,}"] for call in report.program.calls]
     about = report.program.about()
     inner = [table(["call", ("status",), ("printed lines",)], rows)]
     inner += [tag("p", joined(about, Raw("<br>")), class_="dim code")] if about else []
