@@ -136,7 +136,7 @@ def first_route(found):
 
 
 def ordinal(place):
-    return ORDINALS[place]
+    return ORDINALS[place] if place < len(ORDINALS) else f"{place + 1}th"
 
 
 def mark_words(mark):

@@ -51,6 +51,7 @@ p { margin: .5rem 0; max-width: 46rem; }
 .verdict.warn { border-color: var(--warn); background: var(--warn-soft); }
 code, .code { font: .875em/1.5 ui-monospace, "DejaVu Sans Mono", Menlo, Consolas, monospace; overflow-wrap: anywhere; }
 td code, .nb { white-space: nowrap; }
+.hops td:last-child { min-width: 13rem; }
 td code.long { white-space: normal; }
 .scroll { overflow-x: auto; margin: .6rem 0; }
 table { border-collapse: collapse; font-size: .9rem; }
@@ -212,6 +213,8 @@ class Report:
         self.plan, self.unshown = self.read(words.plan)
         self.new = self.read(words.change)[0] if words.change else None
         self.verified = self.ask(["verify", words.plan])
+        if any(record["form"] == "bad_plan" for record in self.verified):
+            self.plan, self.unshown = None, "The program does not take the file for a plan."
         self.changed = self.ask(["change", words.plan, words.change]) if words.change else []
         self.counts = self.replay() if words.trace else None
 
@@ -355,16 +358,16 @@ def top(report):
 
 def hops_table(route):
     has_which = any(hop.which for hop in route.hops)
-    head = [("hop",)] + (["plan"] if has_which else []) + ["relay", "title", "held prohibited", "row that counts", "what happens"]
+    head = [("hop",)] + (["plan"] if has_which else []) + ["relay", "title", "held prohibited", "what happens", "row that counts"]
     rows = []
     for hop in route.hops:
         title = code(f"{hop.title.selector} {hop.title.ssn} {hop.title.digits or '-'}")
         if hop.step:
-            cells = [row_words(hop.step.row), whole(hop.outcome())]
+            cells = [whole(hop.outcome()), row_words(hop.step.row)]
         else:
-            cells = [Raw(""), joined([code(lines.write_line(hop.record)), " (the plan has another step here)"])]
+            cells = [joined([code(lines.write_line(hop.record)), " (the plan has another step here)"]), Raw("")]
         rows.append([hop.number] + ([hop.which or ""] if has_which else []) + [tag("b", hop.relay), title, whole(marks_words(hop.held))] + cells)
-    return table(head, rows, bad=[len(rows) - 1] if route.is_bad else [])
+    return tag("div", table(head, rows, bad=[len(rows) - 1] if route.is_bad else []), class_="hops")
 
 
 def route_parts(report, plans, route):
@@ -577,8 +580,8 @@ def events_list(counts):
     if not counts.shown_events:
         return Raw("")
     rows = [[f"{line:,}", code(said)] for line, said in counts.shown_events]
-    more = tag("p", f"{counted(counts.more_events, 'event')} more.", class_="dim") if counts.more_events else ""
-    return tag("details", tag("summary", f"{counted(len(rows), 'event')} with their lines"), table([("line",), "event"], rows), more)
+    said = f"The first {len(rows)} of {len(rows) + counts.more_events:,} events" if counts.more_events else counted(len(rows), "event")
+    return tag("details", tag("summary", f"{said}, with their lines"), table([("line",), "event"], rows))
 
 
 def calls(report):
