@@ -1,4 +1,4 @@
-"""Parts of an HTML page that stands for itself: its style, tags with their text escaped, tables, and pictures that dot draws.
+"""Parts of an HTML page that needs nothing beside it: its style, tags with their text escaped, tables, and pictures that dot draws.
 
 A text is escaped when it is put into a tag, unless it is `Raw`, which is HTML already. No part refers to anything outside of the page.
 """
@@ -16,9 +16,9 @@ STYLE = """
 * { box-sizing: border-box; }
 body { font: 16px/1.5 system-ui, -apple-system, "Segoe UI", Roboto, "DejaVu Sans", Arial, sans-serif; color: var(--text);
   background: var(--page); max-width: 66rem; margin: 0 auto; padding: 1rem; }
-h1 { font-size: 1.5rem; margin: .5rem 0; overflow-wrap: anywhere; }
-h2 { font-size: 1.2rem; margin: 2rem 0 .5rem; border-bottom: 1px solid var(--line); padding-bottom: .2rem; }
-h3 { font-size: 1rem; margin: 1.2rem 0 .3rem; }
+h1 { font-size: 1.5em; margin: .5rem 0; overflow-wrap: anywhere; }
+h2 { font-size: 1.2em; margin: 2rem 0 .5rem; border-bottom: 1px solid var(--line); padding-bottom: .2rem; }
+h3 { font-size: 1em; margin: 1.2rem 0 .3rem; }
 p { margin: .5rem 0; max-width: 46rem; }
 .verdict { padding: .6rem 1rem; border-left: .4rem solid var(--dim); background: var(--soft); max-width: none; }
 .verdict.bad { border-color: var(--bad); background: var(--bad-soft); }
@@ -29,7 +29,7 @@ td code, .nb { white-space: nowrap; }
 .hops td:last-child { min-width: 13rem; }
 td code.long { white-space: normal; }
 .scroll { overflow-x: auto; margin: .6rem 0; }
-table { border-collapse: collapse; font-size: .9rem; }
+table { border-collapse: collapse; font-size: .9em; }
 td, th { border-bottom: 1px solid var(--line); padding: .25rem .9rem .25rem 0; text-align: left; vertical-align: top; }
 th { color: var(--dim); font-weight: 600; }
 td.n, th.n { text-align: right; font-variant-numeric: tabular-nums; }
@@ -66,7 +66,7 @@ details { margin: .3rem 0; }
 .key .k-returned::before { background: var(--bad); }
 .key .k-event::before { width: 2px; background: var(--text); }
 .key .k-plan::before { width: 2px; background: var(--note); }
-@media (max-width: 45rem) { body { padding: .7rem; } .picture svg { max-width: none; } h2 { margin-top: 1.5rem; } }
+@media (max-width: 45rem) { body { padding: .7rem; } td, th { white-space: nowrap; } td:last-child { white-space: normal; min-width: 12rem; } .picture svg { max-width: none; } h2 { margin-top: 1.5rem; } }
 @media print { :root { color-scheme: light; } body { max-width: none; font-size: 11px; padding: 0; } .scroll { overflow: visible; }
   .picture svg, .picture.wide svg { max-width: 100%; max-height: 24cm; } .picture, tr, .verdict { break-inside: avoid; }
   h2, h3 { break-after: avoid; } .verdict, tr.bad td, .strip { print-color-adjust: exact; -webkit-print-color-adjust: exact; } }

@@ -5,7 +5,12 @@ raises `Unreadable` if the text is no plan that can be shown. That is also so fo
 tomllib does not read. Points, selectors and digits have the spelling in which the program prints them.
 """
 import re
-import tomllib
+import sys
+
+try:
+    import tomllib
+except ImportError:
+    sys.exit("plans are read by tomllib, which Python has from 3.11 on")
 
 ANY_SSN = "-"  # in a place: the subsystem number is that of the title
 MOST_DIGITS = 32

@@ -7,7 +7,7 @@ import collections
 
 import lines
 
-MOST_KINDS = 2000  # different ends that are told apart; further ones are counted together
+MOST_KINDS = 2000  # different ends that are kept apart; further ones are counted together
 MOST_KEPT = 200  # plan lines, and events with their text
 MOST_BINS = 200  # pieces of the strip of time
 

@@ -22,6 +22,9 @@ CASES = os.path.join(TOP, "crates", "worked_cases")
 DATA = os.path.join(CASES, "data")
 sys.dont_write_bytecode = True
 sys.path.insert(0, HERE)
+if sys.version_info < (3, 11):
+    print("picture.py and report.py are not tried: they need Python 3.11, for tomllib")
+    sys.exit(0)
 import lines  # noqa: E402
 import picture  # noqa: E402
 import plan_file  # noqa: E402
@@ -93,7 +96,7 @@ STORED = stored()
 
 
 class Answers:
-    """Stands for the program: gives the stored lines of a call."""
+    """In place of the program: gives the stored lines of a call."""
 
     def __init__(self, more=None):
         self.calls, self.more = [], more or {}
