@@ -357,6 +357,21 @@ class Pages(unittest.TestCase):
                      "row 1, line 14", "<code>49</code> subsystem 6"):
             self.assertIn(said, made)
 
+    def test_replay_and_calls(self):
+        """A page has the strip and the ends of a replay, and each call with its status and its number of lines."""
+        replayed = "plan 1 p.toml accepted bound 1\n2 pause a 2-0-1\n3 by 1 via a,b returned 5 marks point:2-0-1 no service\n4 by 1 via a ended 2-0-1/6 AA\nend 4"
+        program = self.stub(f"accepted bound 1\nEOF\n[ $1 = replay ] || exit 0\ncat <<'EOF'\n{replayed}", 3)
+        with open(program, encoding="utf-8") as file:
+            text = file.read().replace("cat <<'EOF'\naccepted", "[ $1 = replay ] || cat <<'EOF'\naccepted")
+        self.write("stub", text)
+        status, made, _ = self.call(report, self.plan, "--trace", self.plan, "--workers", "2", "--program", program, "--dot", "-")
+        self.assertEqual(status, 0)
+        for said in ('plan&gt; &amp; more.toml</code></td><td class="n">0</td><td class="n">1</td>', '2</code></td><td class="n">3</td><td class="n">5</td>',
+                     "4 lines of the trace. 2 messages routed: 1 ended at a place, 1 returned. 1 event.", "2 workers",
+                     "<td>returned</td><td>5 MTP failure</td><td>b</td><td><span class=\"nb\">2-0-1</span></td><td class=\"n\">1</td>",
+                     '<rect class="message" x="500.0" y="0.0"', '<rect class="returned" x="500.0" y="0.0"', '<line class="event" x1="375.0"'):
+            self.assertIn(said, made)
+
     def test_output_file_and_dot(self):
         program, output = self.stub("accepted bound 1"), os.path.join(self.folder.name, "page.html")
         dot = self.write("dot", "#!/bin/sh\ncat >/dev/null\necho '<?xml version=\"1.0\"?><!DOCTYPE svg><svg width=\"10pt\" xmlns=\"http://x\"><g id=\"g\"></g></svg>'\n")
