@@ -31,6 +31,7 @@ from report_replay import replay  # noqa: E402
 from report_words import bad_parts, cover_words, first_line, length_words, marks_words, row_words, verdict_line  # noqa: E402
 
 FOCUS = 20  # edges of a plan above which its route is drawn by itself as well
+MOST_DRAWN = 300  # edges of a plan above which it is not drawn as a whole
 
 
 # ---- the program
@@ -190,6 +191,8 @@ def whole_plan(report):
     routes = picture.routes_in(report.verified)
     if not count or count <= FOCUS and routes:
         return Raw("")
+    if count > MOST_DRAWN:
+        return section("The whole plan", tag("p", f"It has {counted(count, 'edge')} between relays and places, too many for a picture.", class_="dim")) if report.dot.path else Raw("")
     route = picture.first_route(routes) if count <= picture.MOST_EDGES else None
     drawn = report.dot.svg(picture.draw({None: plan}, route, words=False), "All relays of the plan")
     return section("The whole plan", tag("p", "An edge is for all rows of a relay that lead there. It is dashed if only backups do.", class_="dim"), drawn) if drawn else Raw("")

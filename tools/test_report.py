@@ -381,6 +381,13 @@ class Pages(unittest.TestCase):
             self.assertIn('<svg role="img" aria-label="All relays of the plan" width="10pt"><g></g></svg>', file.read())
         self.assertEqual(self.call(report, self.plan, "--program", program, "--dot", "/absent/dot")[0], 0)
 
+    def test_large_plan(self):
+        """A plan of more than 300 edges is not drawn as a whole."""
+        rows = "".join(f'[[node.row]]\nselector = "4:0:1:4"\nprefix = "{n}"\ntargets = [{{ final = "3-{n % 256}-{n // 256}" }}]\n' for n in range(500, 800))
+        plan = self.write("large.toml", PLAN.replace('[[node]]\nname = "b"', rows + '[[node]]\nname = "b"'))
+        made = self.call(report, plan, "--program", self.stub("accepted bound 1"), "--dot", "/absent/dot")[1]
+        self.assertIn("It has 305 edges between relays and places, too many for a picture.", made)
+
     def test_statuses(self):
         program, absent = self.stub("accepted bound 1"), os.path.join(self.folder.name, "absent")
         self.assertEqual(self.call(report)[0], 64)
