@@ -53,7 +53,7 @@ static int looking_up;
 
 /* The count is in a file, since the program may end without the exit handlers. */
 __attribute__((constructor)) static void begin(void) {
-    int file = open(getenv("COUNT_TO"), O_RDWR | O_CREAT, 0600);
+    int file = open(getenv("COUNT_TO"), O_RDWR | O_CREAT | O_TRUNC, 0600);
     if (file < 0 || ftruncate(file, sizeof *count)) abort();
     count = mmap(NULL, sizeof *count, PROT_READ | PROT_WRITE, MAP_SHARED, file, 0);
     if (count == MAP_FAILED) abort();
