@@ -50,18 +50,9 @@ static long failing = -1, *count;
 static char first[65536];
 static size_t used;
 static int looking_up;
+static void *(*real_malloc)(size_t), *(*real_calloc)(size_t, size_t), *(*real_realloc)(void *, size_t);
 
-/* The count is in a file, since the program may end without the exit handlers. */
-__attribute__((constructor)) static void begin(void) {
-    int file = open(getenv("COUNT_TO"), O_RDWR | O_CREAT | O_TRUNC, 0600);
-    if (file < 0 || ftruncate(file, sizeof *count)) abort();
-    count = mmap(NULL, sizeof *count, PROT_READ | PROT_WRITE, MAP_SHARED, file, 0);
-    if (count == MAP_FAILED) abort();
-    close(file);
-    failing = atol(getenv("FAIL_AT"));
-}
-
-/* Each of several threads gets another number. */
+/* Each call has a number of its own, also in several threads. */
 static int fails(void) {
     return failing >= 0 && __atomic_add_fetch(count, 1, __ATOMIC_RELAXED) == failing;
 }
@@ -84,24 +75,39 @@ static void *early(size_t size) {
     return used <= sizeof first ? at : NULL;
 }
 
+static void look_up(void) {
+    real_malloc = (void *(*)(size_t))next("malloc");
+    real_calloc = (void *(*)(size_t, size_t))next("calloc");
+    real_realloc = (void *(*)(void *, size_t))next("realloc");
+}
+
+/* The real calls are looked up before there are threads. The count is in a file, since the program may end without the exit
+   handlers. */
+__attribute__((constructor)) static void begin(void) {
+    look_up();
+    int file = open(getenv("COUNT_TO"), O_RDWR | O_CREAT | O_TRUNC, 0600);
+    if (file < 0 || ftruncate(file, sizeof *count)) abort();
+    count = mmap(NULL, sizeof *count, PROT_READ | PROT_WRITE, MAP_SHARED, file, 0);
+    if (count == MAP_FAILED) abort();
+    close(file);
+    failing = atol(getenv("FAIL_AT"));
+}
+
 void *malloc(size_t size) {
-    static void *(*real)(size_t);
     if (looking_up) return early(size);
-    if (!real) real = (void *(*)(size_t))next("malloc");
-    return fails() ? lacking() : real(size);
+    if (!real_malloc) look_up();
+    return fails() ? lacking() : real_malloc(size);
 }
 
 void *calloc(size_t number, size_t size) {
-    static void *(*real)(size_t, size_t);
     if (looking_up) return early(number * size);
-    if (!real) real = (void *(*)(size_t, size_t))next("calloc");
-    return fails() ? lacking() : real(number, size);
+    if (!real_calloc) look_up();
+    return fails() ? lacking() : real_calloc(number, size);
 }
 
 void *realloc(void *old, size_t size) {
-    static void *(*real)(void *, size_t);
-    if (!real) real = (void *(*)(void *, size_t))next("realloc");
-    return fails() ? lacking() : real(old, size);
+    if (!real_realloc) look_up();
+    return fails() ? lacking() : real_realloc(old, size);
 }
 """
 
@@ -147,7 +153,7 @@ def call(shim, words, folder, failing):
 
 
 def of_program(now, sound):
-    """What an answer of the program is, given the one of a run with all its memory."""
+    """The kind of an answer of the program, given the one of a run with all its memory."""
     if (now.status, now.text) == (sound.status, sound.text):
         return "sound"
     return "no memory" if now.status == NO_MEMORY and sound.text.startswith(now.text) else "strange"
@@ -165,7 +171,7 @@ def error_of(now):
 
 
 def of_test(wants):
-    """The same for an answer of a test, for which texts of this form are want of memory."""
+    """Gives the kind of an answer of a test. Errors of this form are want of memory."""
 
     def kind(now, _):
         error = error_of(now)
@@ -175,7 +181,7 @@ def of_test(wants):
 
 
 def sweep(name, run, kind_of, runs):
-    """Makes a run in which nothing fails and one for each call, and counts what they answered. Prints each one that isn't allowed."""
+    """Makes a run in which nothing fails and one for each call, and counts what they answered. Prints each one that is not allowed."""
     sound, failing, reached, errors = run(0), 0, True, collections.Counter()
     # Threads may make some calls more or fewer each time.
     while failing < sound.made or reached:
@@ -212,7 +218,7 @@ def calls_of(room, words):
 
 def sweep_program(room, words, runs):
     if not os.access(PROGRAM, os.X_OK):
-        fail("the program isn't built: run ./sccp --prove")
+        fail("the program is not built: run ./sccp --prove")
     shim = shim_in(room)
     for folder, given in calls_of(room, words):
         sweep(" ".join(given), lambda failing: call(shim, [PROGRAM, *given], folder, failing), of_program, runs)

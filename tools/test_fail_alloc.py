@@ -164,6 +164,12 @@ class Runs(unittest.TestCase):
         self.assertEqual(status, 1)
         self.assertIn("wrong: allocation 2 of 2: status 64, text b'one\\n', errors b''\n", shown)
 
+    def test_the_five_calls(self):
+        status, shown = self.run_with()
+        self.assertEqual((status, shown.splitlines()[-1]), (0, "10 runs: 10 answered want of memory, 0 the sound answer, 0 anything else"))
+        with mock.patch.object(fail_alloc, "PROGRAM", "no_such"), contextlib.redirect_stderr(io.StringIO()), mock.patch("sys.argv", ["fail_alloc"]):
+            self.assertRaisesRegex(SystemExit, "2", fail_alloc.main)
+
     def test_a_program_that_does_not_load_the_library(self):
         with mock.patch.object(fail_alloc, "SHIM", "int nothing;"):
             status, shown = self.run_with("--", "x")
