@@ -132,14 +132,8 @@ def built(room):
     sys.path.insert(0, os.path.join(TOP, "tools"))
     import build_program
 
-    build_program.ROOM = f"{room}/build"
-    copy = f"{build_program.ROOM}/checkout"
-    os.makedirs(f"{copy}/.git")
-    shutil.copytree(f"{TOP}/crates", f"{copy}/crates", ignore=shutil.ignore_patterns("out", "must-fail", "data"))
-    for name in ("HANDLES", "crates.txt"):
-        shutil.copy(f"{TOP}/{name}", copy)
     try:
-        program = build_program.without_proofs(build_program.kit(), copy, "worked_cases")
+        program = build_program.built_in(room, "worked_cases")
     except build_program.Failed as failed:
         sys.exit(f"{failed}")
     return program or fail("the program of the cases could not be built without proofs by this kit: give one by --program")
