@@ -356,7 +356,7 @@ fn a_plan_is_replaced(rt: HostRuntime) -> Result<(), Fail> {
     let number = teller.number();
     teller.end(&rt);
     drop(workers);
-    assert_eq!(rt; number, 3);
     assert!(rt; served?);
+    assert_eq!(rt; number, 3);
     Ok(())
 }
