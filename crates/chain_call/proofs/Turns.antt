@@ -22,7 +22,8 @@ gives_up (suc n) c l some e spent =
     ∙ ap (λ (b : Bool). cond b None (settled_in n (delivered l.0 l.1 c))) spent
 
 -- a link delivers: the turns that are left go on from there
-pub goes_on : (n m : ℕ) (c after : Course) (l : ℕ × ℕ) → n ≡ suc m → next_of c ≡ Some l → is_spent c ≡ false → after ≡ delivered l.0 l.1 c → settled_in m after ≡ settled_in n c
+pub goes_on : (n m : ℕ) (c after : Course) (l : ℕ × ℕ) → n ≡ suc m → next_of c ≡ Some l → is_spent c ≡ false → after ≡ delivered l.0 l.1 c
+    → settled_in m after ≡ settled_in n c
 goes_on zero m c after l e held left is = absurd (omega (arith, e))
 goes_on (suc n) m c after l e held left is =
     let same : m ≡ n = omega (arith, e) in

@@ -1,5 +1,6 @@
 -- One connection over the relays of a plan, from its request to its release (ITU-T Q.714 section 3).
-use Rattle.std.specs.Prelude.{ℕ, zero, suc, ◌+◌, ◌*◌, nat_le, Bool, true, false, if◌then◌else◌, List, [], ◌∷◌, ◌++◌, filter_map, slice_get, Option, Some, None, option_map, option_and_then}
+use Rattle.std.specs.Prelude.{ℕ, zero, suc, ◌+◌, ◌*◌, nat_le, Bool, true, false, if◌then◌else◌, List, [], ◌∷◌, ◌++◌, filter_map, slice_get}
+use Rattle.std.specs.Prelude.{Option, Some, None, option_map, option_and_then}
 use Rattle.std.specs.List.{position}
 use Rattle.sccp_address.specs.declared.address.Address.{Address}
 use Rattle.sccp_address.specs.declared.address.Title.TheVariants.{Global}
@@ -41,7 +42,11 @@ offer_by None from to message = Offers from to (as_read message) ∷ []
 -- a message is offered on the link from one point to another; a refused offer counts too
 unfoldable pub offered : ℕ → ℕ → Message → Course → Course
 offered from to message c =
-    record c { history = c.history ++ offer_by (fault_of (network_of c.plan) (world_at c) from to message) from to message; offers = c.offers + 1 }
+    record c {
+      history = c.history ++ offer_by (fault_of (network_of c.plan)
+          (world_at c) from to message) from to message;
+      offers = c.offers + 1;
+    }
 
 -- an end that is handed an RLSD answers it with an RLC, back to the relay that handed it; it answers nothing otherwise
 abbrev pub answered : ℕ → ℕ → Option (ℕ × ℕ) → Course → Course
@@ -50,7 +55,8 @@ answered from to (Some pair) c = offered to from (messages.Rlc pair.1 pair.0) c
 
 -- an end is handed a message, keeps a note of it, and answers it if it is a release
 unfoldable pub handed_out : ℕ → ℕ → Note → Course → Course
-handed_out from to note c = answered from to (release_of note) (record c { handed = c.handed ++ record { from = from; to = to; note = note } ∷ [] })
+handed_out from to note c = answered from to (release_of note)
+    (record c { handed = c.handed ++ record { from = from; to = to; note = note } ∷ [] })
 
 -- if a delivery leads to an end, this end is handed the message
 abbrev pub come_out : ℕ → ℕ → Delivered → Course → Course
@@ -61,7 +67,8 @@ come_out from to (Out message) c = handed_out from to (note_of message) c
 -- the link from one point to another delivers its oldest message
 unfoldable pub delivered : ℕ → ℕ → Course → Course
 delivered from to c =
-    come_out from to (delivery (network_of c.plan) (world_at c) from to) (record c { history = c.history ++ Delivers from to ∷ []; deliveries = c.deliveries + 1 })
+    come_out from to (delivery (network_of c.plan) (world_at c) from to)
+    (record c { history = c.history ++ Delivers from to ∷ []; deliveries = c.deliveries + 1 })
 
 -- ---- until no link holds a message
 
@@ -116,7 +123,8 @@ has_more (octet ∷ rest) = true
 -- destination reference.
 abbrev pub sent_by : ℕ → ℕ → ℕ → List ℕ → Course → Course
 sent_by from to reference [] c = c
-sent_by from to reference (octet ∷ rest) c = sent_by from to reference rest (offered from to (messages.Dt1 reference (has_more rest) (octet ∷ [])) c)
+sent_by from to reference (octet ∷ rest) c = sent_by from to reference rest
+    (offered from to (messages.Dt1 reference (has_more rest) (octet ∷ [])) c)
 
 -- the octets go forth, to the relay that the request was sent to and with the reference that it gave
 unfoldable pub sent_forth : Call → ℕ → Course → Course
@@ -135,13 +143,19 @@ released call own c = offered call.from call.entry (messages.Rlsd own 1 0 []) c
 -- What went over the connection: the data that the far end was handed with its reference 2, and those that the other end was
 -- handed with its reference 1. Last, the sections that are left.
 unfoldable pub through : Call → ℕ → Course → Through
-through call far c = record { forth = data_at far 2 c.handed; back = data_at call.from 1 c.handed; sections = sections_of (network_of c.plan) (world_at c) }
+through call far c = record {
+  forth = data_at far 2 c.handed;
+  back = data_at call.from 1 c.handed;
+  sections = sections_of
+      (network_of c.plan) (world_at c);
+}
 
 -- Octets go forth and back and the connection is released. After each of these three steps the links deliver until they are
 -- empty. There is no result if a link still holds a message and no delivery is left.
 unfoldable pub carried : Call → ℕ → ℕ → Requested → Course → Option Through
 carried call far own request c =
-    option_and_then (λ forth. option_and_then (λ back. option_map (through call far) (settled (released call own back))) (settled (sent_back request far forth)))
+    option_and_then (λ forth. option_and_then (λ back. option_map (through call far) (settled (released call own back)))
+    (settled (sent_back request far forth)))
     (settled (sent_forth call own c))
 
 -- The end that requested the connection knows its relay's reference by the confirmation that it was handed. The far end knows

@@ -81,7 +81,8 @@ impl Course {
         point: PointCode,
         reference: Reference,
     ) -> Result<Option<Line>, OutOfMemory>
-        ensures { IfOk result (λ l. option_map (told_line self.now.plan) l ≡ line (network_of self.now.plan) (world_at self.now) point reference) }
+        ensures { IfOk result (λ l. option_map (told_line self.now.plan) l
+            ≡ line (network_of self.now.plan) (world_at self.now) point reference) }
     {
         self.world.line(point, reference)
     }
@@ -240,7 +241,9 @@ fn put(
     to: PointCode,
     message: &Message,
 ) -> Result<(), OutOfMemory>
-    ensures { OnOk result (world.new ≡ kept world.old.plan (world.old.history ++ offer_by (fault_of (network_of world.old.plan) (world_of world.old) from to message.now) from to message.now)) }
+    ensures { OnOk result (world.new ≡ kept world.old.plan
+        (world.old.history ++ offer_by (fault_of (network_of world.old.plan)
+        (world_of world.old) from to message.now) from to message.now)) }
 {
     match world.offer(from, to, message) {
         Ok(()) => Ok(()),

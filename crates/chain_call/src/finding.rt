@@ -1,6 +1,7 @@
 //! What is looked up among the messages that ends were handed.
 ghost use Rattle.std.specs.Prelude.{◌≡◌, ◌++◌, IfOk, OnOk};
-ghost use Rattle.chain_call.specs.Notes.{request_in, first_request, confirm_of, confirm_at, first_confirm, refusal_of, refusal_at, first_refusal, data_of, data_in, data_at};
+ghost use Rattle.chain_call.specs.Notes.{request_in, first_request, confirm_of, confirm_at, first_confirm, refusal_of, refusal_at};
+ghost use Rattle.chain_call.specs.Notes.{first_refusal, data_of, data_in, data_at};
 
 use crate::handed::Handed;
 use crate::note::Note;

@@ -4,7 +4,8 @@ ghost use Rattle.sccp_scrc.specs.Arriving.{point_of};
 ghost use Rattle.chain_world.specs.Kept.{kept};
 ghost use Rattle.chain_world.specs.Staged.{told_line};
 ghost use Rattle.chain_call.specs.Course.{beginning};
-ghost use Rattle.chain_call.specs.Steps.{called_of, counter, requested, confirmed, sent_by, sent_forth, sent_back, released, through, carried, carried_on, name_at, refused_or, on_line, with_line, answer_to, outcome};
+ghost use Rattle.chain_call.specs.Steps.{called_of, counter, requested, confirmed, sent_by, sent_forth, sent_back, released, through};
+ghost use Rattle.chain_call.specs.Steps.{carried, carried_on, name_at, refused_or, on_line, with_line, answer_to, outcome};
 
 use crate::call::Call;
 use crate::course::Course;

@@ -24,7 +24,11 @@ precedes_not p a b h =
     (λ (more : nat_lt p.0 a ≡ false).
     let le = ltb-false p.0 a more in
     ⊎_elim
-    (λ (e : p.0 ≡ a). inr (sym e, second e (sym (ap (λ (c : Bool). c || ((p.0 == a) && nat_le p.1 b)) more ∙ ap (λ (c : Bool). c && nat_le p.1 b) (eq-eqb p.0 a e)) ∙ h)))
+    (λ (e : p.0 ≡ a). inr (
+      sym e,
+      second e (sym (ap (λ (c : Bool). c || ((p.0 == a) && nat_le p.1 b)) more
+          ∙ ap (λ (c : Bool). c && nat_le p.1 b) (eq-eqb p.0 a e)) ∙ h),
+    ))
     (λ (n : p.0 ≡ a → ⊥). inl (omega (arith, le, n)))
     (cases_eq p.0 a))
     (cases_Bool (nat_lt p.0 a))

@@ -1,5 +1,6 @@
 -- The nodes of a plan by their points.
-use Rattle.std.specs.Prelude.{ℕ, ◌≡◌, ◌+◌, ◌<◌, ◌==◌, nat_lt, Bool, true, false, not, cond, ◌||◌, List, [], ◌∷◌, length, map, position, Some, None, is_some, refl}
+use Rattle.std.specs.Prelude.{ℕ, ◌≡◌, ◌+◌, ◌<◌, ◌==◌, nat_lt, Bool, true, false, not, cond, ◌||◌, List, [], ◌∷◌, length, map, position}
+use Rattle.std.specs.Prelude.{Some, None, is_some, refl}
 use Rattle.std.specs.List.{list_any, prefix_len, position_or_len}
 use Rattle.std.specs.Option.{option_map_or}
 use Rattle.std.proofs.Common.{suc, sym, ◌∙◌, ap, ⊎_elim, arith, get_or}
@@ -47,7 +48,8 @@ pub record At (plan : Network) (pc place : ℕ) : Type 0 where
 
 place_is : {A : Type 0} (p : A → Bool) (xs : List A) (i : ℕ) → position p xs ≡ Some i → position_or_len p xs ≡ i
 place_is p xs i h =
-    elim (nat_lt (position_or_len p xs) (length xs)) as (λ b. cond b (Some (position_or_len p xs)) None ≡ Some i → position_or_len p xs ≡ i) [
+    elim (nat_lt (position_or_len p xs) (length xs)) as (λ b. cond b (Some (position_or_len p xs)) None ≡ Some i
+    → position_or_len p xs ≡ i) [
       | true ↦ λ k. cc
       | false ↦ λ k. absurd (let z : None ≡ Some i = k in cc)
     ] h
@@ -70,7 +72,8 @@ at_place plan pc place h =
     let lt = within_by plan.nodes pc place h in
     record {
       within = lt;
-      point_is = with_node plan.nodes place lt (point_of plan place ≡ pc) (λ d. point_by plan place d lt ∙ eqb-true (get_or plan.nodes place d).pc pc (position-Some (has_point pc) plan.nodes place d h).1);
+      point_is = with_node plan.nodes place lt (point_of plan place ≡ pc) (λ d. point_by plan place d lt
+          ∙ eqb-true (get_or plan.nodes place d).pc pc (position-Some (has_point pc) plan.nodes place d h).1);
       found = place_is (has_point pc) plan.nodes place h;
     }
 
@@ -83,7 +86,8 @@ pub node_not_there : (plan : Network) (pc : ℕ) → position (has_point pc) pla
 node_not_there plan pc h = sym (node_by_place plan pc) ∙ ap is_some h
 
 -- no two nodes have the same point
-pub points_differ : (plan : Network) → IsPlan plan → (i j : ℕ) → i < length plan.nodes → j < length plan.nodes → (i ≡ j → ⊥) → point_of plan i ≡ point_of plan j → ⊥
+pub points_differ : (plan : Network) → IsPlan plan → (i j : ℕ) → i < length plan.nodes → j < length plan.nodes → (i ≡ j → ⊥)
+    → point_of plan i ≡ point_of plan j → ⊥
 points_differ plan is i j li lj differ same =
     with_node plan.nodes i li ⊥
     (λ d.

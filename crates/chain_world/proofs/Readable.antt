@@ -1,5 +1,6 @@
 -- An offered message is the one that its octets read as.
-use Rattle.std.specs.Prelude.{ℕ, ◌≡◌, ◌⊎◌, Bool, false, not, ◌&&◌, if◌then◌else◌, List, [], Option, Some, None, is_some, is_none, unwrap_or, option_and_then, Result, Ok, Err, refl}
+use Rattle.std.specs.Prelude.{ℕ, ◌≡◌, ◌⊎◌, Bool, false, not, ◌&&◌, if◌then◌else◌, List, [], Option, Some, None, is_some, is_none, unwrap_or}
+use Rattle.std.specs.Prelude.{option_and_then, Result, Ok, Err, refl}
 use Rattle.std.specs.List.{range_with_len}
 use Rattle.std.specs.Option.{option_map_or, ok_or}
 use Rattle.std.proofs.Common.{sym, ◌∙◌, ap, ⊎_elim, inl, inr}
@@ -40,11 +41,17 @@ sound_by m n h e =
     let t = typed m in
     let p : Parts = parts_from m in
     let r : Row = t.type in
-    let parts : parts_of (message_octets m) ≡ Ok p = ap parts_of (octets_at m) ∙ parts_of-joined r.layout p (rw t.of_type refl) (fits_of m t) h.named in
-    let whole : message_if (Some r) p ≡ Ok n = sym (ap (λ o. message_if o p) t.of_type) ∙ (sym (ap (λ (x : Result Parts SplitFault). as_split x >>= message_in) parts) ∙ e) in
-    let a = bind_ok (all_ok (address_in p.variable) (range_with_len 0 r.addresses)) (λ addresses. fields_in r.known p.params >>= λ params. ok_or (message_of p.code p.fixed addresses (part_of p.variable r.addresses) params) (faults.Split split.UnknownType)) n whole in
-    let f = bind_ok (fields_in r.known p.params) (λ params. ok_or (message_of p.code p.fixed a.0 (part_of p.variable r.addresses) params) (faults.Split split.UnknownType)) n a.2 in
-    ap (λ (o : Option Row). first_unread (option_map_or (λ x. x.known) o []) (content m).params) t.of_type ∙ none_unread (first_unread r.known p.params) p.params f.0 f.1
+    let parts : parts_of (message_octets m) ≡ Ok p = ap parts_of (octets_at m)
+    ∙ parts_of-joined r.layout p (rw t.of_type refl) (fits_of m t) h.named in
+    let whole : message_if (Some r) p ≡ Ok n = sym (ap (λ o. message_if o p) t.of_type)
+    ∙ (sym (ap (λ (x : Result Parts SplitFault). as_split x >>= message_in) parts) ∙ e) in
+    let a = bind_ok (all_ok (address_in p.variable) (range_with_len 0 r.addresses))
+    (λ addresses. fields_in r.known p.params >>= λ params. ok_or
+    (message_of p.code p.fixed addresses (part_of p.variable r.addresses) params) (faults.Split split.UnknownType)) n whole in
+    let f = bind_ok (fields_in r.known p.params) (λ params. ok_or (message_of p.code p.fixed a.0 (part_of p.variable r.addresses) params)
+    (faults.Split split.UnknownType)) n a.2 in
+    ap (λ (o : Option Row). first_unread (option_map_or (λ x. x.known) o []) (content m).params) t.of_type
+    ∙ none_unread (first_unread r.known p.params) p.params f.0 f.1
 
 fault_cases : (o : Option JoinFault) → (o ≡ None) ⊎ ((f : JoinFault) × (o ≡ Some f))
 fault_cases None = inl refl
@@ -67,7 +74,8 @@ read_written : (m : Message) → write_fault m ≡ None → read_again m ≡ if_
 read_written m none = ap (option_and_then (λ octets. if_read (reading octets))) (octets_written m none)
 
 read_unwritten : (m : Message) (f : JoinFault) → write_fault m ≡ Some f → read_again m ≡ None
-read_unwritten m f some = ap (λ (o : Option JoinFault). option_and_then (λ octets. if_read (reading octets)) (if is_none o then Some (message_octets m) else None)) some
+read_unwritten m f some = ap (λ (o : Option JoinFault). option_and_then (λ octets. if_read (reading octets))
+    (if is_none o then Some (message_octets m) else None)) some
 
 itself : (m n : Message) → IsMessage m → read_again m ≡ Some n → n ≡ m
 itself m n h e =
@@ -86,7 +94,8 @@ not_writable m h e =
     ⊎_elim
     (λ (sound : chains.unread m ≡ None).
     absurd (let z : Some m ≡ None = sym (ap if_read (reads_again m h sound)) ∙ sym (read_written m none) ∙ e in cc))
-    (λ (some : (k : ℕ) × (chains.unread m ≡ Some k)). ap (λ (o : Option JoinFault). is_none o && is_none (chains.unread m)) none ∙ ap (λ (o : Option ℕ). is_none o) some.1)
+    (λ (some : (k : ℕ) × (chains.unread m ≡ Some k)). ap (λ (o : Option JoinFault). is_none o && is_none (chains.unread m)) none
+    ∙ ap (λ (o : Option ℕ). is_none o) some.1)
     (number_cases (chains.unread m)))
     (λ (some : (f : JoinFault) × (write_fault m ≡ Some f)). ap (λ (o : Option JoinFault). is_none o && is_none (chains.unread m)) some.1)
     (fault_cases (write_fault m))
@@ -100,11 +109,14 @@ same_message m h =
     (read_cases (read_again m))
 
 -- its fault is the first test that it fails itself
-pub same_fault : (network : Network) (w : World) (from to : ℕ) (m : Message) → IsMessage m → fault_of network w from to m ≡ offer_fault network w from to m
+pub same_fault : (network : Network) (w : World) (from to : ℕ) (m : Message) → IsMessage m
+    → fault_of network w from to m ≡ offer_fault network w from to m
 same_fault network w from to m h =
     ⊎_elim
     (λ (none : read_again m ≡ None).
     ap (fault_of_read network w from to m) none
-    ∙ ap (λ (b : Bool). fault_by (is_node network from) (not (is_node network to)) (is_some (called_of m)) (uses_again network w from (name_of m)) (not b)) (sym (not_writable m h none)))
-    (λ (some : (n : Message) × (read_again m ≡ Some n)). ap (fault_of_read network w from to m) some.1 ∙ ap (offer_fault network w from to) (itself m some.0 h some.1))
+    ∙ ap (λ (b : Bool). fault_by (is_node network from) (not (is_node network to)) (is_some (called_of m))
+    (uses_again network w from (name_of m)) (not b)) (sym (not_writable m h none)))
+    (λ (some : (n : Message) × (read_again m ≡ Some n)). ap (fault_of_read network w from to m) some.1
+    ∙ ap (offer_fault network w from to) (itself m some.0 h some.1))
     (read_cases (read_again m))

@@ -1,5 +1,6 @@
 -- What an end offers: the message that its octets read as.
-use Rattle.std.specs.Prelude.{ℕ, ◌==◌, Bool, true, false, not, ◌&&◌, Option, Some, None, is_some, option_and_then, unwrap_or, Result, Ok, Err}
+use Rattle.std.specs.Prelude.{ℕ, ◌==◌, Bool, true, false, not, ◌&&◌, Option, Some, None, is_some, option_and_then, unwrap_or, Result, Ok}
+use Rattle.std.specs.Prelude.{Err}
 use Rattle.sccp_message.specs.declared.message.Message.{Message}
 use Rattle.sccp_message.specs.declared.fault.DecodeFault.{DecodeFault}
 use Rattle.sccp_message.specs.Reading.{reading}
@@ -30,7 +31,8 @@ as_read message = unwrap_or (read_again message) message
 abbrev pub fault_of_read : Network → World → ℕ → ℕ → Message → Option Message → Option OfferFault
 fault_of_read network w from to message (Some read) = offer_fault network w from to read
 fault_of_read network w from to message None =
-    fault_by (is_node network from) (not (is_node network to)) (is_some (called_of message)) (uses_again network w from (name_of message)) true
+    fault_by (is_node network from) (not (is_node network to)) (is_some (called_of message))
+    (uses_again network w from (name_of message)) true
 
 -- the fault for which an offer of this message is refused, or nothing if it is accepted
 abbrev pub fault_of : Network → World → ℕ → ℕ → Message → Option OfferFault
@@ -39,7 +41,8 @@ fault_of network w from to message = fault_of_read network w from to message (re
 -- the first test that an offer fails, of all tests but the last, which is whether the message can be written
 abbrev pub early_fault : Network → World → ℕ → ℕ → Message → Option OfferFault
 early_fault network w from to message =
-    fault_by (is_node network from) (not (is_node network to)) (is_some (called_of message)) (uses_again network w from (name_of message)) false
+    fault_by (is_node network from) (not (is_node network to)) (is_some (called_of message))
+    (uses_again network w from (name_of message)) false
 
 -- what an offer answers, by the test that it fails
 abbrev pub answer_by : Option OfferFault → Result (Unit {0}) OfferFault

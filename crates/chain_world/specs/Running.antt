@@ -1,5 +1,6 @@
 -- What the fields of a running world keep: they are those of the world after its history.
-use Rattle.std.specs.Prelude.{◌≡◌, ℕ, ◌<◌, nat_lt, nat_le, ◌==◌, ◌&&◌, ◌||◌, if◌then◌else◌, Bool, false, List, [], ◌∷◌, map, length, sum, get_or, slice_get, Option, Some, None, is_some}
+use Rattle.std.specs.Prelude.{◌≡◌, ℕ, ◌<◌, nat_lt, nat_le, ◌==◌, ◌&&◌, ◌||◌, if◌then◌else◌, Bool, false, List, [], ◌∷◌, map, length, sum}
+use Rattle.std.specs.Prelude.{get_or, slice_get, Option, Some, None, is_some}
 use Rattle.std.specs.List.{list_any, AllByRecursion}
 use Rattle.sccp_message.specs.declared.message.Message.{Message}
 use Rattle.sccp_message.specs.Written.{message_octets}
@@ -63,7 +64,8 @@ pub record Keeps (plan : plans.Network) (relays : List Relaying) (links : List L
   -- every message can be handled
   pub fit : (a b : ℕ) → AllByRecursion IsFit (put_on w a b)
   -- the references that an end used are those of its offers
-  pub used : (from own : ℕ) → is_node (network_of plan) from ≡ false → is_used (network_of plan) w from own ≡ list_any (offers_of from own) history
+  pub used : (from own : ℕ) → is_node (network_of plan) from ≡ false
+      → is_used (network_of plan) w from own ≡ list_any (offers_of from own) history
 
 -- they keep what the history leads to
 abbrev pub IsWorld : plans.Network → List Relaying → List Link → List Happening → Type 0

@@ -1,5 +1,6 @@
 -- A line as running relays find it: by their sections, their records of data, and the octets on their links.
-use Rattle.std.specs.Prelude.{ℕ, zero, suc, ◌+◌, Bool, ◌&&◌, if◌then◌else◌, List, [], ◌∷◌, find, filter_map, map, position, slice_get, take, Option, Some, None, is_some, option_map, option_and_then}
+use Rattle.std.specs.Prelude.{ℕ, zero, suc, ◌+◌, Bool, ◌&&◌, if◌then◌else◌, List, [], ◌∷◌, find, filter_map, map, position, slice_get, take}
+use Rattle.std.specs.Prelude.{Option, Some, None, is_some, option_map, option_and_then}
 use Rattle.std.specs.Option.{option_map_or}
 use Rattle.sccp_message.specs.Reading.{reading}
 use Rattle.plan_model.specs.Network as plans
@@ -56,7 +57,8 @@ joined_to stage next = if is_that stage.far.remote next.near.own then Some next 
 -- The pair after one, at the relay at this place. Its near section has the point of the relay before, and as its remote the
 -- own reference of that relay's far section.
 abbrev pub next_in : plans.Network → List Relaying → Stage → ℕ → Option Stage
-next_in plan relays stage node = option_and_then (joined_to stage) (stage_of (sections_at relays node) node (point_of plan stage.node) stage.far.own)
+next_in plan relays stage node = option_and_then (joined_to stage)
+    (stage_of (sections_at relays node) node (point_of plan stage.node) stage.far.own)
 
 -- both sections have a remote
 abbrev pub is_open : Stage → Bool
@@ -66,14 +68,16 @@ is_open stage = is_some stage.near.remote && is_some stage.far.remote
 -- the next pair follow.
 abbrev pub stages_onward : (Stage → Option (List Stage)) → plans.Network → List Relaying → Stage → Option ℕ → Option (List Stage)
 stages_onward rest plan relays stage None = Some (stage ∷ [])
-stages_onward rest plan relays stage (Some node) = option_map (λ stages. stage ∷ stages) (option_and_then rest (next_in plan relays stage node))
+stages_onward rest plan relays stage (Some node) = option_map (λ stages. stage ∷ stages)
+    (option_and_then rest (next_in plan relays stage node))
 
 -- The pairs that follow from one, at most `most` of them. There are none if one of them is not open, if one has no next pair,
 -- or if there are more.
 abbrev pub stages_from : plans.Network → List Relaying → ℕ → Stage → Option (List Stage)
 stages_from plan relays zero stage = None
 stages_from plan relays (suc most) stage =
-    if is_open stage then stages_onward (λ next. stages_from plan relays most next) plan relays stage (position (has_point stage.far.point) plan.nodes) else None
+    if is_open stage then stages_onward (λ next. stages_from plan relays most next) plan relays stage
+    (position (has_point stage.far.point) plan.nodes) else None
 
 -- what these octets carry, if they are a DT1 with this destination reference
 abbrev pub piece_in : Option ℕ → List ℕ → Option couplings.Piece
@@ -128,4 +132,5 @@ line_by plan relays links point (Some (first ∷ rest)) = Some (over plan relays
 -- the line from an end's point and the reference that it gave, over at most 15 pairs
 abbrev pub line_in : plans.Network → List Relaying → List Link → ℕ → ℕ → Option lines.Line
 line_in plan relays links point reference =
-    if is_node (network_of plan) point then None else line_by plan relays links point (option_and_then (stages_from plan relays 15) (first_in 0 relays point reference))
+    if is_node (network_of plan) point then None else line_by plan relays links point
+    (option_and_then (stages_from plan relays 15) (first_in 0 relays point reference))

@@ -55,7 +55,8 @@ fn put_two(
     first: Sending,
     second: Sending,
 ) -> Result<(), OutOfMemory>
-    ensures ok { OnOk result ((a b : ℕ) → octets_on links.new.items a b ≡ with_octets from (first ∷ second ∷ []) (octets_on links.old.items) a b) }
+    ensures ok { OnOk result ((a b : ℕ) → octets_on links.new.items a b
+        ≡ with_octets from (first ∷ second ∷ []) (octets_on links.old.items) a b) }
     ensures err { OnErr result ((a b : ℕ) → octets_on links.new.items a b ≡ octets_on links.old.items a b) }
     ensures gone { (a b : ℕ) → gone_from links.new.items a b ≡ gone_from links.old.items a b }
 {
@@ -115,7 +116,9 @@ fn put_all(
 
 /// Takes back what was put on the links of a point, the last message first.
 fn take_all(links: &mut Vec<Link>, from: PointCode, placed: Placed)
-    ensures octets { (sent : List Sent) (before : ℕ → ℕ → List (List ℕ)) → places placed ≡ map (λ (s : Sent). s.to) sent → ((a b : ℕ) → octets_on links.old.items a b ≡ with_octets from sent before a b) → (a b : ℕ) → octets_on links.new.items a b ≡ before a b }
+    ensures octets { (sent : List Sent) (before : ℕ → ℕ → List (List ℕ)) → places placed ≡ map (λ (s : Sent). s.to) sent
+        → ((a b : ℕ) → octets_on links.old.items a b ≡ with_octets from sent before a b) → (a b : ℕ)
+        → octets_on links.new.items a b ≡ before a b }
     ensures gone { (a b : ℕ) → gone_from links.new.items a b ≡ gone_from links.old.items a b }
 {
     match placed {
@@ -142,7 +145,9 @@ pub(crate) fn take_in(
     requires node { relay.old.node < length plan.now.nodes }
     requires short { HasShortParts message.now }
     ensures relay { OnOk result (relay.new ≡ relay_after relay.old (event_of plan.now relay.old.node [] origin message.now)) }
-    ensures octets { OnOk result ((a b : ℕ) → octets_on links.new.items a b ≡ with_octets at (map written_sent (coupled relay.old.sections (event_of plan.now relay.old.node [] origin message.now)).sent) (octets_on links.old.items) a b) }
+    ensures octets { OnOk result ((a b : ℕ) → octets_on links.new.items a b
+        ≡ with_octets at (map written_sent (coupled relay.old.sections (event_of plan.now relay.old.node [] origin message.now)).sent)
+        (octets_on links.old.items) a b) }
     ensures err_relay { OnErr result (relay.new ≡ relay.old) }
     ensures err_octets { OnErr result ((a b : ℕ) → octets_on links.new.items a b ≡ octets_on links.old.items a b) }
     ensures gone { (a b : ℕ) → gone_from links.new.items a b ≡ gone_from links.old.items a b }

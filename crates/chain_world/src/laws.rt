@@ -9,5 +9,6 @@ ghost use Rattle.chain_world.specs.Offering.{as_read, fault_of};
 /// The last test is that it can be written and that each known parameter reads.
 pub fn offers_are_of_the_message()
     ensures message { (m : Message) → IsMessage m → as_read m ≡ m }
-    ensures fault { (network : Network) (w : World) (from to : ℕ) (m : Message) → IsMessage m → fault_of network w from to m ≡ offer_fault network w from to m }
+    ensures fault { (network : Network) (w : World) (from to : ℕ) (m : Message) → IsMessage m
+        → fault_of network w from to m ≡ offer_fault network w from to m }
 {}

@@ -4,7 +4,8 @@ ghost use Rattle.couple_chain.specs.Logged.{logged};
 ghost use Rattle.couple_chain.specs.World.{is_node};
 ghost use Rattle.sccp_scrc.specs.Arriving.{point_of};
 ghost use Rattle.chain_world.specs.Kept.{network_of};
-ghost use Rattle.chain_world.specs.Staged.{told_piece, told_line, passed_at, pieces_in, delivered_by, over, last_stage, stages_from, line_by};
+ghost use Rattle.chain_world.specs.Staged.{told_piece, told_line, passed_at, pieces_in, delivered_by, over, last_stage, stages_from};
+ghost use Rattle.chain_world.specs.Staged.{line_by};
 
 use crate::line::{Line, Piece};
 use crate::link::{Link, delivered};
@@ -82,7 +83,8 @@ fn forth_out(
     last: &Stage,
 ) -> Result<List<Piece>, OutOfMemory>
     requires { last.now.node < length plan.now.nodes }
-    ensures { IfOk result (λ pieces. map told_piece pieces ≡ pieces_in last.now.far.remote (delivered_by links.now (point_of plan.now last.now.node) last.now.far.point)) }
+    ensures { IfOk result (λ pieces. map told_piece pieces
+        ≡ pieces_in last.now.far.remote (delivered_by links.now (point_of plan.now last.now.node) last.now.far.point)) }
 {
     let from = plan.point_of(last.node);
     let to = last.far.point;
@@ -99,7 +101,8 @@ fn back_out(
     first: &Stage,
 ) -> Result<List<Piece>, OutOfMemory>
     requires { first.now.node < length plan.now.nodes }
-    ensures { IfOk result (λ pieces. map told_piece pieces ≡ pieces_in first.now.near.remote (delivered_by links.now (point_of plan.now first.now.node) point)) }
+    ensures { IfOk result (λ pieces. map told_piece pieces
+        ≡ pieces_in first.now.near.remote (delivered_by links.now (point_of plan.now first.now.node) point)) }
 {
     let from = plan.point_of(first.node);
     let remote = first.near.remote;
@@ -150,7 +153,8 @@ pub(crate) fn line_along(
 ) -> Result<Option<Line>, OutOfMemory>
     requires count { length relays.now ≡ length plan.now.nodes }
     requires inside { All (λ stage. stage.node < length plan.now.nodes) path.now }
-    ensures value { IfOk result (λ line. option_map (told_line plan.now) line ≡ line_by plan.now relays.now links.now point (Some path.now)) }
+    ensures value { IfOk result (λ line. option_map (told_line plan.now) line ≡ line_by plan.now relays.now links.now point
+        (Some path.now)) }
     ensures inside { IfOk result (λ line. IfSome line (λ l. All (λ node. node < length plan.now.nodes) l.path)) }
 {
     if path.is_empty() {

@@ -44,7 +44,8 @@ fn begin(
     message: Octets,
 ) -> Result<(), OutOfMemory>
     requires { position (is_link from to) links.old.items ≡ None }
-    ensures ok { OnOk result ((a b : ℕ) → octets_on links.new.items a b ≡ with_at from to (octets_on links.old.items from to ++ message ∷ []) (octets_on links.old.items) a b) }
+    ensures ok { OnOk result ((a b : ℕ) → octets_on links.new.items a b
+        ≡ with_at from to (octets_on links.old.items from to ++ message ∷ []) (octets_on links.old.items) a b) }
     ensures gone { (a b : ℕ) → gone_from links.new.items a b ≡ gone_from links.old.items a b }
     ensures err { OnErr result (links.new.items ≡ links.old.items) }
 {
@@ -67,7 +68,8 @@ pub(crate) fn put(
     to: PointCode,
     octets: Octets,
 ) -> Result<(), OutOfMemory>
-    ensures ok { OnOk result ((a b : ℕ) → octets_on links.new.items a b ≡ with_at from to (octets_on links.old.items from to ++ octets ∷ []) (octets_on links.old.items) a b) }
+    ensures ok { OnOk result ((a b : ℕ) → octets_on links.new.items a b ≡ with_at from to (octets_on links.old.items from to ++ octets ∷ [])
+        (octets_on links.old.items) a b) }
     ensures err { OnErr result ((a b : ℕ) → octets_on links.new.items a b ≡ octets_on links.old.items a b) }
     ensures gone { (a b : ℕ) → gone_from links.new.items a b ≡ gone_from links.old.items a b }
 {
@@ -89,7 +91,8 @@ fn drop_last(link: &mut Link)
 
 /// Takes the newest message on the link between two points back.
 pub(crate) fn take_back(links: &mut Vec<Link>, from: PointCode, to: PointCode)
-    ensures octets { (rest : List (List ℕ)) (last : List ℕ) → octets_on links.old.items from to ≡ rest ++ last ∷ [] → (a b : ℕ) → octets_on links.new.items a b ≡ with_at from to rest (octets_on links.old.items) a b }
+    ensures octets { (rest : List (List ℕ)) (last : List ℕ) → octets_on links.old.items from to ≡ rest ++ last ∷ [] → (a b : ℕ)
+        → octets_on links.new.items a b ≡ with_at from to rest (octets_on links.old.items) a b }
     ensures gone { (a b : ℕ) → gone_from links.new.items a b ≡ gone_from links.old.items a b }
 {
     if let Some(place) = place_of(links.as_slice(), from, to) {
@@ -130,7 +133,8 @@ fn pass_one(link: &mut Link)
 pub(crate) fn pass(links: &mut Vec<Link>, from: PointCode, to: PointCode)
     requires { gone_from links.old.items from to < length (octets_on links.old.items from to) }
     ensures octets { (a b : ℕ) → octets_on links.new.items a b ≡ octets_on links.old.items a b }
-    ensures gone { (a b : ℕ) → gone_from links.new.items a b ≡ with_at from to (gone_from links.old.items from to + 1) (gone_from links.old.items) a b }
+    ensures gone { (a b : ℕ) → gone_from links.new.items a b ≡ with_at from to (gone_from links.old.items from to + 1)
+        (gone_from links.old.items) a b }
 {
     if let Some(place) = place_of(links.as_slice(), from, to) {
         pass_one(&mut links[place]);

@@ -1,5 +1,6 @@
 //! A running world: its relays, its links and its history, and all calls of the layer above.
-ghost use Rattle.std.specs.Prelude.{◌≡◌, ◌↔◌, ◌<◌, [], ◌∷◌, ◌++◌, ℕ, false, true, None, Some, List, All, map, length, position, ⊤, IfOk, IfErr, IfNone, IfSome, OnOk, OnErr, option_map};
+ghost use Rattle.std.specs.Prelude.{◌≡◌, ◌↔◌, ◌<◌, [], ◌∷◌, ◌++◌, ℕ, false, true, None, Some, List, All, map, length, position, ⊤, IfOk};
+ghost use Rattle.std.specs.Prelude.{IfErr, IfNone, IfSome, OnOk, OnErr, option_map};
 ghost use Rattle.std.specs.Bool.{MatchBool};
 ghost use Rattle.std.specs.List.{range_with_len};
 ghost use Rattle.sccp_base.specs.Answers.{Answers};
@@ -195,7 +196,8 @@ impl World {
         ensures passed { OnOk result (offer_fault (network_of self.now.plan) (world_of self.now) from to read.now ≡ None) }
         ensures octets { IfOk result (λ octets. octets ≡ message_octets read.now) }
         ensures fit { OnOk result (IsFit read.now) }
-        ensures fault { IfErr result (λ fault. MatchBool (is_memory fault) ⊤ (offer_fault (network_of self.now.plan) (world_of self.now) from to read.now ≡ Some fault)) }
+        ensures fault { IfErr result (λ fault. MatchBool (is_memory fault) ⊤
+            (offer_fault (network_of self.now.plan) (world_of self.now) from to read.now ≡ Some fault)) }
     {
         if let Some(fault) = self.early_fault(from, to, read) {
             return Err(fault);
@@ -213,7 +215,8 @@ impl World {
     fn offer_read(&mut self, from: PointCode, to: PointCode, read: Signal) -> Result<(), OfferFault>
         requires sound { Sound read }
         requires is_message { IsMessage read }
-        ensures answer { Answers is_memory (λ u. u) result (answer_by (offer_fault (network_of self.old.plan) (world_of self.old) from to read)) }
+        ensures answer { Answers is_memory (λ u. u) result
+            (answer_by (offer_fault (network_of self.old.plan) (world_of self.old) from to read)) }
         ensures ok { OnOk result (self.new ≡ kept self.old.plan (self.old.history ++ Offers from to read ∷ [])) }
         ensures err { OnErr result (self.new ≡ self.old) }
     {
@@ -254,7 +257,8 @@ impl World {
         to: PointCode,
         message: &Signal,
     ) -> Result<(), OfferFault>
-        ensures answer { Answers is_memory (λ u. u) result (answer_by (fault_of (network_of self.old.plan) (world_of self.old) from to message.now)) }
+        ensures answer { Answers is_memory (λ u. u) result
+            (answer_by (fault_of (network_of self.old.plan) (world_of self.old) from to message.now)) }
         ensures ok { OnOk result (self.new ≡ kept self.old.plan (self.old.history ++ Offers from to (as_read message.now) ∷ [])) }
         ensures err { OnErr result (self.new ≡ self.old) }
     {
@@ -396,10 +400,13 @@ impl World {
     /// If no relay gave one own reference twice, what came out of the line is the beginning of what went in, both ways. If
     /// also no link holds a message, it is the whole.
     pub fn line(&self, point: PointCode, reference: Reference) -> Result<Option<Line>, OutOfMemory>
-        ensures line { IfOk result (λ l. option_map (told_line self.now.plan) l ≡ line (network_of self.now.plan) (world_of self.now) point reference) }
+        ensures line { IfOk result (λ l. option_map (told_line self.now.plan) l
+            ≡ line (network_of self.now.plan) (world_of self.now) point reference) }
         ensures inside { IfOk result (λ l. IfSome l (λ x. All (λ node. node < length self.now.plan.nodes) x.path)) }
-        ensures order { IsFresh (network_of self.now.plan) (world_of self.now) → IfOk result (λ l. IfSome l (λ x. IsInOrder (told_line self.now.plan x))) }
-        ensures all { IsFresh (network_of self.now.plan) (world_of self.now) → IsSettled (world_of self.now) → IfOk result (λ l. IfSome l (λ x. IsThrough (told_line self.now.plan x))) }
+        ensures order { IsFresh (network_of self.now.plan) (world_of self.now)
+            → IfOk result (λ l. IfSome l (λ x. IsInOrder (told_line self.now.plan x))) }
+        ensures all { IsFresh (network_of self.now.plan) (world_of self.now) → IsSettled (world_of self.now)
+            → IfOk result (λ l. IfSome l (λ x. IsThrough (told_line self.now.plan x))) }
     {
         if self.is_node(point) {
             return Ok(None);

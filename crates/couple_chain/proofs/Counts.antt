@@ -1,5 +1,6 @@
 -- how many messages of a list pass a test, and what holds of each element
-use Rattle.std.specs.Prelude.{ℕ, ◌≡◌, ◌+◌, ◌≤◌, ◌==◌, Bool, true, false, cond, ◌||◌, List, [], ◌∷◌, ◌++◌, length, map, filter, find, Option, Some, None, All, refl}
+use Rattle.std.specs.Prelude.{ℕ, ◌≡◌, ◌+◌, ◌≤◌, ◌==◌, Bool, true, false, cond, ◌||◌, List, [], ◌∷◌, ◌++◌, length, map, filter, find, Option}
+use Rattle.std.specs.Prelude.{Some, None, All, refl}
 use Rattle.std.proofs.Common.{suc, ◌∙◌, ap, subst, arith, length-append}
 use Rattle.std.proofs.lemmas.List.Elements.{filter-append}
 use Rattle.sccp_message.specs.declared.message.Message.{Message}
@@ -36,27 +37,37 @@ pub number-or : {A : Type 0} (p q : A → Bool) (xs : List A) → number p xs �
 number-or p q [] = omega arith
 number-or p q (x ∷ xs) =
     let h = number-or p q xs in
-    elim (p x) as (λ b. length (cond b (x ∷ filter p xs) (filter p xs)) ≤ length (cond (b || q x) (x ∷ filter (λ x. p x || q x) xs) (filter (λ x. p x || q x) xs))) [
+    elim (p x) as (λ b. length (cond b (x ∷ filter p xs) (filter p xs))
+    ≤ length (cond (b || q x) (x ∷ filter (λ x. p x || q x) xs) (filter (λ x. p x || q x) xs))) [
       | true ↦ omega arith
-      | false ↦ elim (q x) as (λ b. length (filter p xs) ≤ length (cond b (x ∷ filter (λ x. p x || q x) xs) (filter (λ x. p x || q x) xs))) [ true ↦ omega arith | false ↦ omega arith ]
+      | false ↦ elim (q x) as (λ b. length (filter p xs) ≤ length (cond b (x ∷ filter (λ x. p x || q x) xs) (filter (λ x. p x || q x) xs)))
+          [ true ↦ omega arith | false ↦ omega arith ]
     ]
 
 pub number-either : {A : Type 0} (p q : A → Bool) (xs : List A) → number (λ x. p x || q x) xs ≤ number p xs + number q xs
 number-either p q [] = omega arith
 number-either p q (x ∷ xs) =
     let h = number-either p q xs in
-    elim (p x) as (λ b. length (cond (b || q x) (x ∷ filter (λ x. p x || q x) xs) (filter (λ x. p x || q x) xs)) ≤ length (cond b (x ∷ filter p xs) (filter p xs)) + length (cond (q x) (x ∷ filter q xs) (filter q xs))) [
-      | true ↦ elim (q x) as (λ b. length (x ∷ filter (λ x. p x || q x) xs) ≤ length (x ∷ filter p xs) + length (cond b (x ∷ filter q xs) (filter q xs))) [ true ↦ omega arith | false ↦ omega arith ]
-      | false ↦ elim (q x) as (λ b. length (cond b (x ∷ filter (λ x. p x || q x) xs) (filter (λ x. p x || q x) xs)) ≤ length (filter p xs) + length (cond b (x ∷ filter q xs) (filter q xs))) [ true ↦ omega arith | false ↦ omega arith ]
+    elim (p x) as (λ b. length (cond (b || q x) (x ∷ filter (λ x. p x || q x) xs) (filter (λ x. p x || q x) xs))
+    ≤ length (cond b (x ∷ filter p xs) (filter p xs)) + length (cond (q x) (x ∷ filter q xs) (filter q xs))) [
+      | true ↦ elim (q x) as (λ b. length (x ∷ filter (λ x. p x || q x) xs)
+          ≤ length (x ∷ filter p xs) + length (cond b (x ∷ filter q xs) (filter q xs))) [ true ↦ omega arith | false ↦ omega arith ]
+      | false ↦ elim (q x) as (λ b. length (cond b (x ∷ filter (λ x. p x || q x) xs) (filter (λ x. p x || q x) xs))
+          ≤ length (filter p xs) + length (cond b (x ∷ filter q xs) (filter q xs))) [ true ↦ omega arith | false ↦ omega arith ]
     ]
 
 pub number-or_right : {A : Type 0} (p q : A → Bool) (xs : List A) → number q xs ≤ number (λ x. p x || q x) xs
 number-or_right p q [] = omega arith
 number-or_right p q (x ∷ xs) =
     let h = number-or_right p q xs in
-    elim (q x) as (λ b. length (cond b (x ∷ filter q xs) (filter q xs)) ≤ length (cond (p x || b) (x ∷ filter (λ x. p x || q x) xs) (filter (λ x. p x || q x) xs))) [
-      | true ↦ elim (p x) as (λ b. length (x ∷ filter q xs) ≤ length (cond (b || true) (x ∷ filter (λ x. p x || q x) xs) (filter (λ x. p x || q x) xs))) [ true ↦ omega arith | false ↦ omega arith ]
-      | false ↦ elim (p x) as (λ b. length (filter q xs) ≤ length (cond (b || false) (x ∷ filter (λ x. p x || q x) xs) (filter (λ x. p x || q x) xs))) [ true ↦ omega arith | false ↦ omega arith ]
+    elim (q x) as (λ b. length (cond b (x ∷ filter q xs) (filter q xs))
+    ≤ length (cond (p x || b) (x ∷ filter (λ x. p x || q x) xs) (filter (λ x. p x || q x) xs))) [
+      | true ↦ elim (p x) as (λ b. length (x ∷ filter q xs)
+          ≤ length (cond (b || true) (x ∷ filter (λ x. p x || q x) xs) (filter (λ x. p x || q x) xs)))
+          [ true ↦ omega arith | false ↦ omega arith ]
+      | false ↦ elim (p x) as (λ b. length (filter q xs)
+          ≤ length (cond (b || false) (x ∷ filter (λ x. p x || q x) xs) (filter (λ x. p x || q x) xs)))
+          [ true ↦ omega arith | false ↦ omega arith ]
     ]
 
 -- pieces of no DT1 with this DLR
@@ -73,7 +84,8 @@ no_piece dlr (Some d) h = flip (dlr == d.dlr) (d.dlr == dlr) (same dlr d.dlr) h 
 pub no_pieces : (dlr : ℕ) (xs : List Message) → number (carries dlr) xs ≡ 0 → pieces_for (Some dlr) xs ≡ []
 no_pieces dlr [] h = refl
 no_pieces dlr (x ∷ xs) h =
-    elim (carries dlr x) as (λ b. carries dlr x ≡ b → length (cond b (x ∷ filter (carries dlr) xs) (filter (carries dlr) xs)) ≡ 0 → pieces_for (Some dlr) (x ∷ xs) ≡ []) [
+    elim (carries dlr x) as (λ b. carries dlr x ≡ b → length (cond b (x ∷ filter (carries dlr) xs) (filter (carries dlr) xs)) ≡ 0
+    → pieces_for (Some dlr) (x ∷ xs) ≡ []) [
       | true ↦ λ e k. absurd (omega arith)
       | false ↦ λ e k. rw (no_piece dlr (data_of x) e) (no_pieces dlr xs k)
     ] refl h

@@ -17,7 +17,8 @@ early_of_nothing false = refl
 pub early_none : (q : ℕ) (xs : List Message) → number (carries q) xs ≡ 0 → early q xs ≡ []
 early_none q [] h = refl
 early_none q (x ∷ xs) h =
-    elim (carries q x) as (λ b. carries q x ≡ b → length (cond b (x ∷ filter (carries q) xs) (filter (carries q) xs)) ≡ 0 → early q (x ∷ xs) ≡ []) [
+    elim (carries q x) as (λ b. carries q x ≡ b → length (cond b (x ∷ filter (carries q) xs) (filter (carries q) xs)) ≡ 0
+    → early q (x ∷ xs) ≡ []) [
       | true ↦ λ e k. absurd (omega arith)
       | false ↦ λ e k.
           let alone : number (carries q) (x ∷ []) ≡ 0 = ap (λ (b : Bool). length (cond b (x ∷ []) [])) e in
@@ -32,7 +33,8 @@ early_quiet q (x ∷ xs) ys h = ap (λ (l : List Piece). early_of (answers q x) 
 pub early_more : (q : ℕ) (xs ys : List Message) → 0 < number (answers q) xs → early q (xs ++ ys) ≡ early q xs
 early_more q [] ys h = absurd (omega arith)
 early_more q (x ∷ xs) ys h =
-    elim (answers q x) as (λ b. 0 < length (cond b (x ∷ filter (answers q) xs) (filter (answers q) xs)) → early_of b (pieces_for (Some q) (x ∷ []) ++ early q (xs ++ ys)) ≡ early_of b (pieces_for (Some q) (x ∷ []) ++ early q xs)) [
+    elim (answers q x) as (λ b. 0 < length (cond b (x ∷ filter (answers q) xs) (filter (answers q) xs))
+    → early_of b (pieces_for (Some q) (x ∷ []) ++ early q (xs ++ ys)) ≡ early_of b (pieces_for (Some q) (x ∷ []) ++ early q xs)) [
       | true ↦ λ k. refl
       | false ↦ λ k. ap (λ (l : List Piece). pieces_for (Some q) (x ∷ []) ++ l) (early_more q xs ys k)
     ] h
@@ -51,23 +53,27 @@ carries_piece q m h =
     (d.0.piece, go q (data_of m) d.0 d.1 d.2)
   where
     go : (q : ℕ) (o : Option Data) (d : Data) → o ≡ Some d → d.dlr ≡ q → cons_option (piece_if_for (Some q) o) [] ≡ d.piece ∷ []
-    go q o d e f = ap (λ (x : Option Data). cons_option (piece_if_for (Some q) x) []) e ∙ ap (λ (b : Bool). cons_option (cond b (Some d.piece) None) []) (eq-eqb q d.dlr (sym f))
+    go q o d e f = ap (λ (x : Option Data). cons_option (piece_if_for (Some q) x) []) e
+        ∙ ap (λ (b : Bool). cons_option (cond b (Some d.piece) None) []) (eq-eqb q d.dlr (sym f))
 
 pub carries_no_answer : (q n : ℕ) (m : Message) → carries q m ≡ true → answers n m ≡ false
 carries_no_answer q n (messages.Cc dlr slr class params) h = absurd (cc)
 carries_no_answer q n _ h = refl
 
-pub early_first : (q : ℕ) (xs : List Message) (m : Message) (rest : List Message) → number (answers q) xs ≡ 0 → carries q m ≡ true → early q ((xs ++ m ∷ []) ++ rest) ≡ [] → ⊥
+pub early_first : (q : ℕ) (xs : List Message) (m : Message) (rest : List Message) → number (answers q) xs ≡ 0 → carries q m ≡ true
+    → early q ((xs ++ m ∷ []) ++ rest) ≡ [] → ⊥
 early_first q [] m rest h c e =
     let p = carries_piece q m c in
     let k : p.0 ∷ early q rest ≡ [] =
-    sym (ap (λ (b : Bool). early_of b (pieces_for (Some q) (m ∷ []) ++ early q rest)) (carries_no_answer q q m c) ∙ ap (λ (l : List Piece). l ++ early q rest) p.1) ∙ e in
+    sym (ap (λ (b : Bool). early_of b (pieces_for (Some q) (m ∷ []) ++ early q rest)) (carries_no_answer q q m c)
+    ∙ ap (λ (l : List Piece). l ++ early q rest) p.1) ∙ e in
     not_empty p.0 (early q rest) k
   where
     not_empty : (x : Piece) (xs : List Piece) → x ∷ xs ≡ [] → ⊥
     not_empty x xs h = cc
 early_first q (x ∷ xs) m rest h c e =
-    elim (answers q x) as (λ b. length (cond b (x ∷ filter (answers q) xs) (filter (answers q) xs)) ≡ 0 → early_of b (pieces_for (Some q) (x ∷ []) ++ early q ((xs ++ m ∷ []) ++ rest)) ≡ [] → ⊥) [
+    elim (answers q x) as (λ b. length (cond b (x ∷ filter (answers q) xs) (filter (answers q) xs)) ≡ 0
+    → early_of b (pieces_for (Some q) (x ∷ []) ++ early q ((xs ++ m ∷ []) ++ rest)) ≡ [] → ⊥) [
       | true ↦ λ k f. absurd (omega arith)
       | false ↦ λ k f. early_first q xs m rest k c (behind (pieces_for (Some q) (x ∷ [])) (early q ((xs ++ m ∷ []) ++ rest)) f)
     ] h e

@@ -1,5 +1,6 @@
 -- A relay takes a message. What holds of the relay before holds after.
-use Rattle.std.specs.Prelude.{ℕ, ◌≡◌, ◌≢◌, ◌+◌, ◌<◌, ◌≤◌, ◌==◌, ◌⊎◌, Bool, true, false, not, cond, ◌&&◌, ◌||◌, List, [], ◌∷◌, ◌++◌, map, Option, Some, None, is_some, refl}
+use Rattle.std.specs.Prelude.{ℕ, ◌≡◌, ◌≢◌, ◌+◌, ◌<◌, ◌≤◌, ◌==◌, ◌⊎◌, Bool, true, false, not, cond, ◌&&◌, ◌||◌, List, [], ◌∷◌, ◌++◌, map}
+use Rattle.std.specs.Prelude.{Option, Some, None, is_some, refl}
 use Rattle.std.proofs.Common.{zero, suc, sym, ◌∙◌, ap, subst, ⊎_elim, inl, inr, arith}
 use Rattle.std.proofs.lemmas.Bool.{cases_Bool, cases_eq, eq-eqb, eqb-true, and_parts, not-true}
 use Rattle.std.proofs.lemmas.List.Elements.{filter_map-append}
@@ -11,7 +12,8 @@ use Rattle.sccp_couple.specs.declared.section.Section.{Section}
 use Rattle.sccp_couple.specs.Sections.{section_at, other_of, has_remote, confirmed, with_pair, first_new, second_new}
 use Rattle.sccp_couple.specs.Events.{Event, Answer, Piece, data_of}
 use Rattle.sccp_couple.specs.Coupling.{coupled, to_one}
-use Rattle.sccp_couple.specs.Runs.{Pair, Moment, happens, grown, carried, new_pair, made, is_half, knows, is_open, passed_in, sent_in, pieces_toward}
+use Rattle.sccp_couple.specs.Runs.{Pair, Moment, happens, grown, carried, new_pair, made, is_half, knows, is_open, passed_in, sent_in}
+use Rattle.sccp_couple.specs.Runs.{pieces_toward}
 use Rattle.sccp_couple.specs.Laws.{AreApart}
 use Rattle.sccp_couple.proofs.Lookups.{changed_cases}
 use Rattle.sccp_couple.proofs.Fairness.{IsFair, joined_parts, fair_happens}
@@ -21,10 +23,12 @@ use Rattle.sccp_couple.proofs.Ledger.{kept_happens, has}
 use Rattle.sccp_couple.proofs.Shares.{Passes, dt1_goes}
 use Rattle.couple_chain.specs.World.{Network, is_node, requests, confirms, names, messages_to}
 use Rattle.couple_chain.specs.Line.{piece_for, pieces_for, given, times}
-use Rattle.couple_chain.proofs.Counts.{number, number-append, number-or, number-or_right, number-either, one_of, none_of, carries, answers, no_pieces, Each, Each-append, Each-map, Each-All}
+use Rattle.couple_chain.proofs.Counts.{number, number-append, number-or, number-or_right, number-either, one_of, none_of, carries, answers}
+use Rattle.couple_chain.proofs.Counts.{no_pieces, Each, Each-append, Each-map, Each-All}
 use Rattle.couple_chain.proofs.Holds.{has_near, has_far, early, names_by, StretchFor, StandsFor, HoldsFor}
 use Rattle.couple_chain.proofs.Turns.{Plain, Passes as PassesOn, Requests, Confirms, Turn, turn}
-use Rattle.couple_chain.proofs.Sending.{to_point, to_point_none, to_point_few, to_point_some, plain_none, requests_plain, confirms_plain, names_plain, answers_plain, carries_plain, toward_none, sends_for}
+use Rattle.couple_chain.proofs.Sending.{to_point, to_point_none, to_point_few, to_point_some, plain_none, requests_plain, confirms_plain}
+use Rattle.couple_chain.proofs.Sending.{names_plain, answers_plain, carries_plain, toward_none, sends_for}
 use Rattle.couple_chain.proofs.Ledgers.{nears_after, fars_after, times_both, made_none, made_one, each_counted, Each-filter, Each-both}
 use Rattle.couple_chain.proofs.Early.{early_quiet, early_more, early_first}
 use Rattle.couple_chain.proofs.Takes.{Peers, Takes, half_is, by_names, opens, passes_in, passes_not, quiet_sent}
@@ -48,15 +52,20 @@ open_remote l own s at h none =
     let e : is_open l (section_at l own) ≡ false = ap (is_open l) at ∙ ap (λ (o : Option ℕ). is_some o && has_remote (other_of l s)) none in
     true_false (sym h ∙ e)
 
-data_sent : (l : List Section) (event : Event) → Turn l event → (to q : ℕ) → 0 < number (carries q) (messages_to to (coupled l event).sent) → SendsData l to q
-data_sent l event (Plain none unheard plain loses) to q h = let b = plain_none (carries q) (carries_plain q) to (coupled l event).sent plain in absurd (omega arith)
+data_sent : (l : List Section) (event : Event) → Turn l event → (to q : ℕ) → 0 < number (carries q) (messages_to to (coupled l event).sent)
+    → SendsData l to q
+data_sent l event (Plain none unheard plain loses) to q h = let b = plain_none (carries q) (carries_plain q) to
+    (coupled l event).sent plain in absurd (omega arith)
 data_sent l event (PassesOn dlr more payload is after) to q h =
     let at : (n : Message) → Event = λ n. record { origin = event.origin; message = n; way = event.way } in
-    let k : 0 < number (carries q) (messages_to to (coupled l (at (messages.Dt1 dlr more payload))).sent) = subst (λ (n : Message). 0 < number (carries q) (messages_to to (coupled l (at n)).sent)) is h in
+    let k : 0 < number (carries q) (messages_to to (coupled l (at (messages.Dt1 dlr more payload))).sent) =
+    subst (λ (n : Message). 0 < number (carries q) (messages_to to (coupled l (at n)).sent)) is h in
     ⊎_elim
-    (λ (nothing : (coupled l (at (messages.Dt1 dlr more payload))).sent ≡ []). let b = none_of_nothing (carries q) to (coupled l (at (messages.Dt1 dlr more payload))).sent nothing in absurd (omega arith))
+    (λ (nothing : (coupled l (at (messages.Dt1 dlr more payload))).sent ≡ []). let b = none_of_nothing (carries q) to
+    (coupled l (at (messages.Dt1 dlr more payload))).sent nothing in absurd (omega arith))
     (λ (p : Passes l event.origin event.way dlr more payload).
-    let b = to_point_some (carries q) p.other_section.point to (messages.Dt1 p.remote more payload) (subst (λ (x : List Answer). 0 < number (carries q) (messages_to to x)) p.sent k) in
+    let b = to_point_some (carries q) p.other_section.point to (messages.Dt1 p.remote more payload)
+    (subst (λ (x : List Answer). 0 < number (carries q) (messages_to to x)) p.sent k) in
     record {
       from = dlr;
       own = p.other;
@@ -74,7 +83,8 @@ data_sent l event (Requests slr class point called params called_on params_on is
     let b = ap (λ (x : List Answer). number (carries q) (messages_to to x)) sent in
     let c = to_point_none (carries q) point to (messages.Cr (second_new l) class called_on params_on) refl in
     absurd (omega arith)
-data_sent l event (Confirms dlr slr class o r params u n is u_at u_from u_far u_none u_other n_at n_near n_other n_remote after sent) to q h =
+data_sent l event (Confirms dlr slr class o r params u n is u_at u_from u_far u_none u_other n_at n_near n_other n_remote after sent)
+    to q h =
     let b = ap (λ (x : List Answer). number (carries q) (messages_to to x)) sent in
     let c = to_point_none (carries q) n.point to (messages.Cc r o class params) refl in
     absurd (omega arith)
@@ -95,10 +105,13 @@ zero_or : (n : ℕ) → (n ≡ 0) ⊎ (0 < n)
 zero_or zero = inl refl
 zero_or (suc n) = inr (omega arith)
 
-module _ (network : Network) (put arrived toward put_then arrived_then : ℕ → List Message) (pairs : ℕ → List Pair) (m : Moment) (event : Event)
-    (holds : HoldsFor network put arrived pairs m) (peers : Peers network put toward pairs m) (takes : Takes put arrived toward put_then arrived_then m event)
+module _ (network : Network) (put arrived toward put_then arrived_then : ℕ → List Message) (pairs : ℕ
+    → List Pair) (m : Moment) (event : Event)
+    (holds : HoldsFor network put arrived pairs m) (peers : Peers network put toward pairs m)
+    (takes : Takes put arrived toward put_then arrived_then m event)
     (once_given : (own : ℕ) → times own (given (happens m event)) ≤ 1) where
-  put_more : (p : Message → Bool) (to : ℕ) → number p (put_then to) ≡ number p (put to) + number p (messages_to to (coupled m.sections event).sent)
+  put_more : (p : Message → Bool) (to : ℕ) → number p (put_then to)
+      ≡ number p (put to) + number p (messages_to to (coupled m.sections event).sent)
   put_more p to = ap (number p) (takes.sends to) ∙ number-append p (put to) (messages_to to (coupled m.sections event).sent)
 
   arrived_at : (p : Message → Bool) → number p (arrived_then event.origin) ≡ number p (arrived event.origin) + number p (event.message ∷ [])
@@ -147,7 +160,8 @@ module _ (network : Network) (put arrived toward put_then arrived_then : ℕ →
       omega arith
 
   -- each reference was given once, before the step and in it
-  few : (own : ℕ) → (number (has_near own) m.pairs + number (has_far own) m.pairs) + (number (has_near own) (made m.sections event) + number (has_far own) (made m.sections event)) ≤ 1
+  few : (own : ℕ) → (number (has_near own) m.pairs + number (has_far own) m.pairs) + (number (has_near own) (made m.sections event) + number
+      (has_far own) (made m.sections event)) ≤ 1
   few own =
       let a = once_given own in
       let b = times_both own (happens m event).pairs in
@@ -163,13 +177,17 @@ module _ (network : Network) (put arrived toward put_then arrived_then : ℕ →
   nothing_for q h =
       ⊎_elim
       (λ (e : number (carries q) (put event.origin) ≡ 0). e)
-      (λ (some : 0 < number (carries q) (put event.origin)). let a = holds.data_named event.origin q some in let b = unnamed q h in absurd (omega arith))
+      (λ (some : 0 < number (carries q) (put event.origin)). let a = holds.data_named event.origin q some in let b = unnamed q h in absurd
+      (omega arith))
       (zero_or (number (carries q) (put event.origin)))
 
   -- requests and confirms that are sent
-  requests_sent : Turn m.sections event → (to own : ℕ) → number (requests own) (messages_to to (coupled m.sections event).sent) ≤ number (has_far own) (made m.sections event)
-  requests_sent (Plain none unheard plain loses) to own = let a = plain_none (requests own) (requests_plain own) to (coupled m.sections event).sent plain in omega arith
-  requests_sent (PassesOn dlr more payload is after) to own = let a = only_data (requests own) (λ d x y. refl) m.sections event dlr more payload is to in omega arith
+  requests_sent : Turn m.sections event → (to own : ℕ) → number (requests own) (messages_to to (coupled m.sections event).sent)
+      ≤ number (has_far own) (made m.sections event)
+  requests_sent (Plain none unheard plain loses) to own = let a = plain_none (requests own) (requests_plain own) to
+      (coupled m.sections event).sent plain in omega arith
+  requests_sent (PassesOn dlr more payload is after) to own = let a =
+      only_data (requests own) (λ d x y. refl) m.sections event dlr more payload is to in omega arith
   requests_sent (Requests slr class point called params called_on params_on is after sent) to own =
       let made_is = made_one m.sections event event.origin slr point (kept_happens m event holds.kept).coupling after in
       let message : Message = messages.Cr (second_new m.sections) class called_on params_on in
@@ -200,12 +218,15 @@ module _ (network : Network) (put arrived toward put_then arrived_then : ℕ →
       (p : Pair) × (p.stands ≡ true) × (p.near ≡ o) × (p.far ≡ d) × (0 < number (has_near o) m.pairs) × StandsFor network put arrived m p
   pair_of d o s at joined far =
       let r = (holds.kept.ledger d).one s o at joined in
-      let both = Each-filter (λ (p : Pair). ((0 < number (has_near p.near) m.pairs) × (0 < number (has_far p.far) m.pairs)) × StandsFor network put arrived m p) (has d) m.pairs r.0 []
-      (Each-both (λ (p : Pair). (0 < number (has_near p.near) m.pairs) × (0 < number (has_far p.far) m.pairs)) (StandsFor network put arrived m) m.pairs (each_counted m.pairs) holds.stretches) r.1 in
+      let both = Each-filter (λ (p : Pair). ((0 < number (has_near p.near) m.pairs) × (0 < number (has_far p.far) m.pairs))
+      × StandsFor network put arrived m p) (has d) m.pairs r.0 []
+      (Each-both (λ (p : Pair). (0 < number (has_near p.near) m.pairs) × (0 < number (has_far p.far) m.pairs))
+      (StandsFor network put arrived m) m.pairs (each_counted m.pairs) holds.stretches) r.1 in
       let near : r.0.near ≡ o = r.3 ∙ ap (λ (b : Bool). cond b d o) far in
       (r.0, r.2, near, r.4 ∙ ap (λ (b : Bool). cond b o d) far, subst (λ (k : ℕ). 0 < number (has_near k) m.pairs) near both.0.0, both.1)
 
-  confirmed_then : Turn m.sections event → (to own : ℕ) → 0 < number (confirms own) (put_then to) → 0 < number (has_near own) (happens m event).pairs
+  confirmed_then : Turn m.sections event → (to own : ℕ) → 0 < number (confirms own) (put_then to)
+      → 0 < number (has_near own) (happens m event).pairs
   confirmed_then t to own h =
       let a = put_more (confirms own) to in
       let more = nears_then own in
@@ -216,15 +237,19 @@ module _ (network : Network) (put arrived toward put_then arrived_then : ℕ →
       (λ (old : 0 < number (confirms own) (put to)). let b = holds.confirmed to own old in omega arith)
       (zero_or (number (confirms own) (put to)))
     where
-      go : Turn m.sections event → 0 < number (confirms own) (messages_to to (coupled m.sections event).sent) → 0 < number (has_near own) m.pairs
-      go (Plain none unheard plain loses) k = let b = plain_none (confirms own) (confirms_plain own) to (coupled m.sections event).sent plain in absurd (omega arith)
-      go (PassesOn dlr more payload is after) k = let b = only_data (confirms own) (λ d x y. refl) m.sections event dlr more payload is to in absurd (omega arith)
+      go : Turn m.sections event → 0 < number (confirms own) (messages_to to (coupled m.sections event).sent)
+          → 0 < number (has_near own) m.pairs
+      go (Plain none unheard plain loses) k = let b = plain_none (confirms own) (confirms_plain own) to
+          (coupled m.sections event).sent plain in absurd (omega arith)
+      go (PassesOn dlr more payload is after) k = let b =
+          only_data (confirms own) (λ d x y. refl) m.sections event dlr more payload is to in absurd (omega arith)
       go (Requests slr class point called params called_on params_on is after sent) k =
           let b = ap (λ (x : List Answer). number (confirms own) (messages_to to x)) sent in
           let c = to_point_none (confirms own) point to (messages.Cr (second_new m.sections) class called_on params_on) refl in
           absurd (omega arith)
       go (Confirms dlr slr class o r params u n is u_at u_from u_far u_none u_other n_at n_near n_other n_remote after sent) k =
-          let b = to_point_some (confirms own) n.point to (messages.Cc r o class params) (subst (λ (x : List Answer). 0 < number (confirms own) (messages_to to x)) sent k) in
+          let b = to_point_some (confirms own) n.point to (messages.Cc r o class params)
+          (subst (λ (x : List Answer). 0 < number (confirms own) (messages_to to x)) sent k) in
           subst (λ (x : ℕ). 0 < number (has_near x) m.pairs) (eqb-true o own b.1) (pair_of dlr o u u_at u_other u_far).4
 
   -- what the section under a reference was before
@@ -233,7 +258,8 @@ module _ (network : Network) (put arrived toward put_then arrived_then : ℕ →
     New : (r : ℕ) → q ≡ key → t.remote ≡ Some r → t.point ≡ event.origin → names_by t.near r event.message ≡ true → Was key q t
     Blank : t.remote ≡ None → Was key q t
 
-  was : Turn m.sections event → (key : ℕ) × ((q : ℕ) (t : Section) → section_at (coupled m.sections event).sections q ≡ Some t → Was key q t)
+  was : Turn m.sections event → (key : ℕ) × ((q : ℕ) (t : Section) → section_at (coupled m.sections event).sections q ≡ Some t
+      → Was key q t)
   was (Plain none unheard plain loses) = (0, λ q t h. let b = loses q t h in Old b.0 b.1 b.2 b.3 b.4)
   was (PassesOn dlr more payload is after) = (0, λ q t h. Old t (sym (ap (λ (x : List Section). section_at x q) after) ∙ h) refl refl refl)
   was (Requests slr class point called params called_on params_on is after sent) = (
@@ -241,14 +267,17 @@ module _ (network : Network) (put arrived toward put_then arrived_then : ℕ →
     λ q t h.
         ⊎_elim
         (λ (e : section_at m.sections q ≡ Some t). Old t e refl refl refl)
-        (λ (e : ((q ≡ first_new m.sections) × (t ≡ near_new (first_new m.sections) (second_new m.sections) event.origin slr)) ⊎ ((q ≡ second_new m.sections) × (t ≡ far_new (first_new m.sections) (second_new m.sections) point))).
+        (λ (e : ((q ≡ first_new m.sections) × (t ≡ near_new (first_new m.sections) (second_new m.sections) event.origin slr))
+        ⊎ ((q ≡ second_new m.sections) × (t ≡ far_new (first_new m.sections) (second_new m.sections) point))).
         ⊎_elim
         (λ (x : (q ≡ first_new m.sections) × (t ≡ near_new (first_new m.sections) (second_new m.sections) event.origin slr)).
         New slr x.0 (ap (λ (y : Section). y.remote) x.1) (ap (λ (y : Section). y.point) x.1)
         (ap (λ (y : Section). names_by y.near slr event.message) x.1 ∙ ap (requests slr) is ∙ eq-eqb slr slr refl))
-        (λ (x : (q ≡ second_new m.sections) × (t ≡ far_new (first_new m.sections) (second_new m.sections) point)). Blank (ap (λ (y : Section). y.remote) x.1))
+        (λ (x : (q ≡ second_new m.sections) × (t ≡ far_new (first_new m.sections) (second_new m.sections) point)). Blank
+        (ap (λ (y : Section). y.remote) x.1))
         e)
-        (pair_cases m.sections (first_new m.sections) (second_new m.sections) event.origin slr point q t (sym (ap (λ (x : List Section). section_at x q) after) ∙ h)),
+        (pair_cases m.sections (first_new m.sections) (second_new m.sections) event.origin slr point q t
+        (sym (ap (λ (x : List Section). section_at x q) after) ∙ h)),
   )
   was (Confirms dlr slr class o r params u n is u_at u_from u_far u_none u_other n_at n_near n_other n_remote after sent) = (
     dlr,
@@ -263,9 +292,11 @@ module _ (network : Network) (put arrived toward put_then arrived_then : ℕ →
         (changed_cases (confirmed slr) (λ x. refl) m.sections dlr q t (sym (ap (λ (x : List Section). section_at x q) after) ∙ h)),
   )
 
-  old_named : (own q : ℕ) (s : Section) → section_at m.sections own ≡ Some s → s.remote ≡ Some q → (near : Bool) → near ≡ s.near → (point : ℕ) → point ≡ s.point → 0 < number (names_by near q) (arrived point)
+  old_named : (own q : ℕ) (s : Section) → section_at m.sections own ≡ Some s → s.remote ≡ Some q → (near : Bool) → near ≡ s.near
+      → (point : ℕ) → point ≡ s.point → 0 < number (names_by near q) (arrived point)
   old_named own q s at has_it near e point f =
-      subst (λ (b : Bool). 0 < number (names_by b q) (arrived point)) (sym e) (subst (λ (n : ℕ). 0 < number (names_by s.near q) (arrived n)) (sym f) (holds.remote_named own q s at has_it))
+      subst (λ (b : Bool). 0 < number (names_by b q) (arrived point)) (sym e)
+      (subst (λ (n : ℕ). 0 < number (names_by s.near q) (arrived n)) (sym f) (holds.remote_named own q s at has_it))
 
   named_was : (key own q : ℕ) (s : Section) → Was key own s → s.remote ≡ Some q → 0 < number (names_by s.near q) (arrived_then s.point)
   named_was key own q s (Old b at near point remote) has_it =
@@ -277,7 +308,8 @@ module _ (network : Network) (put arrived toward put_then arrived_then : ℕ →
       arrived_new (names_by s.near q) (ap (λ (n : ℕ). names_by s.near n event.message) (sym e) ∙ named) s.point point
   named_was key own q s (Blank remote) has_it = absurd (none_some q s.remote remote has_it)
 
-  named_then : Turn m.sections event → (own q : ℕ) (s : Section) → section_at (coupled m.sections event).sections own ≡ Some s → s.remote ≡ Some q → 0 < number (names_by s.near q) (arrived_then s.point)
+  named_then : Turn m.sections event → (own q : ℕ) (s : Section) → section_at (coupled m.sections event).sections own ≡ Some s
+      → s.remote ≡ Some q → 0 < number (names_by s.near q) (arrived_then s.point)
   named_then t own q s at has_it = let w = was t in named_was w.0 own q s (w.1 own s at) has_it
 
   by_names_true : (near : Bool) (q : ℕ) (x : Message) → names_by near q x ≡ true → names q x ≡ true
@@ -289,7 +321,8 @@ module _ (network : Network) (put arrived toward put_then arrived_then : ℕ →
       or_true false = refl
 
   -- an old section cannot have the remote that has just been named
-  clash : (own r q : ℕ) (s b t : Section) → section_at m.sections own ≡ Some b → s.point ≡ b.point → s.remote ≡ b.remote → s.remote ≡ Some q → t.remote ≡ Some r → t.remote ≡ Some q → t.point ≡ event.origin → s.point ≡ t.point → names_by t.near r event.message ≡ true → ⊥
+  clash : (own r q : ℕ) (s b t : Section) → section_at m.sections own ≡ Some b → s.point ≡ b.point → s.remote ≡ b.remote → s.remote ≡ Some q
+      → t.remote ≡ Some r → t.remote ≡ Some q → t.point ≡ event.origin → s.point ≡ t.point → names_by t.near r event.message ≡ true → ⊥
   clash own r q s b t at point remote has_it is_r is_q from same named =
       let e : r ≡ q = some_same r q t.remote is_r is_q in
       let a = old_named own q b at (sym remote ∙ has_it) b.near refl event.origin (sym from ∙ sym same ∙ point) in
@@ -297,18 +330,22 @@ module _ (network : Network) (put arrived toward put_then arrived_then : ℕ →
       let d = unnamed q (by_names_true t.near q event.message (ap (λ (n : ℕ). names_by t.near n event.message) (sym e) ∙ named)) in
       absurd (omega arith)
 
-  away_was : (key own with_own q : ℕ) (s t : Section) → Was key own s → Was key with_own t → s.remote ≡ Some q → t.remote ≡ Some q → s.point ≡ t.point → own ≡ with_own
+  away_was : (key own with_own q : ℕ) (s t : Section) → Was key own s → Was key with_own t → s.remote ≡ Some q → t.remote ≡ Some q
+      → s.point ≡ t.point → own ≡ with_own
   away_was key own with_own q s t (Old a a_at a_near a_point a_remote) (Old b b_at b_near b_point b_remote) x y z =
       holds.away own with_own q a b a_at b_at (sym a_remote ∙ x) (sym b_remote ∙ y) (sym a_point ∙ z ∙ b_point)
-  away_was key own with_own q s t (Old a a_at a_near a_point a_remote) (New r is remote point named) x y z = absurd (clash own r q s a t a_at a_point a_remote x remote y point z named)
-  away_was key own with_own q s t (New r is remote point named) (Old b b_at b_near b_point b_remote) x y z = absurd (clash with_own r q t b s b_at b_point b_remote y remote x point (sym z) named)
+  away_was key own with_own q s t (Old a a_at a_near a_point a_remote) (New r is remote point named) x y z =
+      absurd (clash own r q s a t a_at a_point a_remote x remote y point z named)
+  away_was key own with_own q s t (New r is remote point named) (Old b b_at b_near b_point b_remote) x y z =
+      absurd (clash with_own r q t b s b_at b_point b_remote y remote x point (sym z) named)
   away_was key own with_own q s t (New r is remote point named) (New r' is' remote' point' named') x y z = is ∙ sym is'
   away_was key own with_own q s t (Blank none) w x y z = absurd (none_some q s.remote none x)
   away_was key own with_own q s t (Old a a_at a_near a_point a_remote) (Blank none) x y z = absurd (none_some q t.remote none y)
   away_was key own with_own q s t (New r is remote point named) (Blank none) x y z = absurd (none_some q t.remote none y)
 
   away_then : Turn m.sections event → AreApart (coupled m.sections event).sections
-  away_then t own with_own q s u s_at u_at x y z = let w = was t in away_was w.0 own with_own q s u (w.1 own s s_at) (w.1 with_own u u_at) x y z
+  away_then t own with_own q s u s_at u_at x y z = let w = was t in away_was w.0 own with_own q s u (w.1 own s s_at)
+      (w.1 with_own u u_at) x y z
 
   data_named_then : Turn m.sections event → (to q : ℕ) → 0 < number (carries q) (put_then to) → 0 < number (names q) (arrived_then to)
   data_named_then t to q h =
@@ -317,7 +354,8 @@ module _ (network : Network) (put arrived toward put_then arrived_then : ℕ →
       ⊎_elim
       (λ (old : number (carries q) (put to) ≡ 0).
       let d = data_sent m.sections event t to q (omega arith) in
-      let b = subst (λ (n : ℕ). 0 < number (names_by d.section.near q) (arrived n)) d.point (holds.remote_named d.own q d.section d.at d.remote) in
+      let b = subst (λ (n : ℕ). 0 < number (names_by d.section.near q) (arrived n)) d.point
+      (holds.remote_named d.own q d.section d.at d.remote) in
       let c = by_names d.section.near q (arrived to) in
       omega arith)
       (λ (old : 0 < number (carries q) (put to)). let b = holds.data_named to q old in omega arith)
@@ -332,24 +370,31 @@ module _ (network : Network) (put arrived toward put_then arrived_then : ℕ →
       (λ (old : 0 < number (answers q) (put to)). let b = holds.answers_named to q old in omega arith)
       (zero_or (number (answers q) (put to)))
     where
-      go : Turn m.sections event → 0 < number (answers q) (messages_to to (coupled m.sections event).sent) → 0 < number (requests q) (arrived to)
-      go (Plain none unheard plain loses) k = let b = plain_none (answers q) (answers_plain q) to (coupled m.sections event).sent plain in absurd (omega arith)
-      go (PassesOn dlr more payload is after) k = let b = only_data (answers q) (λ d x y. refl) m.sections event dlr more payload is to in absurd (omega arith)
+      go : Turn m.sections event → 0 < number (answers q) (messages_to to (coupled m.sections event).sent)
+          → 0 < number (requests q) (arrived to)
+      go (Plain none unheard plain loses) k = let b = plain_none (answers q) (answers_plain q) to
+          (coupled m.sections event).sent plain in absurd (omega arith)
+      go (PassesOn dlr more payload is after) k = let b =
+          only_data (answers q) (λ d x y. refl) m.sections event dlr more payload is to in absurd (omega arith)
       go (Requests slr class point called params called_on params_on is after sent) k =
           let b = ap (λ (x : List Answer). number (answers q) (messages_to to x)) sent in
           let c = to_point_none (answers q) point to (messages.Cr (second_new m.sections) class called_on params_on) refl in
           absurd (omega arith)
       go (Confirms dlr slr class o r params u n is u_at u_from u_far u_none u_other n_at n_near n_other n_remote after sent) k =
-          let b = to_point_some (answers q) n.point to (messages.Cc r o class params) (subst (λ (x : List Answer). 0 < number (answers q) (messages_to to x)) sent k) in
+          let b = to_point_some (answers q) n.point to (messages.Cc r o class params)
+          (subst (λ (x : List Answer). 0 < number (answers q) (messages_to to x)) sent k) in
           let remote : n.remote ≡ Some q = n_remote ∙ ap (λ (x : ℕ). Some x) (eqb-true r q b.1) in
-          subst (λ (x : ℕ). 0 < number (requests q) (arrived x)) b.0 (subst (λ (y : Bool). 0 < number (names_by y q) (arrived n.point)) n_near (holds.remote_named o q n n_at remote))
+          subst (λ (x : ℕ). 0 < number (requests q) (arrived x)) b.0
+          (subst (λ (y : Bool). 0 < number (names_by y q) (arrived n.point)) n_near (holds.remote_named o q n n_at remote))
 
-  data_answered_then : Turn m.sections event → (to q : ℕ) → is_node network to ≡ true → number (has_near q) (pairs to) ≡ 0 → early q (put_then to) ≡ []
+  data_answered_then : Turn m.sections event → (to q : ℕ) → is_node network to ≡ true → number (has_near q) (pairs to) ≡ 0
+      → early q (put_then to) ≡ []
   data_answered_then t to q is none =
       let old : early q (put to) ≡ [] = holds.data_answered to q is none in
       ap (early q) (takes.sends to)
       ∙ ⊎_elim
-      (λ (e : number (carries q) (messages_to to (coupled m.sections event).sent) ≡ 0). early_quiet q (put to) (messages_to to (coupled m.sections event).sent) e ∙ old)
+      (λ (e : number (carries q) (messages_to to (coupled m.sections event).sent) ≡ 0). early_quiet q (put to)
+      (messages_to to (coupled m.sections event).sent) e ∙ old)
       (λ (some : 0 < number (carries q) (messages_to to (coupled m.sections event).sent)).
       let d = data_sent m.sections event t to q some in
       early_more q (put to) (messages_to to (coupled m.sections event).sent) (sent_answer d) ∙ old)
@@ -368,26 +413,31 @@ module _ (network : Network) (put arrived toward put_then arrived_then : ℕ →
           subst (λ (n : ℕ). 0 < number (answers q) (put n)) d.point (st.confirmed d.from_remote q d.remote))
           (λ (far : d.section.near ≡ false).
           let b = holds.remote_named d.own q d.section d.at d.remote in
-          let c : 0 < number (confirms q) (arrived to) = subst (λ (n : ℕ). 0 < number (confirms q) (arrived n)) d.point (subst (λ (y : Bool). 0 < number (names_by y q) (arrived d.section.point)) far b) in
+          let c : 0 < number (confirms q) (arrived to) = subst (λ (n : ℕ). 0 < number (confirms q) (arrived n)) d.point
+          (subst (λ (y : Bool). 0 < number (names_by y q) (arrived d.section.point)) far b) in
           let e = arrived_few (confirms q) to in
           let f = peers.confirmed to q is (omega arith) in
           absurd (omega arith))
           (cases_Bool d.section.near)
 
   -- a side of a pair that is still there
-  sent_side : (own other : ℕ) (s : Section) (q : ℕ) (old : List Piece) → section_at m.sections own ≡ Some s → s.remote ≡ Some q → s.other ≡ Some other → old ≡ pieces_for (Some q) (put s.point) →
+  sent_side : (own other : ℕ) (s : Section) (q : ℕ) (old : List Piece) → section_at m.sections own ≡ Some s → s.remote ≡ Some q
+      → s.other ≡ Some other → old ≡ pieces_for (Some q) (put s.point) →
       (point : ℕ) → point ≡ s.point → old ++ sent_in m.sections own other event ≡ pieces_for (Some q) (put_then point)
   sent_side own other s q old at has_it joined before point same =
       let sent : List Answer = (coupled m.sections event).sent in
       let new : sent_in m.sections own other event ≡ pieces_for (Some q) (messages_to s.point sent) =
-      sends_for m.sections holds.away own other s q at has_it joined (λ d o t u a b c. mutual_at m.sections holds.kept.coupling d o t u a b c) event in
+      sends_for m.sections holds.away own other s q at has_it joined
+      (λ d o t u a b c. mutual_at m.sections holds.kept.coupling d o t u a b c) event in
       ap (λ (x : List Piece). x ++ sent_in m.sections own other event) before
       ∙ ap (λ (x : List Piece). pieces_for (Some q) (put s.point) ++ x) new
       ∙ sym (filter_map-append (piece_for (Some q)) (put s.point) (messages_to s.point sent))
       ∙ sym (ap (pieces_for (Some q)) (takes.sends s.point))
       ∙ ap (λ (n : ℕ). pieces_for (Some q) (put_then n)) (sym same)
 
-  passed_side : (own : ℕ) (s : Section) (old : List Piece) → section_at m.sections own ≡ Some s → (s.point ≡ event.origin → carries own event.message ≡ true → is_open m.sections (section_at m.sections own) ≡ true) → old ≡ pieces_for (Some own) (arrived s.point) →
+  passed_side : (own : ℕ) (s : Section) (old : List Piece) → section_at m.sections own ≡ Some s
+      → (s.point ≡ event.origin → carries own event.message ≡ true → is_open m.sections (section_at m.sections own) ≡ true)
+      → old ≡ pieces_for (Some own) (arrived s.point) →
       (point : ℕ) → point ≡ s.point → old ++ passed_in m.sections own event ≡ pieces_for (Some own) (arrived_then point)
   passed_side own s old at opened before point same =
       ap (λ (x : List Piece). x ++ passed_in m.sections own event) before
@@ -406,7 +456,8 @@ module _ (network : Network) (put arrived toward put_then arrived_then : ℕ →
       ∙ ap (λ (n : ℕ). pieces_for (Some own) (arrived_then n)) (sym same)
 
   -- A DT1 from a relay finds the pair established.
-  far_remote_near : (p : Pair) (s t : Section) → 0 < number (has_near p.near) m.pairs → StretchFor network put arrived p s t → is_node network event.origin ≡ true → carries p.near event.message ≡ true → t.remote ≢ None
+  far_remote_near : (p : Pair) (s t : Section) → 0 < number (has_near p.near) m.pairs → StretchFor network put arrived p s t
+      → is_node network event.origin ≡ true → carries p.near event.message ≡ true → t.remote ≢ None
   far_remote_near p s t counted st inner is none =
       let a = queued (carries p.near) in
       let b = one_of (carries p.near) event.message is in
@@ -417,39 +468,52 @@ module _ (network : Network) (put arrived toward put_then arrived_then : ℕ →
       let g = few p.near in
       absurd (omega arith)
 
-  far_remote_far : (p : Pair) (s t : Section) → 0 < number (has_far p.far) m.pairs → StretchFor network put arrived p s t → t.point ≡ event.origin → is_node network event.origin ≡ true → carries p.far event.message ≡ true → t.remote ≢ None
+  far_remote_far : (p : Pair) (s t : Section) → 0 < number (has_far p.far) m.pairs → StretchFor network put arrived p s t
+      → t.point ≡ event.origin → is_node network event.origin ≡ true → carries p.far event.message ≡ true → t.remote ≢ None
   far_remote_far p s t counted st from inner is none =
       let g = few p.far in
       let nears : number (has_near p.far) m.pairs ≡ 0 = omega arith in
       let e : early p.far (toward event.origin) ≡ [] = peers.data_answered event.origin p.far inner nears in
-      let a : number (answers p.far) (arrived event.origin) ≡ 0 = sym (ap (λ (n : ℕ). number (answers p.far) (arrived n)) from) ∙ st.unanswered (ap (is_node network) from ∙ inner) none in
+      let a : number (answers p.far) (arrived event.origin) ≡ 0 = sym (ap (λ (n : ℕ). number (answers p.far) (arrived n)) from)
+      ∙ st.unanswered (ap (is_node network) from ∙ inner) none in
       early_first p.far (arrived event.origin) event.message takes.rest a is (sym (ap (early p.far) takes.queue) ∙ e)
 
   near_remote : (own : ℕ) (s : Section) → section_at m.sections own ≡ Some s → s.near ≡ true → s.remote ≢ None
   near_remote own s at near = holds.kept.coupling.near_has_remote own s at near
 
-  old_stretch : Turn m.sections event → (p : Pair) (s t near_now far_now : Section) → p.stands ≡ true → 0 < number (has_near p.near) m.pairs → 0 < number (has_far p.far) m.pairs →
-      section_at m.sections p.near ≡ Some s → section_at m.sections p.far ≡ Some t → s.other ≡ Some p.far → t.other ≡ Some p.near → s.near ≡ true → t.near ≡ false → StretchFor network put arrived p s t →
-      SidesAfter m.sections event p s t near_now far_now → StretchFor network put_then arrived_then (grown m.sections event p) near_now far_now
+  old_stretch : Turn m.sections event → (p : Pair) (s t near_now far_now : Section) → p.stands ≡ true → 0 < number (has_near p.near) m.pairs
+      → 0 < number (has_far p.far) m.pairs →
+      section_at m.sections p.near ≡ Some s → section_at m.sections p.far ≡ Some t → s.other ≡ Some p.far → t.other ≡ Some p.near
+      → s.near ≡ true → t.near ≡ false → StretchFor network put arrived p s t →
+      SidesAfter m.sections event p s t near_now far_now
+      → StretchFor network put_then arrived_then (grown m.sections event p) near_now far_now
   old_stretch turned p s t near_now far_now stands near_counted far_counted s_at t_at s_other t_other s_near t_far st sides =
       let sent : List Answer = (coupled m.sections event).sent in
       record {
-        near_sent = λ q h. sent_side p.near p.far s q p.sent_near s_at (sym sides.near_remote ∙ h) s_other (st.near_sent q (sym sides.near_remote ∙ h)) near_now.point sides.near_point;
+        near_sent = λ q h. sent_side p.near p.far s q p.sent_near s_at (sym sides.near_remote
+            ∙ h) s_other (st.near_sent q (sym sides.near_remote ∙ h)) near_now.point sides.near_point;
         far_sent = λ q h. far_sent_by sides.far_remote q h;
         far_unsent = λ h. far_unsent_by sides.far_remote h;
         near_passed = λ inner. passed_side p.near s p.passed_near s_at
-            (λ from is. opens m.sections p.near p.far s t s_at s_other t_at (near_remote p.near s s_at s_near) (far_remote_near p s t near_counted st (ap (is_node network) (sym from ∙ sym sides.near_point) ∙ inner) is))
+            (λ from is. opens m.sections p.near p.far s t s_at s_other t_at (near_remote p.near s s_at s_near)
+            (far_remote_near p s t near_counted st (ap (is_node network) (sym from ∙ sym sides.near_point) ∙ inner) is))
             (st.near_passed (ap (is_node network) (sym sides.near_point) ∙ inner)) near_now.point sides.near_point;
         far_passed = λ inner. passed_side p.far t p.passed_far t_at
-            (λ from is. opens m.sections p.far p.near t s t_at t_other s_at (far_remote_far p s t far_counted st from (ap (is_node network) (sym from ∙ sym sides.far_point) ∙ inner) is) (near_remote p.near s s_at s_near))
+            (λ from is. opens m.sections p.far p.near t s t_at t_other s_at
+            (far_remote_far p s t far_counted st from (ap (is_node network) (sym from ∙ sym sides.far_point) ∙ inner) is)
+            (near_remote p.near s s_at s_near))
             (st.far_passed (ap (is_node network) (sym sides.far_point) ∙ inner)) far_now.point sides.far_point;
         unconfirmed = λ h to. unconfirmed_by sides.far_remote h to;
-        confirmed = λ h r k. subst (λ (n : ℕ). 0 < number (answers r) (put_then n)) (sym sides.near_point) (confirmed_by sides.far_remote h r (sym sides.near_remote ∙ k));
-        unanswered = λ inner h. subst (λ (n : ℕ). number (answers p.far) (arrived_then n) ≡ 0) (sym sides.far_point) (unanswered_by sides.far_remote (ap (is_node network) (sym sides.far_point) ∙ inner) h);
+        confirmed = λ h r k. subst (λ (n : ℕ). 0 < number (answers r) (put_then n)) (sym sides.near_point)
+            (confirmed_by sides.far_remote h r (sym sides.near_remote ∙ k));
+        unanswered = λ inner h. subst (λ (n : ℕ). number (answers p.far) (arrived_then n) ≡ 0) (sym sides.far_point)
+            (unanswered_by sides.far_remote (ap (is_node network) (sym sides.far_point) ∙ inner) h);
       }
     where
-      far_sent_by : PairAfter m.sections event p s t far_now → (q : ℕ) → far_now.remote ≡ Some q → p.sent_far ++ sent_in m.sections p.far p.near event ≡ pieces_for (Some q) (put_then far_now.point)
-      far_sent_by (Same same unsaid unheard) q h = sent_side p.far p.near t q p.sent_far t_at (sym same ∙ h) t_other (st.far_sent q (sym same ∙ h)) far_now.point sides.far_point
+      far_sent_by : PairAfter m.sections event p s t far_now → (q : ℕ) → far_now.remote ≡ Some q
+          → p.sent_far ++ sent_in m.sections p.far p.near event ≡ pieces_for (Some q) (put_then far_now.point)
+      far_sent_by (Same same unsaid unheard) q h = sent_side p.far p.near t q p.sent_far t_at (sym same
+          ∙ h) t_other (st.far_sent q (sym same ∙ h)) far_now.point sides.far_point
       far_sent_by (Gains slr class r params is from none now remote sent) q h =
           let e : slr ≡ q = some_same slr q far_now.remote now h in
           let named : names q event.message ≡ true = ap (names q) is ∙ eq-eqb slr q e in
@@ -463,15 +527,18 @@ module _ (network : Network) (put arrived toward put_then arrived_then : ℕ →
           ∙ sym (no_pieces q (put_then event.origin) zero_there)
           ∙ ap (λ (n : ℕ). pieces_for (Some q) (put_then n)) (sym from ∙ sym sides.far_point)
 
-      far_unsent_by : PairAfter m.sections event p s t far_now → far_now.remote ≡ None → p.sent_far ++ sent_in m.sections p.far p.near event ≡ []
+      far_unsent_by : PairAfter m.sections event p s t far_now → far_now.remote ≡ None
+          → p.sent_far ++ sent_in m.sections p.far p.near event ≡ []
       far_unsent_by (Same same unsaid unheard) h =
           ap (λ (x : List Piece). x ++ sent_in m.sections p.far p.near event) (st.far_unsent (sym same ∙ h))
           ∙ ap (λ (o : Option Section). cond (knows m.sections p.near event) (pieces_toward o (coupled m.sections event).sent) []) t_at
-          ∙ ap (λ (x : List Piece). cond (knows m.sections p.near event) x []) (toward_none t (coupled m.sections event).sent (sym same ∙ h))
+          ∙ ap (λ (x : List Piece). cond (knows m.sections p.near event) x [])
+          (toward_none t (coupled m.sections event).sent (sym same ∙ h))
           ∙ elim (knows m.sections p.near event) as (λ b. cond {A = List Piece} b [] [] ≡ []) [ true ↦ refl | false ↦ refl ]
       far_unsent_by (Gains slr class r params is from none now remote sent) h = absurd (none_some slr far_now.remote h now)
 
-      unconfirmed_by : PairAfter m.sections event p s t far_now → far_now.remote ≡ None → (to : ℕ) → number (confirms p.near) (put_then to) ≡ 0
+      unconfirmed_by : PairAfter m.sections event p s t far_now → far_now.remote ≡ None → (to : ℕ)
+          → number (confirms p.near) (put_then to) ≡ 0
       unconfirmed_by (Same same unsaid unheard) h to =
           let a = put_more (confirms p.near) to in
           let b = st.unconfirmed (sym same ∙ h) to in
@@ -479,7 +546,8 @@ module _ (network : Network) (put arrived toward put_then arrived_then : ℕ →
           omega arith
       unconfirmed_by (Gains slr class r params is from none now remote sent) h to = absurd (none_some slr far_now.remote h now)
 
-      confirmed_by : PairAfter m.sections event p s t far_now → far_now.remote ≢ None → (r : ℕ) → s.remote ≡ Some r → 0 < number (answers r) (put_then s.point)
+      confirmed_by : PairAfter m.sections event p s t far_now → far_now.remote ≢ None → (r : ℕ) → s.remote ≡ Some r
+          → 0 < number (answers r) (put_then s.point)
       confirmed_by (Same same unsaid unheard) h r k =
           let a = put_more (answers r) s.point in
           let b = st.confirmed (λ e. h (same ∙ e)) r k in
@@ -489,11 +557,13 @@ module _ (network : Network) (put arrived toward put_then arrived_then : ℕ →
           let a = put_more (answers r) s.point in
           let b = ap (λ (x : List Answer). number (answers r) (messages_to s.point x)) sent in
           let c = ap (number (answers r)) (to_point s.point s.point (messages.Cc r' p.near class params)) in
-          let d = ap (λ (y : Bool). number (answers r) (cond y (messages.Cc r' p.near class params ∷ []) [])) (eq-eqb s.point s.point refl) in
+          let d = ap (λ (y : Bool). number (answers r) (cond y (messages.Cc r' p.near class params ∷ []) []))
+          (eq-eqb s.point s.point refl) in
           let f = one_of (answers r) (messages.Cc r' p.near class params) (eq-eqb r' r e) in
           omega arith
 
-      unanswered_by : PairAfter m.sections event p s t far_now → is_node network t.point ≡ true → far_now.remote ≡ None → number (answers p.far) (arrived_then t.point) ≡ 0
+      unanswered_by : PairAfter m.sections event p s t far_now → is_node network t.point ≡ true → far_now.remote ≡ None
+          → number (answers p.far) (arrived_then t.point) ≡ 0
       unanswered_by (Same same unsaid unheard) inner h =
           let old = st.unanswered inner (sym same ∙ h) in
           ⊎_elim
@@ -508,7 +578,8 @@ module _ (network : Network) (put arrived toward put_then arrived_then : ℕ →
       unanswered_by (Gains slr class r params is from none now remote sent) inner h = absurd (none_some slr far_now.remote h now)
 
   -- the pair that a CR makes
-  not_given : (own to : ℕ) → 0 < number (has_near own) (made m.sections event) + number (has_far own) (made m.sections event) → number (names own) (put to) ≡ 0
+  not_given : (own to : ℕ) → 0 < number (has_near own) (made m.sections event) + number (has_far own) (made m.sections event)
+      → number (names own) (put to) ≡ 0
   not_given own to h =
       let a = few own in
       let b = holds.requested to own in
@@ -519,7 +590,8 @@ module _ (network : Network) (put arrived toward put_then arrived_then : ℕ →
       (zero_or (number (confirms own) (put to)))
 
   -- no DT1 is for a reference that was not given
-  no_data_for : (own from : ℕ) → 0 < number (has_near own) (made m.sections event) + number (has_far own) (made m.sections event) → is_node network from ≡ true → number (carries own) (arrived from) ≡ 0
+  no_data_for : (own from : ℕ) → 0 < number (has_near own) (made m.sections event) + number (has_far own) (made m.sections event)
+      → is_node network from ≡ true → number (carries own) (arrived from) ≡ 0
   no_data_for own from h inner =
       let a = not_given own from h in
       let b = arrived_few (carries own) from in
@@ -528,7 +600,8 @@ module _ (network : Network) (put arrived toward put_then arrived_then : ℕ →
       (λ (e : 0 < number (carries own) (arrived from)). let c = peers.data_named from own inner (omega arith) in absurd (omega arith))
       (zero_or (number (carries own) (arrived from)))
 
-  no_answer_for : (own from : ℕ) → 0 < number (has_near own) (made m.sections event) + number (has_far own) (made m.sections event) → is_node network from ≡ true → number (answers own) (arrived from) ≡ 0
+  no_answer_for : (own from : ℕ) → 0 < number (has_near own) (made m.sections event) + number (has_far own) (made m.sections event)
+      → is_node network from ≡ true → number (answers own) (arrived from) ≡ 0
   no_answer_for own from h inner =
       let a = not_given own from h in
       let b = arrived_few (answers own) from in
@@ -551,22 +624,27 @@ module _ (network : Network) (put arrived toward put_then arrived_then : ℕ →
       (λ (n : from ≡ event.origin → ⊥). ap (number p) (takes.elsewhere from n) ∙ old)
       (cases_eq from event.origin)
 
-  new_stretch : (slr class point : ℕ) (called : Address) (params : List Parameter) (called_on : Address) (params_on : List Parameter) → event.message ≡ messages.Cr slr class called params →
+  new_stretch : (slr class point : ℕ) (called : Address) (params : List Parameter) (called_on : Address) (params_on : List Parameter)
+      → event.message ≡ messages.Cr slr class called params →
       (coupled m.sections event).sections ≡ with_pair (first_new m.sections) (second_new m.sections) event.origin slr point m.sections →
       (coupled m.sections event).sent ≡ to_one point (messages.Cr (second_new m.sections) class called_on params_on) →
-      (s t : Section) → section_at (coupled m.sections event).sections (first_new m.sections) ≡ Some s → section_at (coupled m.sections event).sections (second_new m.sections) ≡ Some t →
+      (s t : Section) → section_at (coupled m.sections event).sections (first_new m.sections) ≡ Some s
+      → section_at (coupled m.sections event).sections (second_new m.sections) ≡ Some t →
       StretchFor network put_then arrived_then (new_pair (first_new m.sections) (second_new m.sections)) s t
   new_stretch slr class point called params called_on params_on is after sent s t s_at t_at =
       let near : ℕ = first_new m.sections in
       let far : ℕ = second_new m.sections in
       let made_is = made_one m.sections event event.origin slr point (kept_happens m event holds.kept).coupling after in
-      let s_is : near_new near far event.origin slr ≡ s = let a = near_stands m.sections near far event.origin slr point (fresh m.sections) in let b = sym (ap (λ (x : List Section). section_at x near) after) ∙ s_at in cc in
-      let t_is : far_new near far point ≡ t = let a = far_stands m.sections near far event.origin slr point (fresh m.sections) in let b = sym (ap (λ (x : List Section). section_at x far) after) ∙ t_at in cc in
+      let s_is : near_new near far event.origin slr ≡ s = let a = near_stands m.sections near far event.origin slr point
+      (fresh m.sections) in let b = sym (ap (λ (x : List Section). section_at x near) after) ∙ s_at in cc in
+      let t_is : far_new near far point ≡ t = let a = far_stands m.sections near far event.origin slr point (fresh m.sections) in let b =
+      sym (ap (λ (x : List Section). section_at x far) after) ∙ t_at in cc in
       let s_point : s.point ≡ event.origin = ap (λ (x : Section). x.point) (sym s_is) in
       let s_remote : s.remote ≡ Some slr = ap (λ (x : Section). x.remote) (sym s_is) in
       let t_remote : t.remote ≡ None = ap (λ (x : Section). x.remote) (sym t_is) in
       let near_made : 0 < number (has_near near) (made m.sections event) + number (has_far near) (made m.sections event) =
-      let a = ap (number (has_near near)) made_is in let b = one_of (has_near near) (new_pair near far) (eq-eqb near near refl) in omega arith in
+      let a = ap (number (has_near near)) made_is in let b =
+      one_of (has_near near) (new_pair near far) (eq-eqb near near refl) in omega arith in
       let far_made : 0 < number (has_near far) (made m.sections event) + number (has_far far) (made m.sections event) =
       let a = ap (number (has_far far)) made_is in let b = one_of (has_far far) (new_pair near far) (eq-eqb far far refl) in omega arith in
       let message : Message = messages.Cr far class called_on params_on in
@@ -582,8 +660,10 @@ module _ (network : Network) (put arrived toward put_then arrived_then : ℕ →
             sym (no_pieces q (put_then event.origin) zero_there) ∙ ap (λ (n : ℕ). pieces_for (Some q) (put_then n)) (sym s_point);
         far_sent = λ q h. absurd (none_some q t.remote t_remote h);
         far_unsent = λ h. refl;
-        near_passed = λ inner. sym (no_pieces near (arrived_then s.point) (still_none (carries near) s.point (no_data_for near s.point near_made inner) (ap (carries near) is)));
-        far_passed = λ inner. sym (no_pieces far (arrived_then t.point) (still_none (carries far) t.point (no_data_for far t.point far_made inner) (ap (carries far) is)));
+        near_passed = λ inner. sym (no_pieces near (arrived_then s.point)
+            (still_none (carries near) s.point (no_data_for near s.point near_made inner) (ap (carries near) is)));
+        far_passed = λ inner. sym (no_pieces far (arrived_then t.point)
+            (still_none (carries far) t.point (no_data_for far t.point far_made inner) (ap (carries far) is)));
         unconfirmed = λ h to.
             let a = put_more (confirms near) to in
             let b = not_given near to near_made in
@@ -596,40 +676,52 @@ module _ (network : Network) (put arrived toward put_then arrived_then : ℕ →
       }
 
   -- each pair that is there afterwards
-  carried_stands : Turn m.sections event → (p : Pair) → IsFair m.sections p × ((0 < number (has_near p.near) m.pairs) × (0 < number (has_far p.far) m.pairs)) × StandsFor network put arrived m p →
+  carried_stands : Turn m.sections event → (p : Pair) → IsFair m.sections p
+      × ((0 < number (has_near p.near) m.pairs) × (0 < number (has_far p.far) m.pairs)) × StandsFor network put arrived m p →
       StandsFor network put_then arrived_then (happens m event) (carried m.sections event p)
   carried_stands turned p known =
       elim p.stands as (λ b. p.stands ≡ b → StandsFor network put_then arrived_then (happens m event) (cond b (grown m.sections event p) p)) [
         | true ↦ λ stands s t joined s_at t_at.
             let j = known.0.joined stands in
-            let parts = and_parts (is_half p.far true (section_at m.sections p.near)) (is_half p.near false (section_at m.sections p.far)) j in
+            let parts = and_parts (is_half p.far true (section_at m.sections p.near))
+            (is_half p.near false (section_at m.sections p.far)) j in
             let a = joined_parts m.sections p.near p.far j in
             let near = half_is (section_at m.sections p.near) a.near_section p.far true parts.0 a.near_at in
             let far = half_is (section_at m.sections p.far) a.far_section p.near false parts.1 a.far_at in
             let t_far : a.far_section.near ≡ false = not-true a.far_section.near far.1 in
-            old_stretch turned p a.near_section a.far_section s t stands known.1.0 known.1.1 a.near_at a.far_at near.0 far.0 near.1 t_far (known.2 a.near_section a.far_section stands a.near_at a.far_at)
+            old_stretch turned p a.near_section a.far_section s t stands known.1.0 known.1.1 a.near_at a.far_at near.0 far.0 near.1 t_far
+            (known.2 a.near_section a.far_section stands a.near_at a.far_at)
             (sides_after m.sections event turned p a.near_section a.far_section s t a.near_at a.far_at near.0 far.0 near.1 t_far s_at t_at)
         | false ↦ λ fallen s t stands s_at t_at. true_false (sym stands ∙ fallen)
       ] refl
 
   made_stands : Turn m.sections event → Each (StandsFor network put_then arrived_then (happens m event)) (made m.sections event)
-  made_stands (Plain none unheard plain loses) = subst (Each (StandsFor network put_then arrived_then (happens m event))) (sym (made_none m.sections event (λ q t h. let b = loses q t h in (b.0, b.1)))) tt
-  made_stands (PassesOn dlr more payload is after) = subst (Each (StandsFor network put_then arrived_then (happens m event))) (sym (made_none m.sections event (λ q t h. (t, sym (ap (λ (x : List Section). section_at x q) after) ∙ h)))) tt
+  made_stands (Plain none unheard plain loses) = subst (Each (StandsFor network put_then arrived_then (happens m event)))
+      (sym (made_none m.sections event (λ q t h. let b = loses q t h in (b.0, b.1)))) tt
+  made_stands (PassesOn dlr more payload is after) = subst (Each (StandsFor network put_then arrived_then (happens m event)))
+      (sym (made_none m.sections event (λ q t h. (t, sym (ap (λ (x : List Section). section_at x q) after) ∙ h)))) tt
   made_stands (Requests slr class point called params called_on params_on is after sent) =
-      subst (Each (StandsFor network put_then arrived_then (happens m event))) (sym (made_one m.sections event event.origin slr point (kept_happens m event holds.kept).coupling after))
+      subst (Each (StandsFor network put_then arrived_then (happens m event)))
+      (sym (made_one m.sections event event.origin slr point (kept_happens m event holds.kept).coupling after))
       (λ s t stands s_at t_at. new_stretch slr class point called params called_on params_on is after sent s t s_at t_at, tt)
   made_stands (Confirms dlr slr class o r params u n is u_at u_from u_far u_none u_other n_at n_near n_other n_remote after sent) =
       subst (Each (StandsFor network put_then arrived_then (happens m event))) (sym (made_none m.sections event (λ q t h.
       ⊎_elim
-      (λ (x : (v : Section) × (q ≡ dlr) × (section_at m.sections dlr ≡ Some v) × (t ≡ confirmed slr v)). (x.0, ap (section_at m.sections) x.1 ∙ x.2))
+      (λ (x : (v : Section) × (q ≡ dlr) × (section_at m.sections dlr ≡ Some v) × (t ≡ confirmed slr v)).
+      (x.0, ap (section_at m.sections) x.1 ∙ x.2))
       (λ (x : (q ≡ dlr → ⊥) × (section_at m.sections q ≡ Some t)). (t, x.1))
       (changed_cases (confirmed slr) (λ x. refl) m.sections dlr q t (sym (ap (λ (x : List Section). section_at x q) after) ∙ h))))) tt
 
   stretches_then : Turn m.sections event → Each (StandsFor network put_then arrived_then (happens m event)) (happens m event).pairs
   stretches_then turned =
-      Each-append (StandsFor network put_then arrived_then (happens m event)) (map (carried m.sections event) m.pairs) (made m.sections event)
-      (Each-map (λ (p : Pair). IsFair m.sections p × ((0 < number (has_near p.near) m.pairs) × (0 < number (has_far p.far) m.pairs)) × StandsFor network put arrived m p) (StandsFor network put_then arrived_then (happens m event)) (carried m.sections event) (carried_stands turned) m.pairs
-      (Each-three (IsFair m.sections) (λ (p : Pair). (0 < number (has_near p.near) m.pairs) × (0 < number (has_far p.far) m.pairs)) (StandsFor network put arrived m) m.pairs (Each-All (IsFair m.sections) m.pairs holds.fair) (each_counted m.pairs) holds.stretches))
+      Each-append (StandsFor network put_then arrived_then (happens m event)) (map (carried m.sections event) m.pairs)
+      (made m.sections event)
+      (Each-map (λ (p : Pair). IsFair m.sections p × ((0 < number (has_near p.near) m.pairs) × (0 < number (has_far p.far) m.pairs))
+      × StandsFor network put arrived m p) (StandsFor network put_then arrived_then (happens m event)) (carried m.sections event)
+      (carried_stands turned) m.pairs
+      (Each-three (IsFair m.sections) (λ (p : Pair). (0 < number (has_near p.near) m.pairs) × (0 < number (has_far p.far) m.pairs))
+      (StandsFor network put arrived m) m.pairs (Each-All (IsFair m.sections) m.pairs holds.fair)
+      (each_counted m.pairs) holds.stretches))
       (made_stands turned)
 
   pub holds_then : HoldsFor network put_then arrived_then pairs (happens m event)

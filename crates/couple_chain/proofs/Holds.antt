@@ -45,7 +45,8 @@ pub record StretchFor (network : Network) (put arrived : ℕ → List Message) (
 
 abbrev pub StandsFor : Network → (ℕ → List Message) → (ℕ → List Message) → Moment → Pair → Type 0
 StandsFor network put arrived m p =
-    (s t : Section) → p.stands ≡ true → section_at m.sections p.near ≡ Some s → section_at m.sections p.far ≡ Some t → StretchFor network put arrived p s t
+    (s t : Section) → p.stands ≡ true → section_at m.sections p.near ≡ Some s → section_at m.sections p.far ≡ Some t
+    → StretchFor network put arrived p s t
 
 -- a relay, with the pairs of all relays
 pub record HoldsFor (network : Network) (put arrived : ℕ → List Message) (pairs : ℕ → List Pair) (m : Moment) : Type 0 where
@@ -53,7 +54,8 @@ pub record HoldsFor (network : Network) (put arrived : ℕ → List Message) (pa
   pub fair : All (IsFair m.sections) m.pairs
   pub requested : (to own : ℕ) → number (requests own) (put to) ≤ number (has_far own) m.pairs
   pub confirmed : (to own : ℕ) → 0 < number (confirms own) (put to) → 0 < number (has_near own) m.pairs
-  pub remote_named : (own q : ℕ) (s : Section) → section_at m.sections own ≡ Some s → s.remote ≡ Some q → 0 < number (names_by s.near q) (arrived s.point)
+  pub remote_named : (own q : ℕ) (s : Section) → section_at m.sections own ≡ Some s → s.remote ≡ Some q
+      → 0 < number (names_by s.near q) (arrived s.point)
   pub away : AreApart m.sections
   pub data_named : (to q : ℕ) → 0 < number (carries q) (put to) → 0 < number (names q) (arrived to)
   pub answers_named : (to q : ℕ) → 0 < number (answers q) (put to) → 0 < number (requests q) (arrived to)

@@ -35,10 +35,13 @@ given_happens m event =
     both_append (map (carried m.sections event) m.pairs) (made m.sections event)
     ∙ ap (λ (ns : List ℕ). ns ++ flat_map both_of (made m.sections event)) (both_carried m.sections event m.pairs)
 
-with_sections : (l : List Section) (event : Event) (r : Relaying) → r.sections ≡ l → relay_after r event ≡ relay_after (record { node = r.node; sections = l; passed = r.passed; given = r.given }) event
-with_sections l event r e = ap (λ (s : List Section). relay_after (record { node = r.node; sections = s; passed = r.passed; given = r.given }) event) e
+with_sections : (l : List Section) (event : Event) (r : Relaying) → r.sections ≡ l
+    → relay_after r event ≡ relay_after (record { node = r.node; sections = l; passed = r.passed; given = r.given }) event
+with_sections l event r e = ap (λ (s : List Section). relay_after
+    (record { node = r.node; sections = s; passed = r.passed; given = r.given }) event) e
 
-pub noted_happens : (m : Moment) (r : Relaying) (event : Event) → All (IsFair m.sections) m.pairs → IsNoted m r → IsNoted (happens m event) (relay_after r event)
+pub noted_happens : (m : Moment) (r : Relaying) (event : Event) → All (IsFair m.sections) m.pairs → IsNoted m r
+    → IsNoted (happens m event) (relay_after r event)
 noted_happens m r event fair is =
     subst (λ (x : Relaying). IsNoted (happens m event) x) (sym (with_sections m.sections event r is.sections))
     (record {
@@ -47,16 +50,20 @@ noted_happens m r event fair is =
       given_is = ap (λ (ns : List ℕ). ns ++ flat_map both_of (made m.sections event)) is.given_is ∙ sym (given_happens m event);
     })
 
-noted_run : (m : Moment) (r : Relaying) (events : List Event) → All (IsFair m.sections) m.pairs → IsNoted m r → IsNoted (run m events) (relay_run r events)
+noted_run : (m : Moment) (r : Relaying) (events : List Event) → All (IsFair m.sections) m.pairs → IsNoted m r
+    → IsNoted (run m events) (relay_run r events)
 noted_run m r [] fair is = is
-noted_run m r (event ∷ events) fair is = noted_run (happens m event) (relay_after r event) events (fair_happens m event fair) (noted_happens m r event fair is)
+noted_run m r (event ∷ events) fair is = noted_run (happens m event) (relay_after r event) events (fair_happens m event fair)
+    (noted_happens m r event fair is)
 
 pub noted : (node : ℕ) (events : List Event) → IsNoted (run start events) (relay_run (first_relay node) events)
 noted node events = noted_run start (first_relay node) events (fair_after []) (record { sections = refl; passed = tt; given_is = refl })
 
 -- a relay's notes, part by part
-pub stepped : (r : Relaying) (node : ℕ) (sections : List Section) (passed : List Passed) (gave : List ℕ) (event : Event) → node ≡ r.node → sections ≡ (coupled r.sections event).sections → passed ≡ log_after r.sections event r.passed →
-    gave ≡ r.given ++ flat_map both_of (made r.sections event) → record { node = node; sections = sections; passed = passed; given = gave } ≡ relay_after r event
+pub stepped : (r : Relaying) (node : ℕ) (sections : List Section) (passed : List Passed) (gave : List ℕ) (event : Event) → node ≡ r.node
+    → sections ≡ (coupled r.sections event).sections → passed ≡ log_after r.sections event r.passed →
+    gave ≡ r.given ++ flat_map both_of (made r.sections event)
+    → record { node = node; sections = sections; passed = passed; given = gave } ≡ relay_after r event
 stepped r node sections passed gave event a b c d =
     let kept : ℕ → List Section → List Passed → List ℕ → Relaying = λ n s p g. record { node = n; sections = s; passed = p; given = g } in
     ap (λ (n : ℕ). kept n sections passed gave) a

@@ -1,5 +1,6 @@
 -- what a relay's step puts on its links, and how much of it is counted
-use Rattle.std.specs.Prelude.{ℕ, ◌≡◌, ◌<◌, ◌≤◌, ◌==◌, Bool, true, false, cond, ◌&&◌, ◌||◌, List, [], ◌∷◌, length, filter, Option, Some, None, refl}
+use Rattle.std.specs.Prelude.{ℕ, ◌≡◌, ◌<◌, ◌≤◌, ◌==◌, Bool, true, false, cond, ◌&&◌, ◌||◌, List, [], ◌∷◌, length, filter, Option, Some}
+use Rattle.std.specs.Prelude.{None, refl}
 use Rattle.std.specs.List.{cons_option}
 use Rattle.std.proofs.Common.{sym, ◌∙◌, ap, subst, ⊎_elim, arith}
 use Rattle.std.proofs.lemmas.Bool.{eqb-true, and_parts}
@@ -40,20 +41,27 @@ to_point_few p point to m =
     omega arith
 
 -- only a message that passes the test counts, at the point that it goes to
-pub to_point_some : (p : Message → Bool) (point to : ℕ) (m : Message) → 0 < number p (messages_to to (to_one point m)) → (point ≡ to) × (p m ≡ true)
+pub to_point_some : (p : Message → Bool) (point to : ℕ) (m : Message) → 0 < number p (messages_to to (to_one point m))
+    → (point ≡ to) × (p m ≡ true)
 to_point_some p point to m h =
     let k : 0 < number p (cond (point == to) (m ∷ []) []) = subst (λ (l : List Message). 0 < number p l) (to_point point to m) h in
     elim (point == to) as (λ b. (point == to) ≡ b → 0 < number p (cond b (m ∷ []) []) → (point ≡ to) × (p m ≡ true)) [
-      | true ↦ λ e g. (eqb-true point to e, elim (p m) as (λ b. p m ≡ b → 0 < length (cond b (m ∷ []) []) → p m ≡ true) [ true ↦ λ f i. f | false ↦ λ f i. absurd (omega arith) ] refl g)
+      | true ↦ λ e g. (
+        eqb-true point to e,
+        elim (p m) as (λ b. p m ≡ b → 0 < length (cond b (m ∷ []) [])
+            → p m ≡ true) [ true ↦ λ f i. f | false ↦ λ f i. absurd (omega arith) ] refl g,
+      )
       | false ↦ λ e g. absurd (omega arith)
     ] refl k
 
 -- plain messages
-pub plain_none : (p : Message → Bool) → ((m : Message) → is_plain m ≡ true → p m ≡ false) → (to : ℕ) (sent : List Answer) → ArePlain sent → number p (messages_to to sent) ≡ 0
+pub plain_none : (p : Message → Bool) → ((m : Message) → is_plain m ≡ true → p m ≡ false) → (to : ℕ) (sent : List Answer) → ArePlain sent
+    → number p (messages_to to sent) ≡ 0
 plain_none p h to [] k = refl
 plain_none p h to (x ∷ xs) k =
     elim (x.to == to) as (λ b. number p (cons_option (cond b (Some x.message) None) (messages_to to xs)) ≡ 0) [
-      | true ↦ ap (λ (b : Bool). length (cond b (x.message ∷ filter p (messages_to to xs)) (filter p (messages_to to xs)))) (h x.message k.0) ∙ plain_none p h to xs k.1
+      | true ↦ ap (λ (b : Bool). length (cond b (x.message ∷ filter p (messages_to to xs)) (filter p (messages_to to xs))))
+          (h x.message k.0) ∙ plain_none p h to xs k.1
       | false ↦ plain_none p h to xs k.1
     ]
 
@@ -87,8 +95,10 @@ toward_parts point o to m ps ms h =
       | false ↦ h
     ] ∙ sym (ap (λ (d : Option Data). cons_option (piece_if point o to d) ps) none))
     (λ (some : (d : Data) × (data_of m ≡ Some d)).
-    elim (to == point) as (λ b. pieces_for o (cons_option (cond b (Some m) None) ms) ≡ cons_option (cond (b && is_that o some.0.dlr) (Some some.0.piece) None) ps) [
-      | true ↦ ap (λ (d : Option Data). cons_option (piece_if_for o d) (pieces_for o ms)) some.1 ∙ ap (λ (l : List Piece). cons_option (cond (is_that o some.0.dlr) (Some some.0.piece) None) l) h
+    elim (to == point) as (λ b. pieces_for o (cons_option (cond b (Some m) None) ms)
+    ≡ cons_option (cond (b && is_that o some.0.dlr) (Some some.0.piece) None) ps) [
+      | true ↦ ap (λ (d : Option Data). cons_option (piece_if_for o d) (pieces_for o ms)) some.1
+          ∙ ap (λ (l : List Piece). cons_option (cond (is_that o some.0.dlr) (Some some.0.piece) None) l) h
       | false ↦ h
     ] ∙ sym (ap (λ (d : Option Data). cons_option (piece_if point o to d) ps) some.1))
     (option_cases (data_of m))
@@ -99,7 +109,8 @@ toward_it s (x ∷ xs) = toward_parts s.point s.remote x.to x.message (pieces_to
 
 -- no DT1 goes toward a section without remote
 pub toward_none : (s : Section) (sent : List Answer) → s.remote ≡ None → pieces_toward (Some s) sent ≡ []
-toward_none s sent h = sym (toward_it s sent) ∙ ap (λ (o : Option ℕ). pieces_for o (messages_to s.point sent)) h ∙ nothing (messages_to s.point sent)
+toward_none s sent h = sym (toward_it s sent) ∙ ap (λ (o : Option ℕ). pieces_for o (messages_to s.point sent)) h
+    ∙ nothing (messages_to s.point sent)
   where
     step : (o : Option Data) → piece_if_for None o ≡ None
     step None = refl
@@ -110,27 +121,33 @@ toward_none s sent h = sym (toward_it s sent) ∙ ap (λ (o : Option ℕ). piece
     nothing (m ∷ ms) = rw (step (data_of m)) (nothing ms)
 
 -- If points and remotes differ, a DT1 goes only toward this section. So nothing goes toward another one.
-pub other_silent : (l : List Section) → AreApart l → (own other : ℕ) (s : Section) (q : ℕ) → section_at l own ≡ Some s → s.remote ≡ Some q → s.other ≡ Some other → ((d o : ℕ) (t u : Section) → section_at l d ≡ Some t → t.other ≡ Some o → section_at l o ≡ Some u → u.other ≡ Some d) →
+pub other_silent : (l : List Section) → AreApart l → (own other : ℕ) (s : Section) (q : ℕ) → section_at l own ≡ Some s → s.remote ≡ Some q
+    → s.other ≡ Some other → ((d o : ℕ) (t u : Section) → section_at l d ≡ Some t → t.other ≡ Some o → section_at l o ≡ Some u
+    → u.other ≡ Some d) →
     (event : Event) → knows l other event ≡ false → pieces_toward (Some s) (coupled l event).sent ≡ []
 other_silent l away own other s q at has_it joined paired event deaf =
-    by_kind (λ m. knows l other (with_message event m) ≡ false → pieces_toward (Some s) (coupled l (with_message event m)).sent ≡ []) event.message
+    by_kind (λ m. knows l other (with_message event m) ≡ false
+    → pieces_toward (Some s) (coupled l (with_message event m)).sent ≡ []) event.message
     (λ none k. quiet_toward (Some s) (coupled l event).sent (quiet l event.origin event.way event.message none))
     (λ dlr more payload k.
     ⊎_elim
     (λ (nothing : (coupled l (dt1 event.origin event.way dlr more payload)).sent ≡ []). ap (pieces_toward (Some s)) nothing)
     (λ (p : Passes l event.origin event.way dlr more payload).
     ap (pieces_toward (Some s)) p.sent
-    ∙ elim ((p.other_section.point == s.point) && is_that s.remote p.remote) as (λ b. ((p.other_section.point == s.point) && is_that s.remote p.remote) ≡ b → cons_option (cond b (Some (piece more payload)) None) [] ≡ []) [
+    ∙ elim ((p.other_section.point == s.point) && is_that s.remote p.remote) as (λ b. ((p.other_section.point == s.point)
+    && is_that s.remote p.remote) ≡ b → cons_option (cond b (Some (piece more payload)) None) [] ≡ []) [
       | true ↦ λ e.
           let parts = and_parts (p.other_section.point == s.point) (is_that s.remote p.remote) e in
           let same_point : p.other_section.point ≡ s.point = eqb-true p.other_section.point s.point parts.0 in
           let same_remote : q ≡ p.remote = eqb-true q p.remote (sym (ap (λ (o : Option ℕ). is_that o p.remote) has_it) ∙ parts.1) in
-          let same : p.other ≡ own = away p.other own q p.other_section s p.there at (p.has_it ∙ ap (λ (x : ℕ). Some x) (sym same_remote)) has_it same_point in
+          let same : p.other ≡ own = away p.other own q p.other_section s p.there at (p.has_it
+          ∙ ap (λ (x : ℕ). Some x) (sym same_remote)) has_it same_point in
           let at_own : section_at l own ≡ Some p.other_section = subst (λ (n : ℕ). section_at l n ≡ Some p.other_section) same p.there in
           let is : p.other_section ≡ s = let a = at in cc in
           let back : p.other_section.other ≡ Some dlr = paired dlr p.other p.section p.other_section p.at p.joined p.there in
           let d : dlr ≡ other = some_same dlr other s.other (ap (λ (x : Section). x.other) (sym is) ∙ back) joined in
-          let heard : knows l other (dt1 event.origin event.way dlr more payload) ≡ true = subst (λ (n : ℕ). knows l n (dt1 event.origin event.way dlr more payload) ≡ true) d p.known_here in
+          let heard : knows l other (dt1 event.origin event.way dlr more payload) ≡ true =
+          subst (λ (n : ℕ). knows l n (dt1 event.origin event.way dlr more payload) ≡ true) d p.known_here in
           true_false (sym heard ∙ k)
       | false ↦ λ e. refl
     ] refl)
@@ -141,7 +158,9 @@ other_silent l away own other s q at has_it joined paired event deaf =
     piece more payload = record { more = more; payload = payload }
 
 -- What a step sends with a section's point and remote is what it sends from the other section to this one.
-pub sends_for : (l : List Section) → AreApart l → (own other : ℕ) (s : Section) (q : ℕ) → section_at l own ≡ Some s → s.remote ≡ Some q → s.other ≡ Some other → ((d o : ℕ) (t u : Section) → section_at l d ≡ Some t → t.other ≡ Some o → section_at l o ≡ Some u → u.other ≡ Some d) →
+pub sends_for : (l : List Section) → AreApart l → (own other : ℕ) (s : Section) (q : ℕ) → section_at l own ≡ Some s → s.remote ≡ Some q
+    → s.other ≡ Some other → ((d o : ℕ) (t u : Section) → section_at l d ≡ Some t → t.other ≡ Some o → section_at l o ≡ Some u
+    → u.other ≡ Some d) →
     (event : Event) → sent_in l own other event ≡ pieces_for (Some q) (messages_to s.point (coupled l event).sent)
 sends_for l away own other s q at has_it joined paired event =
     let sent : List Answer = (coupled l event).sent in

@@ -1,5 +1,6 @@
 -- One delivery at a relay. What holds before it holds after.
-use Rattle.std.specs.Prelude.{ℕ, ◌≡◌, ◌≢◌, ◌<◌, ◌≤◌, Bool, true, false, not, cond, ◌&&◌, List, [], ◌∷◌, ◌++◌, Option, Some, None, is_some, option_and_then, refl}
+use Rattle.std.specs.Prelude.{ℕ, ◌≡◌, ◌≢◌, ◌<◌, ◌≤◌, Bool, true, false, not, cond, ◌&&◌, List, [], ◌∷◌, ◌++◌, Option, Some, None, is_some}
+use Rattle.std.specs.Prelude.{option_and_then, refl}
 use Rattle.std.specs.List.{cons_option}
 use Rattle.std.proofs.Common.{sym, ◌∙◌, ap, ⊎_elim}
 use Rattle.std.proofs.lemmas.Bool.{cases_eq, eq-eqb, ne_eqb, and_parts, and_from}
@@ -38,12 +39,16 @@ pub record Takes (put arrived toward put_then arrived_then : ℕ → List Messag
   pub elsewhere : (from : ℕ) → (from ≡ event.origin → ⊥) → arrived_then from ≡ arrived from
 
 -- the sections of a joined pair
-pub half_is : (o : Option Section) (s : Section) (other : ℕ) (near : Bool) → is_half other near o ≡ true → o ≡ Some s → (s.other ≡ Some other) × (cond near s.near (not s.near) ≡ true)
+pub half_is : (o : Option Section) (s : Section) (other : ℕ) (near : Bool) → is_half other near o ≡ true → o ≡ Some s
+    → (s.other ≡ Some other) × (cond near s.near (not s.near) ≡ true)
 half_is None s other near h e = absurd (cc)
 half_is (Some x) s other near h e =
     let same : x ≡ s = cc in
-    let parts = and_parts (is_that x.other other) (cond near x.near (not x.near)) h in
-    (ap (λ (y : Section). y.other) (sym same) ∙ that_is x.other other parts.0, ap (λ (y : Section). cond near y.near (not y.near)) (sym same) ∙ parts.1)
+    let parts = and_parts (is_that x.other other) (cond near x.near (not x.near)) h in (
+      ap (λ (y : Section). y.other) (sym same) ∙ that_is x.other other parts.0,
+      ap (λ (y : Section). cond near y.near (not y.near))
+          (sym same) ∙ parts.1,
+    )
 
 pub by_names : (near : Bool) (q : ℕ) (xs : List Message) → number (names_by near q) xs ≤ number (names q) xs
 by_names true q xs = number-or (requests q) (confirms q) xs
@@ -57,24 +62,28 @@ is_there None h = absurd (h refl)
 is_there (Some n) h = refl
 
 -- a section is open if both it and its other have a remote
-pub opens : (l : List Section) (own other : ℕ) (s t : Section) → section_at l own ≡ Some s → s.other ≡ Some other → section_at l other ≡ Some t → s.remote ≢ None → t.remote ≢ None → is_open l (section_at l own) ≡ true
+pub opens : (l : List Section) (own other : ℕ) (s t : Section) → section_at l own ≡ Some s → s.other ≡ Some other
+    → section_at l other ≡ Some t → s.remote ≢ None → t.remote ≢ None → is_open l (section_at l own) ≡ true
 opens l own other s t at joined there one two =
     ap (is_open l) at
     ∙ and_from (is_some s.remote) (has_remote (other_of l s)) (is_there s.remote one)
     (ap has_remote (ap (λ (o : Option ℕ). option_and_then (section_at l) o) joined ∙ there) ∙ is_there t.remote two)
 
 -- what the section passes of a message, if it is open to each DT1 that is for it
-pub passes_in : (l : List Section) (own : ℕ) (s : Section) → section_at l own ≡ Some s → (event : Event) → s.point ≡ event.origin → (carries own event.message ≡ true → is_open l (section_at l own) ≡ true) →
+pub passes_in : (l : List Section) (own : ℕ) (s : Section) → section_at l own ≡ Some s → (event : Event) → s.point ≡ event.origin
+    → (carries own event.message ≡ true → is_open l (section_at l own) ≡ true) →
     passed_in l own event ≡ pieces_for (Some own) (event.message ∷ [])
 passes_in l own s at event from opened =
-    by_kind (λ m. (carries own m ≡ true → is_open l (section_at l own) ≡ true) → passed_in l own (with_message event m) ≡ pieces_for (Some own) (m ∷ [])) event.message
+    by_kind (λ m. (carries own m ≡ true → is_open l (section_at l own) ≡ true)
+    → passed_in l own (with_message event m) ≡ pieces_for (Some own) (m ∷ [])) event.message
     (λ none g.
     ap (λ (d : Option Data). cond (knows l own event && is_open l (section_at l own)) (piece_of d) []) none
     ∙ elim (knows l own event && is_open l (section_at l own)) as (λ b. cond {A = List Piece} b [] [] ≡ []) [ true ↦ refl | false ↦ refl ]
     ∙ sym (no_pieces own (event.message ∷ []) (none_of (carries own) event.message (ap (λ (d : Option Data). has_dlr own d) none))))
     (λ dlr more payload g.
     let piece : List Piece = record { more = more; payload = payload } ∷ [] in
-    let known_is : known l event.origin own ≡ Some s = ap (λ (o : Option Section). option_and_then (if_from event.origin) o) at ∙ ap (λ (b : Bool). cond b (Some s) None) (eq-eqb s.point event.origin from) in
+    let known_is : known l event.origin own ≡ Some s = ap (λ (o : Option Section). option_and_then (if_from event.origin) o) at
+    ∙ ap (λ (b : Bool). cond b (Some s) None) (eq-eqb s.point event.origin from) in
     ⊎_elim
     (λ (e : dlr ≡ own).
     ap (λ (b : Bool). cond ((b && is_some (known l event.origin own)) && is_open l (section_at l own)) piece []) (eq-eqb dlr own e)
@@ -88,14 +97,19 @@ passes_in l own s at event from opened =
     opened
 
 -- a message from elsewhere is not passed
-pub passes_not : (l : List Section) (own : ℕ) (s : Section) → section_at l own ≡ Some s → (event : Event) → (s.point ≡ event.origin → ⊥) → passed_in l own event ≡ []
+pub passes_not : (l : List Section) (own : ℕ) (s : Section) → section_at l own ≡ Some s → (event : Event) → (s.point ≡ event.origin → ⊥)
+    → passed_in l own event ≡ []
 passes_not l own s at event from =
-    let known_is : known l event.origin own ≡ None = ap (λ (o : Option Section). option_and_then (if_from event.origin) o) at ∙ ap (λ (b : Bool). cond b (Some s) None) (ne_eqb s.point event.origin from) in
-    ap (λ (o : Option Section). cond ((is_that (dlr_of event.message) own && is_some o) && is_open l (section_at l own)) (piece_of (data_of event.message)) []) known_is
-    ∙ elim (is_that (dlr_of event.message) own) as (λ b. cond ((b && false) && is_open l (section_at l own)) (piece_of (data_of event.message)) [] ≡ []) [ true ↦ refl | false ↦ refl ]
+    let known_is : known l event.origin own ≡ None = ap (λ (o : Option Section). option_and_then (if_from event.origin) o) at
+    ∙ ap (λ (b : Bool). cond b (Some s) None) (ne_eqb s.point event.origin from) in
+    ap (λ (o : Option Section). cond ((is_that (dlr_of event.message) own && is_some o) && is_open l (section_at l own))
+    (piece_of (data_of event.message)) []) known_is
+    ∙ elim (is_that (dlr_of event.message) own) as (λ b. cond ((b && false) && is_open l (section_at l own))
+    (piece_of (data_of event.message)) [] ≡ []) [ true ↦ refl | false ↦ refl ]
 
 -- a message other than a DT1 sends no DT1
 pub quiet_sent : (l : List Section) (own other : ℕ) (event : Event) → data_of event.message ≡ None → sent_in l own other event ≡ []
 quiet_sent l own other event none =
-    ap (λ (x : List Piece). cond (knows l other event) x []) (quiet_toward (section_at l own) (coupled l event).sent (quiet l event.origin event.way event.message none))
+    ap (λ (x : List Piece). cond (knows l other event) x [])
+    (quiet_toward (section_at l own) (coupled l event).sent (quiet l event.origin event.way event.message none))
     ∙ elim (knows l other event) as (λ b. cond {A = List Piece} b [] [] ≡ []) [ true ↦ refl | false ↦ refl ]

@@ -1,5 +1,6 @@
 -- What holds in every world in which no relay gave one own reference to two sections.
-use Rattle.std.specs.Prelude.{ℕ, ◌≡◌, ◌≤◌, ◌==◌, ◌⊎◌, Bool, true, false, not, cond, ◌&&◌, ◌||◌, List, [], ◌∷◌, ◌++◌, length, filter, Option, Some, None, is_some, refl}
+use Rattle.std.specs.Prelude.{ℕ, ◌≡◌, ◌≤◌, ◌==◌, ◌⊎◌, Bool, true, false, not, cond, ◌&&◌, ◌||◌, List, [], ◌∷◌, ◌++◌, length, filter, Option}
+use Rattle.std.specs.Prelude.{Some, None, is_some, refl}
 use Rattle.std.specs.List.{list_any}
 use Rattle.std.proofs.Common.{sym, ◌∙◌, ap, subst, ⊎_elim, inl, inr, arith, append_assoc}
 use Rattle.std.proofs.lemmas.Bool.{not-false, cases_Bool, cases_eq, eq-eqb, eqb-true, ne_eqb, and_parts}
@@ -15,7 +16,9 @@ use Rattle.sccp_couple.specs.Runs as coupling
 use Rattle.sccp_couple.specs.Runs.{Pair, Moment, made}
 use Rattle.sccp_couple.proofs.Ledger.{kept_after}
 use Rattle.sccp_couple.proofs.Fairness.{IsFair, that_is}
-use Rattle.couple_chain.specs.World.{Network, is_node, Happening, Offers, Delivers, World, start, put_on, messages_to, event_at, handled, left, delivered_of, delivered, names, requests, name_of, is_used, uses_again, OfferFault, fault_by, is_writable, offer_fault, put, offered_if, offered, happens, run, after}
+use Rattle.couple_chain.specs.World.{Network, is_node, Happening, Offers, Delivers, World, start, put_on, messages_to, event_at, handled}
+use Rattle.couple_chain.specs.World.{left, delivered_of, delivered, names, requests, name_of, is_used, uses_again, OfferFault, fault_by}
+use Rattle.couple_chain.specs.World.{is_writable, offer_fault, put, offered_if, offered, happens, run, after}
 use Rattle.couple_chain.specs.Line.{given, times, IsFresh}
 use Rattle.couple_chain.proofs.Counts.{number, number-append, none_of}
 use Rattle.couple_chain.proofs.Holds.{has_near, HoldsFor, AllHold, coming, pairs_of}
@@ -26,7 +29,8 @@ use Rattle.couple_chain.proofs.Handles.{holds_then, once_then}
 same_functions : {A : Type 0} (f g : ℕ → A) → ((x : ℕ) → f x ≡ g x) → f ≡ g
 same_functions f g h = λ i. λ x. h x i
 
-HoldsFor_same : (network : Network) (put put' arrived arrived' : ℕ → List Message) (pairs : ℕ → List Pair) (m m' : Moment) → ((to : ℕ) → put to ≡ put' to) → ((from : ℕ) → arrived from ≡ arrived' from) → m ≡ m' →
+HoldsFor_same : (network : Network) (put put' arrived arrived' : ℕ → List Message) (pairs : ℕ → List Pair) (m m' : Moment)
+    → ((to : ℕ) → put to ≡ put' to) → ((from : ℕ) → arrived from ≡ arrived' from) → m ≡ m' →
     HoldsFor network put arrived pairs m → HoldsFor network put' arrived' pairs m'
 HoldsFor_same network put put' arrived arrived' pairs m m' e f g h =
     subst (λ (x : ℕ → List Message). HoldsFor network x arrived' pairs m') (same_functions put put' e)
@@ -34,7 +38,8 @@ HoldsFor_same network put put' arrived arrived' pairs m m' e f g h =
     (subst (λ (x : Moment). HoldsFor network put arrived pairs x) g h))
 
 -- more pairs elsewhere
-HoldsFor_more : (network : Network) (put arrived : ℕ → List Message) (pairs pairs' : ℕ → List Pair) (m : Moment) → ((node own : ℕ) → number (has_near own) (pairs node) ≤ number (has_near own) (pairs' node)) →
+HoldsFor_more : (network : Network) (put arrived : ℕ → List Message) (pairs pairs' : ℕ → List Pair) (m : Moment)
+    → ((node own : ℕ) → number (has_near own) (pairs node) ≤ number (has_near own) (pairs' node)) →
     HoldsFor network put arrived pairs m → HoldsFor network put arrived pairs' m
 HoldsFor_more network put arrived pairs pairs' m more h =
     record {
@@ -73,9 +78,11 @@ starts network =
     nothing own s h = cc
 
 -- the oldest message leaves its link, and is then among those that arrived
-pub put_left : (w : World) (from to : ℕ) (message : Message) (rest : List Message) → w.waiting from to ≡ message ∷ rest → (a b : ℕ) → put_on (left w from to message rest) a b ≡ put_on w a b
+pub put_left : (w : World) (from to : ℕ) (message : Message) (rest : List Message) → w.waiting from to ≡ message ∷ rest → (a b : ℕ)
+    → put_on (left w from to message rest) a b ≡ put_on w a b
 put_left w from to message rest h a b =
-    elim ((a == from) && (b == to)) as (λ x. ((a == from) && (b == to)) ≡ x → cond x (w.arrived from to ++ message ∷ []) (w.arrived a b) ++ cond x rest (w.waiting a b) ≡ w.arrived a b ++ w.waiting a b) [
+    elim ((a == from) && (b == to)) as (λ x. ((a == from) && (b == to)) ≡ x
+    → cond x (w.arrived from to ++ message ∷ []) (w.arrived a b) ++ cond x rest (w.waiting a b) ≡ w.arrived a b ++ w.waiting a b) [
       | true ↦ λ e.
           let parts = and_parts (a == from) (b == to) e in
           append_assoc (w.arrived from to) (message ∷ []) rest
@@ -85,23 +92,32 @@ put_left w from to message rest h a b =
       | false ↦ λ e. refl
     ] refl
 
-put_here : (w : World) (node : ℕ) (event : Event) (to : ℕ) → put_on (handled w node event) node to ≡ put_on w node to ++ messages_to to (coupled (w.moments node).sections event).sent
+put_here : (w : World) (node : ℕ) (event : Event) (to : ℕ)
+    → put_on (handled w node event) node to ≡ put_on w node to ++ messages_to to (coupled (w.moments node).sections event).sent
 put_here w node event to =
-    ap (λ (x : Bool). w.arrived node to ++ cond x (w.waiting node to ++ messages_to to (coupled (w.moments node).sections event).sent) (w.waiting node to)) (eq-eqb node node refl)
+    ap (λ (x : Bool). w.arrived node to ++ cond x (w.waiting node to ++ messages_to to (coupled (w.moments node).sections event).sent)
+    (w.waiting node to)) (eq-eqb node node refl)
     ∙ sym (append_assoc (w.arrived node to) (w.waiting node to) (messages_to to (coupled (w.moments node).sections event).sent))
 
-pub put_there : (w : World) (node : ℕ) (event : Event) (from to : ℕ) → (from ≡ node → ⊥) → put_on (handled w node event) from to ≡ put_on w from to
-put_there w node event from to n = ap (λ (x : Bool). w.arrived from to ++ cond x (w.waiting from to ++ messages_to to (coupled (w.moments node).sections event).sent) (w.waiting from to)) (ne_eqb from node n)
+pub put_there : (w : World) (node : ℕ) (event : Event) (from to : ℕ) → (from ≡ node → ⊥)
+    → put_on (handled w node event) from to ≡ put_on w from to
+put_there w node event from to n = ap (λ (x : Bool). w.arrived from to
+    ++ cond x (w.waiting from to ++ messages_to to (coupled (w.moments node).sections event).sent) (w.waiting from to)) (ne_eqb from node n)
 
-pub arrived_elsewhere : (w : World) (from to : ℕ) (message : Message) (rest : List Message) (a b : ℕ) → (b ≡ to → ⊥) → (left w from to message rest).arrived a b ≡ w.arrived a b
+pub arrived_elsewhere : (w : World) (from to : ℕ) (message : Message) (rest : List Message) (a b : ℕ) → (b ≡ to → ⊥)
+    → (left w from to message rest).arrived a b ≡ w.arrived a b
 arrived_elsewhere w from to message rest a b n =
     ap (λ (x : Bool). cond ((a == from) && x) (w.arrived from to ++ message ∷ []) (w.arrived a b)) (ne_eqb b to n)
-    ∙ elim (a == from) as (λ x. cond (x && false) (w.arrived from to ++ message ∷ []) (w.arrived a b) ≡ w.arrived a b) [ true ↦ refl | false ↦ refl ]
+    ∙ elim (a == from) as (λ x. cond (x && false) (w.arrived from to ++ message ∷ []) (w.arrived a b) ≡ w.arrived a b)
+    [ true ↦ refl | false ↦ refl ]
 
-pub arrived_from_else : (w : World) (from to : ℕ) (message : Message) (rest : List Message) (a : ℕ) → (a ≡ from → ⊥) → (left w from to message rest).arrived a to ≡ w.arrived a to
-arrived_from_else w from to message rest a n = ap (λ (x : Bool). cond (x && (to == to)) (w.arrived from to ++ message ∷ []) (w.arrived a to)) (ne_eqb a from n)
+pub arrived_from_else : (w : World) (from to : ℕ) (message : Message) (rest : List Message) (a : ℕ) → (a ≡ from → ⊥)
+    → (left w from to message rest).arrived a to ≡ w.arrived a to
+arrived_from_else w from to message rest a n = ap (λ (x : Bool). cond (x && (to == to)) (w.arrived from to ++ message ∷ [])
+    (w.arrived a to)) (ne_eqb a from n)
 
-pub arrived_here : (w : World) (from to : ℕ) (message : Message) (rest : List Message) → (left w from to message rest).arrived from to ≡ w.arrived from to ++ message ∷ []
+pub arrived_here : (w : World) (from to : ℕ) (message : Message) (rest : List Message)
+    → (left w from to message rest).arrived from to ≡ w.arrived from to ++ message ∷ []
 arrived_here w from to message rest =
     ap (λ (x : Bool). cond (x && (to == to)) (w.arrived from to ++ message ∷ []) (w.arrived from to)) (eq-eqb from from refl)
     ∙ ap (λ (x : Bool). cond x (w.arrived from to ++ message ∷ []) (w.arrived from to)) (eq-eqb to to refl)
@@ -134,8 +150,10 @@ handled_fresh network w node event fresh n own is =
     (cases_eq n node)
 
 -- a relay takes the oldest message of a link
-takes_it : (network : Network) (w : World) → AllHold network w → (from to : ℕ) (message : Message) (rest : List Message) → w.waiting from to ≡ message ∷ rest → is_node network to ≡ true →
-    IsFresh network (handled (left w from to message rest) to (event_at network to from message)) → AllHold network (handled (left w from to message rest) to (event_at network to from message))
+takes_it : (network : Network) (w : World) → AllHold network w → (from to : ℕ) (message : Message) (rest : List Message)
+    → w.waiting from to ≡ message ∷ rest → is_node network to ≡ true →
+    IsFresh network (handled (left w from to message rest) to (event_at network to from message))
+    → AllHold network (handled (left w from to message rest) to (event_at network to from message))
 takes_it network w all from to message rest queue inner fresh =
     let event : Event = event_at network to from message in
     let u : World = left w from to message rest in
@@ -148,16 +166,19 @@ takes_it network w all from to message rest queue inner fresh =
     let peers : Peers network (put_on w to) toward (pairs_of w) m = record {
       once = λ n q. all.once n to q;
       once_here = λ n q. all.once to n q;
-      data_named = λ n q is h. let a = (all.each n is).data_named to q h in let b = number-append (names q) (w.arrived to n) (w.waiting to n) in omega arith;
+      data_named = λ n q is h. let a = (all.each n is).data_named to q h in let b =
+          number-append (names q) (w.arrived to n) (w.waiting to n) in omega arith;
       confirmed = λ n q is h. (all.each n is).confirmed to q h;
-      answers_named = λ n q is h. let a = (all.each n is).answers_named to q h in let b = number-append (requests q) (w.arrived to n) (w.waiting to n) in omega arith;
+      answers_named = λ n q is h. let a = (all.each n is).answers_named to q h in let b =
+          number-append (requests q) (w.arrived to n) (w.waiting to n) in omega arith;
       data_answered = λ n q is h. (all.each n is).data_answered to q inner h;
     } in
     let takes : Takes (put_on w to) (coming w to) toward (put_on v to) (coming v to) m event = record {
       rest = rest;
       queue = ap (λ (x : List Message). w.arrived from to ++ x) queue ∙ sym (append_assoc (w.arrived from to) (message ∷ []) rest);
       come = λ n. (w.waiting n to, refl);
-      sends = λ n. put_here u to event n ∙ ap (λ (x : List Message). x ++ messages_to n (coupled m.sections event).sent) (put_left w from to message rest queue to n);
+      sends = λ n. put_here u to event n ∙ ap (λ (x : List Message). x ++ messages_to n (coupled m.sections event).sent)
+          (put_left w from to message rest queue to n);
       here = arrived_here w from to message rest;
       elsewhere = λ n e. arrived_from_else w from to message rest n e;
     } in
@@ -177,9 +198,11 @@ takes_it network w all from to message rest queue inner fresh =
           (λ (e : node ≡ to).
           subst (λ (n : ℕ). HoldsFor network (put_on v n) (coming v n) (pairs_of w) (v.moments n)) (sym e)
           (subst (λ (x : Moment). HoldsFor network (put_on v to) (coming v to) (pairs_of w) x) (sym (moment_here u to event))
-          (holds_then network (put_on w to) (coming w to) toward (put_on v to) (coming v to) (pairs_of w) m event holds peers takes given_once)))
+          (holds_then network (put_on w to) (coming w to) toward (put_on v to) (coming v to)
+          (pairs_of w) m event holds peers takes given_once)))
           (λ (e : node ≡ to → ⊥).
-          HoldsFor_same network (put_on w node) (put_on v node) (coming w node) (coming v node) (pairs_of w) (w.moments node) (v.moments node)
+          HoldsFor_same network (put_on w node) (put_on v node) (coming w node) (coming v node) (pairs_of w) (w.moments node)
+          (v.moments node)
           (λ n. sym (put_there u to event node n e ∙ put_left w from to message rest queue node n))
           (λ n. sym (arrived_elsewhere w from to message rest n node e))
           (sym (moment_there u to event node e))
@@ -188,7 +211,8 @@ takes_it network w all from to message rest queue inner fresh =
       once = λ a b own.
           ⊎_elim
           (λ (e : a ≡ to).
-          let x = once_then network (put_on w to) (coming w to) toward (put_on v to) (coming v to) (pairs_of w) m event holds peers takes given_once b own in
+          let x = once_then network (put_on w to) (coming w to) toward (put_on v to) (coming v to)
+          (pairs_of w) m event holds peers takes given_once b own in
           let y = ap (λ (n : ℕ). number (names own) (put_on v n b)) e in
           omega arith)
           (λ (e : a ≡ to → ⊥).
@@ -199,16 +223,20 @@ takes_it network w all from to message rest queue inner fresh =
     }
 
 -- an end is handed the oldest message of a link
-hands_out : (network : Network) (w : World) → AllHold network w → (from to : ℕ) (message : Message) (rest : List Message) → w.waiting from to ≡ message ∷ rest → is_node network to ≡ false → AllHold network (left w from to message rest)
+hands_out : (network : Network) (w : World) → AllHold network w → (from to : ℕ) (message : Message) (rest : List Message)
+    → w.waiting from to ≡ message ∷ rest → is_node network to ≡ false → AllHold network (left w from to message rest)
 hands_out network w all from to message rest queue outer =
     let u : World = left w from to message rest in
     record {
       each = λ node is.
-          HoldsFor_same network (put_on w node) (put_on u node) (coming w node) (coming u node) (pairs_of w) (w.moments node) (w.moments node)
+          HoldsFor_same network (put_on w node) (put_on u node) (coming w node) (coming u node) (pairs_of w) (w.moments node)
+          (w.moments node)
           (λ n. sym (put_left w from to message rest queue node n))
-          (λ n. sym (arrived_elsewhere w from to message rest n node (λ e. absurd (let x : true ≡ false = sym is ∙ ap (is_node network) e ∙ outer in cc))))
+          (λ n. sym (arrived_elsewhere w from to message rest n node (λ e. absurd (let x : true ≡ false = sym is ∙ ap (is_node network) e
+          ∙ outer in cc))))
           refl (all.each node is);
-      once = λ a b own. let x = all.once a b own in let y = ap (number (names own)) (put_left w from to message rest queue a b) in omega arith;
+      once = λ a b own. let x = all.once a b own in let y =
+          ap (number (names own)) (put_left w from to message rest queue a b) in omega arith;
     }
 
 -- an end's accepted offer
@@ -220,9 +248,11 @@ none_by false false false true e h = absurd (cc)
 none_by false false false false true h = absurd (cc)
 none_by false false false false false h = (refl, refl, refl, refl, refl)
 
-pub accepted_parts : (network : Network) (w : World) (from to : ℕ) (message : Message) → offer_fault network w from to message ≡ None → (is_node network from ≡ false) × (is_node network to ≡ true) × (uses_again network w from (name_of message) ≡ false)
+pub accepted_parts : (network : Network) (w : World) (from to : ℕ) (message : Message) → offer_fault network w from to message ≡ None
+    → (is_node network from ≡ false) × (is_node network to ≡ true) × (uses_again network w from (name_of message) ≡ false)
 accepted_parts network w from to message h =
-    let parts = none_by (is_node network from) (not (is_node network to)) (is_some (called_of message)) (uses_again network w from (name_of message)) (not (is_writable message)) h in
+    let parts = none_by (is_node network from) (not (is_node network to)) (is_some (called_of message))
+    (uses_again network w from (name_of message)) (not (is_writable message)) h in
     (parts.0, not-false (is_node network to) parts.1, parts.3)
 
 -- a message names a reference exactly if that is its source local reference
@@ -261,21 +291,26 @@ none_among f n (x ∷ xs) h k =
 
 pub put_on_offer : (w : World) (from to : ℕ) (message : Message) → put_on (put w from to message) from to ≡ put_on w from to ++ message ∷ []
 put_on_offer w from to message =
-    ap (λ (x : Bool). w.arrived from to ++ cond (x && (to == to)) (w.waiting from to ++ message ∷ []) (w.waiting from to)) (eq-eqb from from refl)
+    ap (λ (x : Bool). w.arrived from to ++ cond (x && (to == to)) (w.waiting from to ++ message ∷ []) (w.waiting from to))
+    (eq-eqb from from refl)
     ∙ ap (λ (x : Bool). w.arrived from to ++ cond x (w.waiting from to ++ message ∷ []) (w.waiting from to)) (eq-eqb to to refl)
     ∙ sym (append_assoc (w.arrived from to) (w.waiting from to) (message ∷ []))
 
-pub put_on_else : (w : World) (from to : ℕ) (message : Message) (a b : ℕ) → ((a == from) && (b == to)) ≡ false → put_on (put w from to message) a b ≡ put_on w a b
+pub put_on_else : (w : World) (from to : ℕ) (message : Message) (a b : ℕ) → ((a == from) && (b == to)) ≡ false
+    → put_on (put w from to message) a b ≡ put_on w a b
 put_on_else w from to message a b e = ap (λ (x : Bool). w.arrived a b ++ cond x (w.waiting from to ++ message ∷ []) (w.waiting a b)) e
 
-puts_it : (network : Network) (w : World) → AllHold network w → (from to : ℕ) (message : Message) → offer_fault network w from to message ≡ None → AllHold network (put w from to message)
+puts_it : (network : Network) (w : World) → AllHold network w → (from to : ℕ) (message : Message)
+    → offer_fault network w from to message ≡ None → AllHold network (put w from to message)
 puts_it network w all from to message accepted =
     let parts = accepted_parts network w from to message accepted in
     let v : World = put w from to message in
     record {
       each = λ node is.
-          let apart : (node == from) ≡ false = ne_eqb node from (λ e. absurd (let x : true ≡ false = sym is ∙ ap (is_node network) e ∙ parts.0 in cc)) in
-          HoldsFor_same network (put_on w node) (put_on v node) (coming w node) (coming v node) (pairs_of w) (w.moments node) (w.moments node)
+          let apart : (node == from) ≡ false = ne_eqb node from (λ e. absurd (let x : true ≡ false = sym is ∙ ap (is_node network) e
+          ∙ parts.0 in cc)) in
+          HoldsFor_same network (put_on w node) (put_on v node) (coming w node) (coming v node) (pairs_of w) (w.moments node)
+          (w.moments node)
           (λ n. sym (put_on_else w from to message node n (ap (λ (x : Bool). x && (n == to)) apart)))
           (λ n. refl) refl (all.each node is);
       once = λ a b own.
@@ -283,12 +318,14 @@ puts_it network w all from to message accepted =
           ⊎_elim
           (λ (e : ((a == from) && (b == to)) ≡ true).
           let both = and_parts (a == from) (b == to) e in
-          let same : put_on v a b ≡ put_on w from to ++ message ∷ [] = ap (λ (n : ℕ). put_on v n b) (eqb-true a from both.0) ∙ ap (put_on v from) (eqb-true b to both.1) ∙ put_on_offer w from to message in
+          let same : put_on v a b ≡ put_on w from to ++ message ∷ [] = ap (λ (n : ℕ). put_on v n b) (eqb-true a from both.0)
+          ∙ ap (put_on v from) (eqb-true b to both.1) ∙ put_on_offer w from to message in
           let count = ap (number (names own)) same ∙ number-append (names own) (put_on w from to) (message ∷ []) in
           ⊎_elim
           (λ (named : names own message ≡ true).
           let unused : is_used network w from own ≡ false = sym (ap (uses_again network w from) (name_is own message named)) ∙ parts.2 in
-          let here : list_any (names own) (put_on w from to) ≡ false = none_among (λ n. list_any (names own) (put_on w from n)) to network.nodes parts.1 unused in
+          let here : list_any (names own) (put_on w from to) ≡ false =
+          none_among (λ n. list_any (names own) (put_on w from n)) to network.nodes parts.1 unused in
           let zero_there = none_number (names own) (put_on w from to) here in
           let one = few_one (names own) message in
           omega arith)
@@ -297,7 +334,8 @@ puts_it network w all from to message accepted =
           let before = all.once from to own in
           omega arith)
           (cases_Bool (names own message)))
-          (λ (e : ((a == from) && (b == to)) ≡ false). let same = ap (number (names own)) (put_on_else w from to message a b e) in omega arith)
+          (λ (e : ((a == from) && (b == to)) ≡ false). let same = ap (number (names own))
+          (put_on_else w from to message a b e) in omega arith)
           (cases_Bool ((a == from) && (b == to)));
     }
   where
@@ -309,37 +347,46 @@ fault_cases : (o : Option OfferFault) → (o ≡ None) ⊎ ((f : OfferFault) × 
 fault_cases None = inl refl
 fault_cases (Some f) = inr (f, refl)
 
-pub offered_cases : (P : World → Type 0) (network : Network) (w : World) (from to : ℕ) (message : Message) → P w → (offer_fault network w from to message ≡ None → P (put w from to message)) → P (offered network w from to message)
+pub offered_cases : (P : World → Type 0) (network : Network) (w : World) (from to : ℕ) (message : Message) → P w
+    → (offer_fault network w from to message ≡ None → P (put w from to message)) → P (offered network w from to message)
 offered_cases P network w from to message same new =
     ⊎_elim
-    (λ (none : offer_fault network w from to message ≡ None). subst (λ (o : Option OfferFault). P (offered_if o w from to message)) (sym none) (new none))
-    (λ (some : (f : OfferFault) × (offer_fault network w from to message ≡ Some f)). subst (λ (o : Option OfferFault). P (offered_if o w from to message)) (sym some.1) same)
+    (λ (none : offer_fault network w from to message ≡ None). subst (λ (o : Option OfferFault). P (offered_if o w from to message))
+    (sym none) (new none))
+    (λ (some : (f : OfferFault) × (offer_fault network w from to message ≡ Some f)). subst
+    (λ (o : Option OfferFault). P (offered_if o w from to message)) (sym some.1) same)
     (fault_cases (offer_fault network w from to message))
 
 pub delivered_cases : (P : World → Type 0) (network : Network) (w : World) (from to : ℕ) → P w →
-    ((message : Message) (rest : List Message) → w.waiting from to ≡ message ∷ rest → is_node network to ≡ true → P (handled (left w from to message rest) to (event_at network to from message))) →
-    ((message : Message) (rest : List Message) → w.waiting from to ≡ message ∷ rest → is_node network to ≡ false → P (left w from to message rest)) →
+    ((message : Message) (rest : List Message) → w.waiting from to ≡ message ∷ rest → is_node network to ≡ true
+    → P (handled (left w from to message rest) to (event_at network to from message))) →
+    ((message : Message) (rest : List Message) → w.waiting from to ≡ message ∷ rest → is_node network to ≡ false
+    → P (left w from to message rest)) →
     P (delivered network w from to)
 delivered_cases P network w from to same inner outer = go (w.waiting from to) refl
   where
     go : (ms : List Message) → w.waiting from to ≡ ms → P (delivered_of network w from to ms)
     go [] h = same
     go (message ∷ rest) h =
-        elim (is_node network to) as (λ b. is_node network to ≡ b → P (cond b (handled (left w from to message rest) to (event_at network to from message)) (left w from to message rest))) [
+        elim (is_node network to) as (λ b. is_node network to ≡ b
+        → P (cond b (handled (left w from to message rest) to (event_at network to from message)) (left w from to message rest))) [
           | true ↦ λ e. inner message rest h e
           | false ↦ λ e. outer message rest h e
         ] refl
 
 -- references that were given stay given
 fresh_before : (network : Network) (w : World) (h : Happening) → IsFresh network (happens network w h) → IsFresh network w
-fresh_before network w (Offers from to message) = offered_cases (λ v. IsFresh network v → IsFresh network w) network w from to message (λ f. f) (λ none f. f)
+fresh_before network w (Offers from to message) = offered_cases (λ v. IsFresh network v
+    → IsFresh network w) network w from to message (λ f. f) (λ none f. f)
 fresh_before network w (Delivers from to) =
     delivered_cases (λ v. IsFresh network v → IsFresh network w) network w from to (λ f. f)
     (λ message rest h inner f. handled_fresh network (left w from to message rest) to (event_at network to from message) f)
     (λ message rest h outer f. f)
 
-holds_after : (network : Network) (w : World) (h : Happening) → AllHold network w → IsFresh network (happens network w h) → AllHold network (happens network w h)
-holds_after network w (Offers from to message) all = offered_cases (λ v. IsFresh network v → AllHold network v) network w from to message (λ f. all) (λ none f. puts_it network w all from to message none)
+holds_after : (network : Network) (w : World) (h : Happening) → AllHold network w → IsFresh network (happens network w h)
+    → AllHold network (happens network w h)
+holds_after network w (Offers from to message) all = offered_cases (λ v. IsFresh network v
+    → AllHold network v) network w from to message (λ f. all) (λ none f. puts_it network w all from to message none)
 holds_after network w (Delivers from to) all =
     delivered_cases (λ v. IsFresh network v → AllHold network v) network w from to (λ f. all)
     (λ message rest h inner f. takes_it network w all from to message rest h inner f)
@@ -349,9 +396,12 @@ fresh_first : (network : Network) (w : World) (history : List Happening) → IsF
 fresh_first network w [] f = f
 fresh_first network w (h ∷ history) f = fresh_before network w h (fresh_first network (happens network w h) history f)
 
-holds_run : (network : Network) (w : World) (history : List Happening) → AllHold network w → IsFresh network (run network w history) → AllHold network (run network w history)
+holds_run : (network : Network) (w : World) (history : List Happening) → AllHold network w → IsFresh network (run network w history)
+    → AllHold network (run network w history)
 holds_run network w [] all f = all
-holds_run network w (h ∷ history) all f = holds_run network (happens network w h) history (holds_after network w h all (fresh_first network (happens network w h) history f)) f
+holds_run network w (h ∷ history) all f = holds_run network (happens network w h) history
+    (holds_after network w h all (fresh_first network (happens network w h) history f)) f
 
-pub all_hold : (network : Network) (history : List Happening) → IsFresh network (after network history) → AllHold network (after network history)
+pub all_hold : (network : Network) (history : List Happening) → IsFresh network (after network history)
+    → AllHold network (after network history)
 all_hold network history f = holds_run network start history (starts network) f

@@ -1,5 +1,6 @@
 -- A connection over several relays: the pairs that it goes through, and the data that entered and left them.
-use Rattle.std.specs.Prelude.{◌≡◌, ℕ, zero, suc, ◌≤◌, Bool, true, false, not, ◌&&◌, ◌==◌, if◌then◌else◌, List, [], ◌∷◌, ◌++◌, length, map, filter, find, filter_map, flat_map, Option, Some, None, option_and_then}
+use Rattle.std.specs.Prelude.{◌≡◌, ℕ, zero, suc, ◌≤◌, Bool, true, false, not, ◌&&◌, ◌==◌, if◌then◌else◌, List, [], ◌∷◌, ◌++◌, length, map}
+use Rattle.std.specs.Prelude.{filter, find, filter_map, flat_map, Option, Some, None, option_and_then}
 use Rattle.std.specs.List.{list_any, list_all}
 use Rattle.sccp_message.specs.declared.message.Message.{Message}
 use Rattle.sccp_couple.specs.declared.section.Section.{Section}
@@ -35,7 +36,8 @@ starts_at m point remote pair = pair.stands && is_from m.sections point remote (
 
 -- the pair of the relay whose near section has this point and remote
 abbrev pub leg_from : World → ℕ → ℕ → ℕ → Option Leg
-leg_from w point remote node = option_and_then (leg_of (w.moments node) node) (find (starts_at (w.moments node) point remote) (w.moments node).pairs)
+leg_from w point remote node = option_and_then (leg_of (w.moments node) node)
+    (find (starts_at (w.moments node) point remote) (w.moments node).pairs)
 
 -- the first of two legs if it is there, otherwise the later one
 abbrev pub or_else : Option Leg → Option Leg → Option Leg

@@ -1,5 +1,6 @@
 -- Relays and ends, the links between their points, and what happens there (ITU-T Q.714 section 3: coupling of sections).
-use Rattle.std.specs.Prelude.{ℕ, ◌≡◌, ◌≢◌, ◌<◌, ◌≤◌, ◌⊎◌, ◌==◌, Bool, false, not, ◌&&◌, ◌||◌, if◌then◌else◌, List, [], ◌∷◌, ◌++◌, filter_map, Option, Some, None, is_some, is_none}
+use Rattle.std.specs.Prelude.{ℕ, ◌≡◌, ◌≢◌, ◌<◌, ◌≤◌, ◌⊎◌, ◌==◌, Bool, false, not, ◌&&◌, ◌||◌, if◌then◌else◌, List, [], ◌∷◌, ◌++◌}
+use Rattle.std.specs.Prelude.{filter_map, Option, Some, None, is_some, is_none}
 use Rattle.std.specs.List.{list_any}
 use Rattle.std.specs.Option.{option_map_or}
 use Rattle.sccp_message.specs.declared.message.Message.{Message}
@@ -14,7 +15,8 @@ use Rattle.sccp_couple.specs.Events.{Event, Answer}
 pub use Rattle.couple_chain.specs.declared.happening.Happening.{Happening}
 pub use Rattle.couple_chain.specs.declared.happening.Happening.TheVariants.{Offers, Delivers}
 pub use Rattle.couple_chain.specs.declared.offer_fault.OfferFault.{OfferFault}
-pub use Rattle.couple_chain.specs.declared.offer_fault.OfferFault.TheVariants.{NotAnEnd, NotANode, Connectionless, UsedReference, NotWritable}
+pub use Rattle.couple_chain.specs.declared.offer_fault.OfferFault.TheVariants.{NotAnEnd, NotANode, Connectionless, UsedReference}
+pub use Rattle.couple_chain.specs.declared.offer_fault.OfferFault.TheVariants.{NotWritable}
 pub use Rattle.couple_chain.specs.declared.delivered.Delivered.{Delivered}
 pub use Rattle.couple_chain.specs.declared.delivered.Delivered.TheVariants.{Nothing, Handled, Out}
 use Rattle.sccp_couple.specs.Coupling.{coupled}
@@ -149,7 +151,8 @@ fault_by from_relay to_end connectionless used unwritable =
 -- the fault of an offer, if it is to be refused
 abbrev pub offer_fault : Network → World → ℕ → ℕ → Message → Option OfferFault
 offer_fault network w from to message =
-    fault_by (is_node network from) (not (is_node network to)) (is_some (called_of message)) (uses_again network w from (name_of message)) (not (is_writable message))
+    fault_by (is_node network from) (not (is_node network to)) (is_some (called_of message)) (uses_again network w from (name_of message))
+    (not (is_writable message))
 
 -- a message is put on a link
 abbrev pub put : World → ℕ → ℕ → Message → World

@@ -20,14 +20,20 @@ ghost use Rattle.couple_chain.specs.Relays.{first_relay, relay_run};
 /// If no relay gave one own reference twice, what came out at either end of a line is the beginning of what went in at the
 /// other. If also no link holds a message, it is the whole.
 pub fn lines_keep_order()
-    ensures order { (network : Network) (history : List Happening) (point reference : ℕ) (l : Line) → IsFresh network (after network history) → line network (after network history) point reference ≡ Some l → IsInOrder l }
-    ensures all { (network : Network) (history : List Happening) (point reference : ℕ) (l : Line) → IsFresh network (after network history) → IsSettled (after network history) → line network (after network history) point reference ≡ Some l → IsThrough l }
+    ensures order { (network : Network) (history : List Happening) (point reference : ℕ) (l : Line)
+        → IsFresh network (after network history) → line network (after network history) point reference ≡ Some l → IsInOrder l }
+    ensures all { (network : Network) (history : List Happening) (point reference : ℕ) (l : Line) → IsFresh network (after network history)
+        → IsSettled (after network history) → line network (after network history) point reference ≡ Some l → IsThrough l }
 {}
 
 /// Of all relays, at most one near section has a given end's point and reference. So the first pair of a line is unique.
 pub fn lines_start_at_one_section()
-    ensures node { (network : Network) (history : List Happening) (point reference one other own with_own : ℕ) → is_node network point ≡ false → HasNear (after network history) one point reference own → HasNear (after network history) other point reference with_own → one ≡ other }
-    ensures section { (network : Network) (history : List Happening) (point reference node own with_own : ℕ) → HasNear (after network history) node point reference own → HasNear (after network history) node point reference with_own → own ≡ with_own }
+    ensures node { (network : Network) (history : List Happening) (point reference one other own with_own : ℕ)
+        → is_node network point ≡ false → HasNear (after network history) one point reference own
+        → HasNear (after network history) other point reference with_own → one ≡ other }
+    ensures section { (network : Network) (history : List Happening) (point reference node own with_own : ℕ)
+        → HasNear (after network history) node point reference own → HasNear (after network history) node point reference with_own
+        → own ≡ with_own }
 {}
 
 /// The test of freshness is exact: a world is fresh if no relay gave one own reference to two sections.
@@ -38,14 +44,20 @@ pub fn fresh_is_tested()
 /// What a relay notes is what the ledger of its pairs says, after every list of messages. It notes the data that both
 /// sections of each existing pair passed on, and each own reference as often as it was given.
 pub fn relays_note_what_passed()
-    ensures sections { (node : ℕ) (events : List Event) → (relay_run (first_relay node) events).sections ≡ (coupling.after events).sections }
-    ensures passed { (node : ℕ) (events : List Event) → IsLogged (coupling.after events).pairs (relay_run (first_relay node) events).passed }
+    ensures sections { (node : ℕ) (events : List Event) → (relay_run (first_relay node) events).sections
+        ≡ (coupling.after events).sections }
+    ensures passed { (node : ℕ) (events : List Event)
+        → IsLogged (coupling.after events).pairs (relay_run (first_relay node) events).passed }
     ensures given { (node : ℕ) (events : List Event) → (relay_run (first_relay node) events).given ≡ given (coupling.after events) }
 {}
 
 /// A relay of a plan answers a message that can be handled by messages that read as what they are. The next relay can handle
 /// these.
 pub fn what_is_sent_can_be_handled()
-    ensures fit { (plan : PlanNetwork) (node : ℕ) (marking : List Mark) (sections : List Section) (origin : ℕ) (message : Message) → IsPlan plan → IsFit message → AllByRecursion (λ (a : Answer). IsFit a.message) (coupled sections (event_of plan node marking origin message)).sent }
-    ensures reads { (plan : PlanNetwork) (node : ℕ) (marking : List Mark) (sections : List Section) (origin : ℕ) (message : Message) → IsPlan plan → IsFit message → AllByRecursion (λ (a : Answer). reading (message_octets a.message) ≡ Ok a.message) (coupled sections (event_of plan node marking origin message)).sent }
+    ensures fit { (plan : PlanNetwork) (node : ℕ) (marking : List Mark) (sections : List Section) (origin : ℕ) (message : Message)
+        → IsPlan plan → IsFit message → AllByRecursion (λ (a : Answer). IsFit a.message)
+        (coupled sections (event_of plan node marking origin message)).sent }
+    ensures reads { (plan : PlanNetwork) (node : ℕ) (marking : List Mark) (sections : List Section) (origin : ℕ) (message : Message)
+        → IsPlan plan → IsFit message → AllByRecursion (λ (a : Answer). reading (message_octets a.message) ≡ Ok a.message)
+        (coupled sections (event_of plan node marking origin message)).sent }
 {}

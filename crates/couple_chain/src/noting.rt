@@ -20,7 +20,8 @@ use std::alloc::Global;
 
 /// Whether data from this point with this destination reference belong to an established section.
 fn is_passed(exchange: &Exchange, origin: PointCode, dlr: Reference) -> bool
-    ensures { result ≡ (is_some (known exchange.now.sections origin dlr) && is_open exchange.now.sections (section_at exchange.now.sections dlr)) }
+    ensures { result ≡ (is_some (known exchange.now.sections origin dlr)
+        && is_open exchange.now.sections (section_at exchange.now.sections dlr)) }
 {
     match exchange.known(origin, dlr) {
         None => false,
@@ -116,8 +117,12 @@ pub(crate) fn note(
     origin: PointCode,
     message: &Message,
 ) -> Result<(), OutOfMemory>
-    ensures passed { OnOk result ((way : Way) → after.now.sections ≡ (coupled before.now.sections (event_with origin message.now way)).sections → passed.new.items ≡ log_after before.now.sections (event_with origin message.now way) passed.old.items) }
-    ensures given { OnOk result ((way : Way) → after.now.sections ≡ (coupled before.now.sections (event_with origin message.now way)).sections → given.new.items ≡ given.old.items ++ flat_map both_of (made before.now.sections (event_with origin message.now way))) }
+    ensures passed { OnOk result ((way : Way) → after.now.sections
+        ≡ (coupled before.now.sections (event_with origin message.now way)).sections
+        → passed.new.items ≡ log_after before.now.sections (event_with origin message.now way) passed.old.items) }
+    ensures given { OnOk result ((way : Way) → after.now.sections
+        ≡ (coupled before.now.sections (event_with origin message.now way)).sections
+        → given.new.items ≡ given.old.items ++ flat_map both_of (made before.now.sections (event_with origin message.now way))) }
     ensures err_passed { OnErr result (passed.new.items ≡ passed.old.items) }
     ensures err_given { OnErr result (given.new.items ≡ given.old.items) }
 {

@@ -65,8 +65,10 @@ impl Relay {
         requires node { self.now.node < length plan.now.nodes }
         requires short { HasShortParts message.now }
         ensures node { IfOk result (λ p. p.exchange.node ≡ self.now.node) }
-        ensures sections { IfOk result (λ p. p.exchange.sections ≡ (coupled self.now.sections (event_of plan.now self.now.node marking.now origin message.now)).sections) }
-        ensures sent { IfOk result (λ p. p.sent ≡ map written_sent (coupled self.now.sections (event_of plan.now self.now.node marking.now origin message.now)).sent) }
+        ensures sections { IfOk result (λ p. p.exchange.sections
+            ≡ (coupled self.now.sections (event_of plan.now self.now.node marking.now origin message.now)).sections) }
+        ensures sent { IfOk result (λ p. p.sent ≡ map written_sent
+            (coupled self.now.sections (event_of plan.now self.now.node marking.now origin message.now)).sent) }
     {
         let mut exchange = self.exchange.try_clone()?;
         let sent = exchange.on(plan, marking, origin, message)?;
@@ -82,7 +84,8 @@ impl Relay {
         message: &Message,
     ) -> Result<(), OutOfMemory>
         requires node { exchange.node ≡ self.old.node }
-        ensures ok { OnOk result ((way : Way) → exchange.sections ≡ (coupled self.old.sections (event_with origin message.now way)).sections → self.new ≡ relay_after self.old (event_with origin message.now way)) }
+        ensures ok { OnOk result ((way : Way) → exchange.sections ≡ (coupled self.old.sections (event_with origin message.now way)).sections
+            → self.new ≡ relay_after self.old (event_with origin message.now way)) }
         ensures err { OnErr result (self.new ≡ self.old) }
     {
         note(

@@ -1,5 +1,6 @@
 -- The answers of all shares as those of the batch.
-use Rattle.std.proofs.Common.{◌≡◌, ℕ, ◌+◌, ◌*◌, ◌/◌, ◌%◌, ◌<◌, ◌≤◌, List, [], ◌∷◌, ◌++◌, length, take, drop, get_or, slice_get, Option, Some, None, Result, Ok, Err, inl, inr, ⊎_elim, refl, sym, ap, ◌∙◌, subst, le_trans, arith}
+use Rattle.std.proofs.Common.{◌≡◌, ℕ, ◌+◌, ◌*◌, ◌/◌, ◌%◌, ◌<◌, ◌≤◌, List, [], ◌∷◌, ◌++◌, length, take, drop, get_or, slice_get, Option}
+use Rattle.std.proofs.Common.{Some, None, Result, Ok, Err, inl, inr, ⊎_elim, refl, sym, ap, ◌∙◌, subst, le_trans, arith}
 use Rattle.std.specs.Prelude.{IfSome, IsSomeAnd, IfOk}
 use Rattle.std.proofs.Math.Nat.{mod-lt, div-mul-le_self}
 use Rattle.std.proofs.lemmas.Nat.{div-add-mod', le-div}
@@ -45,12 +46,16 @@ whole_back (x ∷ xs) (y ∷ ys) e = ap (λ zs. y ∷ zs) (whole_back xs ys (ome
 
 module _ {P : Type 0} {g : Ghosts P} where
   pub counted_from : (n : ℕ) (u v w : Worker P g) → Lasts n u v → Counted v w → Counted u w
-  counted_from n u v w l c = ⊎_elim (λ r. inl (rose_less (g.entries u.place) (g.entries v.place) (g.entries w.place) l.entries r)) (λ r. inr (rose_less (g.refusals u.place) (g.refusals v.place) (g.refusals w.place) l.refusals r)) c
+  counted_from n u v w l c = ⊎_elim (λ r. inl (rose_less (g.entries u.place) (g.entries v.place) (g.entries w.place) l.entries r))
+      (λ r. inr (rose_less (g.refusals u.place) (g.refusals v.place) (g.refusals w.place) l.refusals r)) c
 
-  module _ (plans : List Verified) (states : List State) (jobs : List Job) (count from : ℕ) (before after : List (Worker P g)) (answers : List Served) (long : length answers ≡ length jobs) (some : 0 < count) (all : count ≡ length before)
-      (served : (i : ℕ) (d : Worker P g) → i < count → HasServed states jobs count i (get_or before i d) (get_or after i d)) (follow : (i : ℕ) (d : Worker P g) → i < count → Follows plans (get_or before i d))
+  module _ (plans : List Verified) (states : List State) (jobs : List Job) (count from : ℕ) (before after : List (Worker P g))
+      (answers : List Served) (long : length answers ≡ length jobs) (some : 0 < count) (all : count ≡ length before)
+      (served : (i : ℕ) (d : Worker P g) → i < count → HasServed states jobs count i (get_or before i d) (get_or after i d))
+      (follow : (i : ℕ) (d : Worker P g) → i < count → Follows plans (get_or before i d))
       (begun : (i : ℕ) (d : Worker P g) → i < count → (get_or before i d).kept.number ≡ from)
-      (taken : (i : ℕ) (d : Worker P g) → i < length jobs → IsSomeAnd (get_or after (i % count) d).answers (λ q. slice_get answers i ≡ slice_get q.items (i / count))) where
+      (taken : (i : ℕ) (d : Worker P g) → i < length jobs
+      → IsSomeAnd (get_or after (i % count) d).answers (λ q. slice_get answers i ≡ slice_get q.items (i / count))) where
     d : Worker P g
     d = first_item before (subst (λ n. 0 < n) all some)
 
@@ -67,20 +72,26 @@ module _ {P : Type 0} {g : Ghosts P} where
           let both = some_both (get_or after k d).answers _ _ h.served (taken i d (inside i s at)) in
           let share = both.1 plans (follow k d k_lt) in
           let here = sym both.2 ∙ at in
-          let same : i / count * count + k ≡ i = div-add-mod' i count in
-          (share.each (i / count) job s (subst (λ n. slice_get jobs n ≡ Some job) (sym same) there) here, subst (λ n. n ≤ s.number) (begun k d k_lt) (share.within (i / count) s here).0);
+          let same : i / count * count + k ≡ i = div-add-mod' i count in (
+            share.each (i / count) job s (subst (λ n. slice_get jobs n ≡ Some job) (sym same) there) here,
+            subst (λ n. n ≤ s.number)
+                (begun k d k_lt) (share.within (i / count) s here).0,
+          );
       rising = λ i j s t le same at_i at_j.
           let k = i % count in
           let k_lt : k < count = mod-lt i some in
           let h = served k d k_lt in
-          let other = subst (λ n. IsSomeAnd (get_or after n d).answers (λ q. slice_get answers j ≡ slice_get q.items (j / count))) (sym same) (taken j d (inside j t at_j)) in
+          let other = subst (λ n. IsSomeAnd (get_or after n d).answers (λ q. slice_get answers j ≡ slice_get q.items (j / count)))
+          (sym same) (taken j d (inside j t at_j)) in
           let both = some_three (get_or after k d).answers _ _ _ h.served (taken i d (inside i s at_i)) other in
           let share = both.1 plans (follow k d k_lt) in
-          share.rising (i / count) (j / count) s t (le-div (i / count) j count some (le_trans (div-mul-le_self i count) le)) (sym both.2 ∙ at_i) (sym both.3 ∙ at_j);
+          share.rising (i / count) (j / count) s t (le-div (i / count) j count some (le_trans (div-mul-le_self i count) le)) (sym both.2
+          ∙ at_i) (sym both.3 ∙ at_j);
     }
 
   -- a worker through a batch: it is briefed, serves, and gives its answers
-  module _ (n : ℕ) (u v w x : Worker P g) (states : List State) (jobs : List Job) (count share : ℕ) (l : Lasts n u v) (h : HasServed states jobs count share v w) (k : KeepsAll w x) where
+  module _ (n : ℕ) (u v w x : Worker P g) (states : List State) (jobs : List Job) (count share : ℕ) (l : Lasts n u v)
+      (h : HasServed states jobs count share v w) (k : KeepsAll w x) where
     pub lasts_through : Lasts n u x
     lasts_through = lasts_trans n u v x l (goes_same v w x h.goes_on k)
 
@@ -91,12 +102,18 @@ module _ {P : Type 0} {g : Ghosts P} where
     follows_through plans f = (goes_same v w x h.goes_on k).follows plans f
 
   -- what workers keep after a batch is what they learned in it
-  pub by_events : (before after : List Verified) (ws ws' : List (Worker P g)) → IsPrefix before after → AllPairs (Lasts (length before)) ws ws' → ((i : ℕ) (d : Worker P g) → i < length ws → Follows after (get_or ws' i d)) → IsByEvents before after ws ws'
+  pub by_events : (before after : List Verified) (ws ws' : List (Worker P g)) → IsPrefix before after
+      → AllPairs (Lasts (length before)) ws ws' → ((i : ℕ) (d : Worker P g) → i < length ws → Follows after (get_or ws' i d))
+      → IsByEvents before after ws ws'
   by_events before after ws ws' begins lasts follows valid =
       batch_leads (λ (w : Worker P g). w.kept.number) before after ws ws' begins lasts.long
       (λ i d lt.
-      let low : (get_or ws i d).kept.number ≤ length before = subst (λ n. n ≤ length before) (number_at (λ (w : Worker P g). w.kept.number) ws i d lt) (valid i) in
-      ((lasts.each i d lt).number low, has_within after (get_or ws' i d).kept.number (entry_plan (get_or ws' i d).kept) (follows i d lt).has))
+      let low : (get_or ws i d).kept.number ≤ length before =
+      subst (λ n. n ≤ length before) (number_at (λ (w : Worker P g). w.kept.number) ws i d lt) (valid i) in (
+        (lasts.each i d lt).number low,
+        has_within after (get_or ws' i d).kept.number (entry_plan (get_or ws' i d).kept)
+            (follows i d lt).has,
+      ))
 
 pub both_ok : {A E : Type 0} (P Q : A → Type 0) (r : Result A E) → IfOk r P → IfOk r Q → IfOk r (λ x. P x × Q x)
 both_ok P Q (Ok x) p q = (p, q)

@@ -39,7 +39,8 @@ published_sync = search (accepted_send, accepted_sync, sendable, crosses) depth 
 
 -- a worker, by its reader
 reader_send : IsSend (Reader.the_row Published Known ByBatch Global the_rule the_global)
-reader_send = ReaderSent.the_send Published Known ByBatch Global the_rule the_global heap_send published_sync heap_sync (search (sendable, crosses))
+reader_send = ReaderSent.the_send Published Known ByBatch Global the_rule the_global heap_send published_sync heap_sync
+    (search (sendable, crosses))
 
 place_send : IsSend LivePlace
 place_send = let r = reader_send in search (accepted_send, accepted_sync, sendable, crosses) depth 20
@@ -49,7 +50,8 @@ worker_send = WorkerSent.the_send LivePlace the_place place_send
 
 -- the publisher, by its writer
 writer_send : IsSend (Writer.the_field Published Published Known ByBatch Global Shown the_absorb the_rule the_global).row
-writer_send = WriterSent.the_field_send Published Published Known ByBatch Global Shown the_absorb the_rule the_global published_send published_send heap_send published_sync heap_sync (search (sendable, crosses))
+writer_send = WriterSent.the_field_send Published Published Known ByBatch Global Shown the_absorb the_rule the_global published_send
+    published_send heap_send published_sync heap_sync (search (sendable, crosses))
 
 pub teller_send : IsSend Teller.the_row
 teller_send =
@@ -60,5 +62,6 @@ pub plans_send : IsSend (Deque Accepted Global the_global)
 plans_send = Deque-send Accepted accepted_send
 
 -- a closure of four captures may cross if each of them may
-pub captures_send : (name : List ℕ) (A B C D : RattleType) → IsSend A → IsSend B → IsSend C → IsSend D → IsSend (TupleAt name (A ∷ B ∷ C ∷ D ∷ []))
+pub captures_send : (name : List ℕ) (A B C D : RattleType) → IsSend A → IsSend B → IsSend C → IsSend D
+    → IsSend (TupleAt name (A ∷ B ∷ C ∷ D ∷ []))
 captures_send name A B C D a b c d = declared_send (type_at name (A ∷ B ∷ C ∷ D ∷ [])) (a, (b, (c, (d, tt))))

@@ -3,7 +3,8 @@ use Rattle.std.proofs.Common.{◌≡◌, sym, subst, ap, ◌∙◌, ℕ, ◌+◌
 use mathlib.Core.Logic.{⊎_elim}
 use native.Mathlib.Omega.{arith}
 use lib.ListN.{get_or, set}
-use Rattle.std.proofs.lemmas.List.{get_or_append_left, get_or-append-add, get_or-append_right, length-append, get_or-set_same, get_or-set_other}
+use Rattle.std.proofs.lemmas.List.{get_or_append_left, get_or-append-add, get_or-append_right, length-append, get_or-set_same}
+use Rattle.std.proofs.lemmas.List.{get_or-set_other}
 use Rattle.std.proofs.lemmas.Bool.{cases_lt}
 
 module _ {X : Type 0} where
@@ -32,7 +33,8 @@ module _ {X : Type 0} where
       let place : base + n + (k - n) ≡ base + k = omega arith in
       subst (λ x. R (base + k) x (get_or (xs' ++ ys') k d)) (sym (here ∙ get_or-append_right xs ys n k d len past))
       (subst (R (base + k) (get_or ys (k - n) d)) (sym (get_or-append_right xs' ys' n k d len' past))
-      (subst (λ at. R at (get_or ys (k - n) d) (get_or ys' (k - n) d)) place (behind (k - n) d (omega (arith, ap length e, length-append xs ys))))))
+      (subst (λ at. R at (get_or ys (k - n) d) (get_or ys' (k - n) d)) place
+      (behind (k - n) d (omega (arith, ap length e, length-append xs ys))))))
       (cases_lt k n)
 
   -- one item more is done

@@ -1,15 +1,18 @@
 -- The law of the machine, by induction over the events, and the events of a batch.
-use Rattle.std.proofs.Common.{◌≡◌, ◌∙◌, ℕ, ◌<◌, ◌≤◌, max, List, [], ◌∷◌, ◌++◌, length, map, get_or, refl, sym, ap, subst, le_refl, le_trans, zero, suc, arith, append_assoc, append-nil, length-append}
+use Rattle.std.proofs.Common.{◌≡◌, ◌∙◌, ℕ, ◌<◌, ◌≤◌, max, List, [], ◌∷◌, ◌++◌, length, map, get_or, refl, sym, ap, subst, le_refl, le_trans}
+use Rattle.std.proofs.Common.{zero, suc, arith, append_assoc, append-nil, length-append}
 use Rattle.std.specs.Prelude.{slice_index, slice_set}
 use mathlib.Core.List.{IsPrefix}
 use Rattle.std.proofs.lemmas.List.Elements.{All-nil, All-cons, All-append}
 use Rattle.std.proofs.lemmas.List.Sums.{fold-append}
 use Rattle.plan_check.specs.Verified.{Verified}
 use Rattle.live_plan.proofs.Prefixes.{prefix_self, prefix_trans}
-use Rattle.live_plan.specs.Machine.{Machine, Event, Publish, Enter, Learn, IsValid, MayCome, MayAllCome, IsLater, IsOfBatch, LeadsTo, after_event, after_events, with_number}
+use Rattle.live_plan.specs.Machine.{Machine, Event, Publish, Enter, Learn, IsValid, MayCome, MayAllCome, IsLater, IsOfBatch, LeadsTo}
+use Rattle.live_plan.specs.Machine.{after_event, after_events, with_number}
 
 -- if one number is set to no less, each number is no less
-number_le-set : (numbers : List ℕ) (worker n at : ℕ) → slice_index numbers worker ≤ n → slice_index numbers at ≤ slice_index (slice_set numbers worker n) at
+number_le-set : (numbers : List ℕ) (worker n at : ℕ) → slice_index numbers worker ≤ n
+    → slice_index numbers at ≤ slice_index (slice_set numbers worker n) at
 number_le-set [] worker n at le = le_refl _
 number_le-set (x ∷ xs) zero n zero le = le
 number_le-set (x ∷ xs) zero n (suc at) le = le_refl _
@@ -17,14 +20,16 @@ number_le-set (x ∷ xs) (suc worker) n zero le = le_refl _
 number_le-set (x ∷ xs) (suc worker) n (suc at) le = number_le-set xs worker n at le
 
 -- if each number and the new one are within a bound, so is each afterwards
-set_le : (numbers : List ℕ) (worker n at most : ℕ) → ((w : ℕ) → slice_index numbers w ≤ most) → n ≤ most → slice_index (slice_set numbers worker n) at ≤ most
+set_le : (numbers : List ℕ) (worker n at most : ℕ) → ((w : ℕ) → slice_index numbers w ≤ most) → n ≤ most
+    → slice_index (slice_set numbers worker n) at ≤ most
 set_le [] worker n at most all le = all at
 set_le (x ∷ xs) zero n zero most all le = le
 set_le (x ∷ xs) zero n (suc at) most all le = all (suc at)
 set_le (x ∷ xs) (suc worker) n zero most all le = all zero
 set_le (x ∷ xs) (suc worker) n (suc at) most all le = set_le xs worker n at most (λ w. all (suc w)) le
 
-set_rises : (m : Machine) (worker n : ℕ) → IsValid m → slice_index m.numbers worker ≤ n → n ≤ length m.plans → IsLater m (with_number m worker n)
+set_rises : (m : Machine) (worker n : ℕ) → IsValid m → slice_index m.numbers worker ≤ n → n ≤ length m.plans
+    → IsLater m (with_number m worker n)
 set_rises m worker n valid le most = record {
   plans = prefix_self m.plans;
   numbers = λ at. number_le-set m.numbers worker n at le;
@@ -38,7 +43,8 @@ one_event m (Publish plan) valid may = record {
   valid = λ worker. let v = valid worker in omega (arith, length-append m.plans (plan ∷ []));
 }
 one_event m (Enter worker) valid may = set_rises m worker (length m.plans) valid (valid worker) (le_refl _)
-one_event m (Learn worker n) valid may = let v = valid worker in set_rises m worker (max (slice_index m.numbers worker) n) valid (omega arith) (omega arith)
+one_event m (Learn worker n) valid may = let v = valid worker in set_rises m worker (max (slice_index m.numbers worker) n) valid
+    (omega arith) (omega arith)
 
 later_trans : (m n o : Machine) → IsLater m n → IsLater n o → IsLater m o
 later_trans m n o p q = record {
@@ -80,11 +86,14 @@ made_of plans numbers = record { plans = plans; numbers = numbers }
 
 -- plans are published one after the other
 published : (before rest : List Verified) (numbers : List ℕ) → LeadsTo (made_of before numbers) (made_of (before ++ rest) numbers)
-published before [] numbers = subst (λ (l : List Verified). LeadsTo (made_of before numbers) (made_of l numbers)) (sym (append-nil before)) (stays (made_of before numbers))
+published before [] numbers = subst (λ (l : List Verified). LeadsTo (made_of before numbers) (made_of l numbers)) (sym (append-nil before))
+    (stays (made_of before numbers))
 published before (plan ∷ rest) numbers =
-    let one : LeadsTo (made_of before numbers) (made_of (before ++ plan ∷ []) numbers) = by_event (made_of before numbers) (Publish plan) tt tt in
+    let one : LeadsTo (made_of before numbers) (made_of (before ++ plan ∷ []) numbers) =
+    by_event (made_of before numbers) (Publish plan) tt tt in
     let others : LeadsTo (made_of (before ++ plan ∷ []) numbers) (made_of (before ++ plan ∷ rest) numbers) =
-    subst (λ (l : List Verified). LeadsTo (made_of (before ++ plan ∷ []) numbers) (made_of l numbers)) (append_assoc before (plan ∷ []) rest) (published (before ++ plan ∷ []) rest numbers) in
+    subst (λ (l : List Verified). LeadsTo (made_of (before ++ plan ∷ []) numbers) (made_of l numbers))
+    (append_assoc before (plan ∷ []) rest) (published (before ++ plan ∷ []) rest numbers) in
     leads_trans (made_of before numbers) (made_of (before ++ plan ∷ []) numbers) (made_of (before ++ plan ∷ rest) numbers) one others
 
 -- each number rises to the one at its place, which is at most this
@@ -94,12 +103,14 @@ Rise most [] (y ∷ ys) = ⊥
 Rise most (x ∷ xs) [] = ⊥
 Rise most (x ∷ xs) (y ∷ ys) = (x ≤ y) × (y ≤ most) × Rise most xs ys
 
-learned_at : (front xs : List ℕ) (x y : ℕ) → x ≤ y → slice_set (front ++ x ∷ xs) (length front) (max (slice_index (front ++ x ∷ xs) (length front)) y) ≡ (front ++ y ∷ []) ++ xs
+learned_at : (front xs : List ℕ) (x y : ℕ) → x ≤ y
+    → slice_set (front ++ x ∷ xs) (length front) (max (slice_index (front ++ x ∷ xs) (length front)) y) ≡ (front ++ y ∷ []) ++ xs
 learned_at [] xs x y le = let e : max x y ≡ y = omega arith in ap (λ (n : ℕ). n ∷ xs) e
 learned_at (f ∷ front) xs x y le = ap (λ (ns : List ℕ). f ∷ ns) (learned_at front xs x y le)
 
 -- each worker after the first ones learns its number
-learned : (plans : List Verified) (front xs ys : List ℕ) → Rise (length plans) xs ys → LeadsTo (made_of plans (front ++ xs)) (made_of plans (front ++ ys))
+learned : (plans : List Verified) (front xs ys : List ℕ) → Rise (length plans) xs ys
+    → LeadsTo (made_of plans (front ++ xs)) (made_of plans (front ++ ys))
 learned plans front [] [] rise = stays (made_of plans (front ++ []))
 learned plans front [] (y ∷ ys) rise = absurd rise
 learned plans front (x ∷ xs) [] rise = absurd rise
@@ -107,8 +118,10 @@ learned plans front (x ∷ xs) (y ∷ ys) rise =
     let m = made_of plans (front ++ x ∷ xs) in
     let n = made_of plans ((front ++ y ∷ []) ++ xs) in
     let o = made_of plans (front ++ y ∷ ys) in
-    let one : LeadsTo m n = subst (λ (ns : List ℕ). LeadsTo m (made_of plans ns)) (learned_at front xs x y rise.0) (by_event m (Learn (length front) y) tt rise.1) in
-    let others : LeadsTo n o = subst (λ (ns : List ℕ). LeadsTo n (made_of plans ns)) (append_assoc front (y ∷ []) ys) (learned plans (front ++ y ∷ []) xs ys rise.2) in
+    let one : LeadsTo m n = subst (λ (ns : List ℕ). LeadsTo m (made_of plans ns)) (learned_at front xs x y rise.0)
+    (by_event m (Learn (length front) y) tt rise.1) in
+    let others : LeadsTo n o = subst (λ (ns : List ℕ). LeadsTo n (made_of plans ns)) (append_assoc front (y ∷ []) ys)
+    (learned plans (front ++ y ∷ []) xs ys rise.2) in
     leads_trans m n o one others
 
 module _ {A : Type 0} (number : A → ℕ) where
@@ -117,7 +130,9 @@ module _ {A : Type 0} (number : A → ℕ) where
   number_at (x ∷ xs) zero d lt = refl
   number_at (x ∷ xs) (suc i) d lt = number_at xs i d (omega arith)
 
-  rises : (most : ℕ) (xs ys : List A) → length ys ≡ length xs → ((i : ℕ) (d : A) → i < length xs → (number (get_or xs i d) ≤ number (get_or ys i d)) × (number (get_or ys i d) ≤ most)) → Rise most (map number xs) (map number ys)
+  rises : (most : ℕ) (xs ys : List A) → length ys ≡ length xs
+      → ((i : ℕ) (d : A) → i < length xs → (number (get_or xs i d) ≤ number (get_or ys i d)) × (number (get_or ys i d) ≤ most))
+      → Rise most (map number xs) (map number ys)
   rises most [] [] e each = tt
   rises most [] (y ∷ ys) e each = absurd (omega (arith, e))
   rises most (x ∷ xs) [] e each = absurd (omega (arith, e))
@@ -126,11 +141,13 @@ module _ {A : Type 0} (number : A → ℕ) where
       (here.0, here.1, rises most xs ys (omega (arith, e)) (λ i d lt. each (suc i) d (omega arith)))
 
   -- first the plans are published, and then each learns how many there are for it
-  pub batch_leads : (before after : List Verified) (xs ys : List A) → IsPrefix before after → length ys ≡ length xs → ((i : ℕ) (d : A) → i < length xs → (number (get_or xs i d) ≤ number (get_or ys i d)) × (number (get_or ys i d) ≤ length after))
+  pub batch_leads : (before after : List Verified) (xs ys : List A) → IsPrefix before after → length ys ≡ length xs
+      → ((i : ℕ) (d : A) → i < length xs → (number (get_or xs i d) ≤ number (get_or ys i d)) × (number (get_or ys i d) ≤ length after))
       → LeadsTo (made_of before (map number xs)) (made_of after (map number ys))
   batch_leads before after xs ys begins long each =
       let m = made_of before (map number xs) in
       let n = made_of after (map number xs) in
       let o = made_of after (map number ys) in
-      let first : LeadsTo m n = subst (λ (l : List Verified). LeadsTo m (made_of l (map number xs))) begins.1 (published before begins.0 (map number xs)) in
+      let first : LeadsTo m n = subst (λ (l : List Verified). LeadsTo m (made_of l (map number xs))) begins.1
+      (published before begins.0 (map number xs)) in
       leads_trans m n o first (learned after [] (map number xs) (map number ys) (rises (length after) xs ys long each))

@@ -1,5 +1,6 @@
 -- Plans of a list by their numbers.
-use Rattle.std.proofs.Common.{Option, None, ◌≡◌, ◌⊎◌, inl, inr, ⊎_elim, ℕ, ◌+◌, ◌-◌, ◌<◌, ◌≤◌, zero, suc, List, [], ◌∷◌, ◌++◌, length, map, take, slice_get, Some, refl, ap, sym, ◌∙◌, subst, get_or, arith}
+use Rattle.std.proofs.Common.{Option, None, ◌≡◌, ◌⊎◌, inl, inr, ⊎_elim, ℕ, ◌+◌, ◌-◌, ◌<◌, ◌≤◌, zero, suc, List, [], ◌∷◌, ◌++◌, length, map}
+use Rattle.std.proofs.Common.{take, slice_get, Some, refl, ap, sym, ◌∙◌, subst, get_or, arith}
 use Rattle.std.proofs.lemmas.Option.{slice_get_within, slice_get-get_or}
 use mathlib.Core.List.{IsPrefix}
 use Rattle.plan_model.proofs.Cutting.{get_front}
@@ -53,7 +54,8 @@ pub has_nodes : (nodes : ℕ) (xs : List Verified) (n : ℕ) (x : Verified) → 
 has_nodes nodes xs n x all h = all (n - 1) x h.1
 
 -- what a list with one more item at the end has at each place
-pub get_snoc : {A : Type 0} (xs : List A) (x : A) (i : ℕ) (y : A) → slice_get (xs ++ x ∷ []) i ≡ Some y → (slice_get xs i ≡ Some y) ⊎ ((i ≡ length xs) × (x ≡ y))
+pub get_snoc : {A : Type 0} (xs : List A) (x : A) (i : ℕ) (y : A) → slice_get (xs ++ x ∷ []) i ≡ Some y
+    → (slice_get xs i ≡ Some y) ⊎ ((i ≡ length xs) × (x ≡ y))
 get_snoc [] x zero y at = inr (refl, cc at)
 get_snoc [] x (suc i) y at = absurd cc
 get_snoc (z ∷ zs) x zero y at = inl at
@@ -70,8 +72,10 @@ has_behind xs rest x =
     (omega arith, subst (λ k. slice_get (xs ++ x ∷ rest) k ≡ Some x) (sym same) (get_behind xs rest x))
 
 -- the first of the plans that are to be published
-pub has_due : (due plans items rest : List Verified) (next : Verified) → due ≡ plans ++ items → items ≡ next ∷ rest → HasPlan due (length plans + 1) next
-has_due due plans items rest next all here = subst (λ l. HasPlan l (length plans + 1) next) (sym (all ∙ ap (λ l. plans ++ l) here)) (has_behind plans rest next)
+pub has_due : (due plans items rest : List Verified) (next : Verified) → due ≡ plans ++ items → items ≡ next ∷ rest
+    → HasPlan due (length plans + 1) next
+has_due due plans items rest next all here = subst (λ l. HasPlan l (length plans + 1) next) (sym (all ∙ ap (λ l. plans ++ l) here))
+    (has_behind plans rest next)
 
 pub get_append : {A : Type 0} (xs ys : List A) (i : ℕ) → i < length xs → slice_get (xs ++ ys) i ≡ slice_get xs i
 get_append [] ys i lt = absurd (omega arith)

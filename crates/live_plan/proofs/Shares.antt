@@ -1,5 +1,6 @@
 -- How a share of a batch goes on with one job.
-use Rattle.std.proofs.Common.{◌≡◌, ℕ, ◌+◌, ◌*◌, ◌≤◌, suc, List, [], ◌∷◌, ◌++◌, length, slice_get, Option, Some, None, refl, sym, ap, ◌∙◌, subst, inl, inr, ⊎_elim, le_refl, le_trans, arith, length-append}
+use Rattle.std.proofs.Common.{◌≡◌, ℕ, ◌+◌, ◌*◌, ◌≤◌, suc, List, [], ◌∷◌, ◌++◌, length, slice_get, Option, Some, None, refl, sym, ap, ◌∙◌}
+use Rattle.std.proofs.Common.{subst, inl, inr, ⊎_elim, le_refl, le_trans, arith, length-append}
 use Rattle.std.proofs.Math.Nat.{suc-mul}
 use Rattle.std.proofs.lemmas.Option.{slice_get_within}
 use Rattle.std.specs.Prelude.{IfSome}
@@ -20,13 +21,17 @@ rose_less a b c le (inl lt) = inl (omega arith)
 rose_less a b c le (inr e) = inr e
 
 -- if a place reports its list, what is kept then is of that list; if not, what is kept has stayed
-follows_at : (o : Option (List Verified)) (plans : List Verified) (n n' seen : ℕ) (p p' : Verified) → IfSome o (λ l. (n' ≡ seen) × HasPlan l n' p') → (o ≡ None → (n' ≡ n) × (p' ≡ p)) → ForSome o (λ l. l ≡ plans) → HasPlan plans n p → HasPlan plans n' p'
+follows_at : (o : Option (List Verified)) (plans : List Verified) (n n' seen : ℕ) (p p' : Verified)
+    → IfSome o (λ l. (n' ≡ seen) × HasPlan l n' p') → (o ≡ None → (n' ≡ n) × (p' ≡ p)) → ForSome o (λ l. l ≡ plans) → HasPlan plans n p
+    → HasPlan plans n' p'
 follows_at None plans n n' seen p p' m same told has = let e = same refl in rw e.0 (rw e.1 has)
 follows_at (Some l) plans n n' seen p p' m same told has = subst (λ x. HasPlan x n' p') (told l refl) m.1
 
 module _ {P : Type 0} {g : Ghosts P} where
-  pub goes_on : (w w' : Worker P g) → w'.index ≡ w.index → g.nodes w'.place ≡ g.nodes w.place → g.plans w'.place ≡ g.plans w.place → (g.entries w.place ≤ g.entries w'.place) × (g.refusals w.place ≤ g.refusals w'.place)
-      → w.kept.number ≤ w'.kept.number → IfSome (g.plans w'.place) (λ l. (w'.kept.number ≡ g.seen w'.place) × HasPlan l w'.kept.number (entry_plan w'.kept)) → (g.plans w.place ≡ None → w'.kept ≡ w.kept) → GoesOn w w'
+  pub goes_on : (w w' : Worker P g) → w'.index ≡ w.index → g.nodes w'.place ≡ g.nodes w.place → g.plans w'.place ≡ g.plans w.place
+      → (g.entries w.place ≤ g.entries w'.place) × (g.refusals w.place ≤ g.refusals w'.place)
+      → w.kept.number ≤ w'.kept.number → IfSome (g.plans w'.place) (λ l. (w'.kept.number ≡ g.seen w'.place)
+      × HasPlan l w'.kept.number (entry_plan w'.kept)) → (g.plans w.place ≡ None → w'.kept ≡ w.kept) → GoesOn w w'
   goes_on w w' index nodes plans counts rises told untold = record {
     lasts = λ n. record { index = index; nodes = nodes; entries = counts.0; refusals = counts.1; number = λ le. rises };
     rises = rises;
@@ -58,28 +63,41 @@ module _ {P : Type 0} {g : Ghosts P} where
   pub counts_last : (u v w : Worker P g) → GoesOn u v → Counted v w → Counted u w
   counts_last u v w p c =
       let l = p.lasts 0 in
-      ⊎_elim (λ r. inl (rose_less (g.entries u.place) (g.entries v.place) (g.entries w.place) l.entries r)) (λ r. inr (rose_less (g.refusals u.place) (g.refusals v.place) (g.refusals w.place) l.refusals r)) c
+      ⊎_elim (λ r. inl (rose_less (g.entries u.place) (g.entries v.place) (g.entries w.place) l.entries r))
+      (λ r. inr (rose_less (g.refusals u.place) (g.refusals v.place) (g.refusals w.place) l.refusals r)) c
 
 -- one more answer
-pub share_more : (plans : List Verified) (states : List State) (jobs : List Job) (count share from upto : ℕ) (answers : List Served) (s : Served) (job : Job)
-    → IsShare plans states jobs count share from upto answers → from ≤ upto → upto ≤ s.number → slice_get jobs (length answers * count + share) ≡ Some job → IsServed plans states job s
+pub share_more : (plans : List Verified) (states : List State) (jobs : List Job) (count share from upto : ℕ) (answers : List Served)
+    (s : Served) (job : Job)
+    → IsShare plans states jobs count share from upto answers → from ≤ upto → upto ≤ s.number
+    → slice_get jobs (length answers * count + share) ≡ Some job → IsServed plans states job s
     → IsShare plans states jobs count share from s.number (answers ++ s ∷ [])
 share_more plans states jobs count share from upto answers s job h some more at served = record {
   each = λ r other t there e. ⊎_elim (h.each r other t there)
-      (λ (last : (r ≡ length answers) × (s ≡ t)). let same : job ≡ other = cc (at, subst (λ k. slice_get jobs (k * count + share) ≡ Some other) last.0 there) in subst (IsServed plans states other) last.1 (subst (λ (j : Job). IsServed plans states j s) same served)) (get_snoc answers s r t e);
-  within = λ r t e. ⊎_elim (λ o. let w = h.within r t o in (w.0, le_trans w.1 more)) (λ (last : (r ≡ length answers) × (s ≡ t)). subst (λ (u : Served). (from ≤ u.number) × (u.number ≤ s.number)) last.1 (le_trans some more, le_refl _)) (get_snoc answers s r t e);
+      (λ (last : (r ≡ length answers) × (s ≡ t)). let same : job
+      ≡ other = cc (at, subst (λ k. slice_get jobs (k * count + share) ≡ Some other) last.0 there) in subst
+      (IsServed plans states other) last.1 (subst (λ (j : Job). IsServed plans states j s) same served)) (get_snoc answers s r t e);
+  within = λ r t e. ⊎_elim (λ o. let w = h.within r t o in (w.0, le_trans w.1 more))
+      (λ (last : (r ≡ length answers) × (s ≡ t)). subst (λ (u : Served). (from ≤ u.number) × (u.number ≤ s.number)) last.1
+      (le_trans some more, le_refl _)) (get_snoc answers s r t e);
   rising = λ q r a b le x y.
       ⊎_elim
-      (λ b_old. ⊎_elim (λ a_old. h.rising q r a b le a_old b_old) (λ (last : (q ≡ length answers) × (s ≡ a)). let inside = slice_get_within answers r b b_old in absurd (omega (arith, last.0, le, inside))) (get_snoc answers s q a x))
-      (λ (b_last : (r ≡ length answers) × (s ≡ b)). ⊎_elim (λ a_old. subst (λ (u : Served). a.number ≤ u.number) b_last.1 (le_trans (h.within q a a_old).1 more))
-      (λ (a_last : (q ≡ length answers) × (s ≡ a)). subst (λ (u : Served). a.number ≤ u.number) b_last.1 (subst (λ (u : Served). u.number ≤ s.number) a_last.1 (le_refl _))) (get_snoc answers s q a x))
+      (λ b_old. ⊎_elim (λ a_old. h.rising q r a b le a_old b_old)
+      (λ (last : (q ≡ length answers) × (s ≡ a)). let inside = slice_get_within answers r b b_old in absurd
+      (omega (arith, last.0, le, inside))) (get_snoc answers s q a x))
+      (λ (b_last : (r ≡ length answers) × (s ≡ b)). ⊎_elim
+      (λ a_old. subst (λ (u : Served). a.number ≤ u.number) b_last.1 (le_trans (h.within q a a_old).1 more))
+      (λ (a_last : (q ≡ length answers) × (s ≡ a)). subst (λ (u : Served). a.number ≤ u.number) b_last.1
+      (subst (λ (u : Served). u.number ≤ s.number) a_last.1 (le_refl _))) (get_snoc answers s q a x))
       (get_snoc answers s r b y);
 }
 
-pub next_at : (answers : List Served) (s : Served) (count share : ℕ) → length (answers ++ s ∷ []) * count + share ≡ length answers * count + share + count
+pub next_at : (answers : List Served) (s : Served) (count share : ℕ)
+    → length (answers ++ s ∷ []) * count + share ≡ length answers * count + share + count
 next_at answers s count share =
     let long : length (answers ++ s ∷ []) ≡ suc (length answers) = omega (arith, length-append answers (s ∷ [])) in
-    let e : length (answers ++ s ∷ []) * count ≡ length answers * count + count = ap (λ n. n * count) long ∙ suc-mul (length answers) count in
+    let e : length (answers ++ s ∷ []) * count ≡ length answers * count + count = ap (λ n. n * count) long
+    ∙ suc-mul (length answers) count in
     omega (arith, e)
 
 module _ {P : Type 0} {g : Ghosts P} where

@@ -1,5 +1,6 @@
 -- What the publisher knows after a publication.
-use Rattle.std.proofs.Common.{◌≡◌, ℕ, ◌+◌, ◌-◌, ◌^◌, ◌<◌, zero, suc, List, [], ◌∷◌, ◌++◌, length, take, fold, slice_get, Some, refl, sym, ap, ◌∙◌, subst, arith, length-append, Result, Ok, Err}
+use Rattle.std.proofs.Common.{◌≡◌, ℕ, ◌+◌, ◌-◌, ◌^◌, ◌<◌, zero, suc, List, [], ◌∷◌, ◌++◌, length, take, fold, slice_get, Some, refl, sym}
+use Rattle.std.proofs.Common.{ap, ◌∙◌, subst, arith, length-append, Result, Ok, Err}
 use Rattle.std.specs.Prelude.{MatchResult, IfOk}
 use Rattle.std.proofs.lemmas.List.Sums.{fold-append}
 use Rattle.std.proofs.Math.Seq.{take-append_seam}
@@ -17,14 +18,17 @@ abbrev pub shown_next : Shown → Published → Shown
 shown_next s op = arc_value op.shown
 
 -- only the last operation counts
-pub last_shown : (x s : Shown) (all ops : List Published) (op : Published) → x ≡ fold shown_next s all → all ≡ ops ++ op ∷ [] → x ≡ arc_value op.shown
+pub last_shown : (x s : Shown) (all ops : List Published) (op : Published) → x ≡ fold shown_next s all → all ≡ ops ++ op ∷ []
+    → x ≡ arc_value op.shown
 last_shown x s all ops op is pending = is ∙ (ap (fold shown_next s) pending ∙ fold-append shown_next s ops (op ∷ []))
 
-pub both_match : {A E X : Type 0} (r : Result A E) (P P' : A → Type 0) (Q Q' : E → Type 0) → MatchResult r P Q → MatchResult r P' Q' → ((x : A) → P x → P' x → X) → ((e : E) → Q e → Q' e → X) → X
+pub both_match : {A E X : Type 0} (r : Result A E) (P P' : A → Type 0) (Q Q' : E → Type 0) → MatchResult r P Q → MatchResult r P' Q'
+    → ((x : A) → P x → P' x → X) → ((e : E) → Q e → Q' e → X) → X
 both_match (Ok x) P P' Q Q' p p' f g = f x p p'
 both_match (Err e) P P' Q Q' q q' f g = g e q q'
 
-pub both_ok : {A E : Type 0} {X : A → Type 0} (r : Result A E) (P P' : A → Type 0) (Q Q' : E → Type 0) → MatchResult r P Q → MatchResult r P' Q' → ((x : A) → P x → P' x → X x) → IfOk r X
+pub both_ok : {A E : Type 0} {X : A → Type 0} (r : Result A E) (P P' : A → Type 0) (Q Q' : E → Type 0) → MatchResult r P Q
+    → MatchResult r P' Q' → ((x : A) → P x → P' x → X x) → IfOk r X
 both_ok (Ok x) P P' Q Q' p p' f = f x p p'
 both_ok (Err e) P P' Q Q' q q' f = tt
 
@@ -47,10 +51,12 @@ take_next (y ∷ ys) (suc n) x at = ap (λ zs. y ∷ zs) (take_next ys n x at)
 module _ (nodes : ℕ) (s : Shown) (v : Known) (y : Shown) (t : IsTelling nodes s v) where
   -- the number of published plans
   pub seen_length : length (seen_of v) ≡ s.number
-  seen_length = let within = has_within v.plans s.number (arc_value s.plan) t.plan_is in let e = t.number_is in sym (take_length v.plans v.number (omega arith)) ∙ e
+  seen_length = let within = has_within v.plans s.number (arc_value s.plan) t.plan_is in let e =
+      t.number_is in sym (take_length v.plans v.number (omega arith)) ∙ e
 
   here_seen : HasPlan (seen_of v) s.number (arc_value s.plan)
-  here_seen = subst (λ n. HasPlan (take n v.plans) s.number (arc_value s.plan)) (sym t.number_is) (has_taken v.plans s.number (arc_value s.plan) t.plan_is)
+  here_seen = subst (λ n. HasPlan (take n v.plans) s.number (arc_value s.plan)) (sym t.number_is)
+      (has_taken v.plans s.number (arc_value s.plan) t.plan_is)
 
   pub last_seen : HasPlan (seen_of v) (length (seen_of v)) (arc_value s.plan)
   last_seen = subst (λ n. HasPlan (seen_of v) n (arc_value s.plan)) (sym seen_length) here_seen
@@ -90,13 +96,16 @@ module _ (nodes : ℕ) (s : Shown) (v : Known) (y : Shown) (t : IsTelling nodes 
         let e = t.number_is in
         let n : y.number ≡ suc v.number = omega arith in
         let before : y.number - 1 ≡ v.number = omega arith in
-        ap (λ k. take k v.plans) n ∙ take_next v.plans v.number (arc_value y.plan) (subst (λ k. slice_get v.plans k ≡ Some (arc_value y.plan)) before here.1)
+        ap (λ k. take k v.plans) n ∙ take_next v.plans v.number (arc_value y.plan)
+        (subst (λ k. slice_get v.plans k ≡ Some (arc_value y.plan)) before here.1)
 
 -- the list of only the first plan
-pub first_here : (y : Shown) (first : Verified) → y.number ≡ 1 → y.coming.value ≡ first ∷ [] → arc_value y.plan ≡ first → HasPlan (seen_of newcomer ++ y.coming.value) y.number (arc_value y.plan)
+pub first_here : (y : Shown) (first : Verified) → y.number ≡ 1 → y.coming.value ≡ first ∷ [] → arc_value y.plan ≡ first
+    → HasPlan (seen_of newcomer ++ y.coming.value) y.number (arc_value y.plan)
 first_here y first number coming plan = rw number (rw coming (rw plan (omega arith, refl)))
 
-pub first_telling : (nodes : ℕ) (y : Shown) (first : Verified) → y.number ≡ 1 → y.coming.value ≡ first ∷ [] → arc_value y.plan ≡ first → nodes_of first ≡ nodes → IsTelling nodes y (begun newcomer y)
+pub first_telling : (nodes : ℕ) (y : Shown) (first : Verified) → y.number ≡ 1 → y.coming.value ≡ first ∷ [] → arc_value y.plan ≡ first
+    → nodes_of first ≡ nodes → IsTelling nodes y (begun newcomer y)
 first_telling nodes y first number coming plan same = record {
   batch_is = refl;
   number_is = refl;

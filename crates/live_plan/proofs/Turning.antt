@@ -20,17 +20,22 @@ new_fits s plans positive = record {
 }
 
 -- all fit after one view was set
-set_fits : (s : Shown) (plans : List Verified) (views : List Known) (seat : ℕ) (w : Known) → ((j : ℕ) (u : Known) → get_elem? views j ≡ some u → Fits s plans u) → Fits s plans w
+set_fits : (s : Shown) (plans : List Verified) (views : List Known) (seat : ℕ) (w : Known)
+    → ((j : ℕ) (u : Known) → get_elem? views j ≡ some u → Fits s plans u) → Fits s plans w
     → (j : ℕ) (u : Known) → get_elem? (set views seat w) j ≡ some u → Fits s plans u
 set_fits s plans views seat w each mine j u e =
-    ⊎_elim (λ (t : (j ≡ seat) × (w ≡ u)). subst (Fits s plans) t.1 mine) (λ (t : (j ≢ seat) × (get_elem? views j ≡ some u)). each j u t.1) (at_set views seat j w u e)
+    ⊎_elim (λ (t : (j ≡ seat) × (w ≡ u)). subst (Fits s plans) t.1 mine) (λ (t : (j ≢ seat) × (get_elem? views j ≡ some u)). each j u t.1)
+    (at_set views seat j w u e)
 
-snoc_fits : (s : Shown) (plans : List Verified) (views : List Known) (w : Known) → ((j : ℕ) (u : Known) → get_elem? views j ≡ some u → Fits s plans u) → Fits s plans w
+snoc_fits : (s : Shown) (plans : List Verified) (views : List Known) (w : Known)
+    → ((j : ℕ) (u : Known) → get_elem? views j ≡ some u → Fits s plans u) → Fits s plans w
     → (j : ℕ) (u : Known) → get_elem? (views ++ w ∷ []) j ≡ some u → Fits s plans u
 snoc_fits s plans views w each mine j u e = ⊎_elim (each j u) (λ (same : w ≡ u). subst (Fits s plans) same mine) (at_snoc views w u j e)
 
-abbrev set_kept : (s : Shown) (views : List Known) (seat : ℕ) (w : Known) → (k : Kept s views) → Fits s k.plans w → Kept s (set views seat w)
-set_kept s views seat w k mine = record { plans = k.plans; begun = k.begun; here = k.here; each = set_fits s k.plans views seat w k.each mine }
+abbrev set_kept : (s : Shown) (views : List Known) (seat : ℕ) (w : Known) → (k : Kept s views) → Fits s k.plans w
+    → Kept s (set views seat w)
+set_kept s views seat w k mine =
+    record { plans = k.plans; begun = k.begun; here = k.here; each = set_fits s k.plans views seat w k.each mine }
 
 abbrev snoc_kept : (s : Shown) (views : List Known) (w : Known) → (k : Kept s views) → Fits s k.plans w → Kept s (views ++ w ∷ [])
 snoc_kept s views w k mine = record { plans = k.plans; begun = k.begun; here = k.here; each = snoc_fits s k.plans views w k.each mine }
@@ -56,7 +61,8 @@ module _ {T : Type 0} (shown : T → Shown) where
   pub admits : Admits (λ p. Kept (shown p)) newcomer
   admits p views k = snoc_kept (shown p) views newcomer k (new_fits (shown p) k.plans k.begun)
 
-  pub begins : (seat : ℕ) (v : Known) (x y : T) → (shown x).batch < (shown y).batch → HasPlan (seen_of v ++ (shown y).coming.value) (shown y).number (arc_value (shown y).plan)
+  pub begins : (seat : ℕ) (v : Known) (x y : T) → (shown x).batch < (shown y).batch
+      → HasPlan (seen_of v ++ (shown y).coming.value) (shown y).number (arc_value (shown y).plan)
       → TurnsAt (λ p. Kept (shown p)) seat v x y (λ v x y w. w ≡ begun v (shown y))
   begins seat v x y lt here views k at =
       let w = begun v (shown y) in
@@ -72,12 +78,18 @@ module _ {T : Type 0} (shown : T → Shown) where
         refl,
       )
 
-  pub advances : (seat : ℕ) (v : Known) (x y : T) → v.batch ≡ (shown x).batch → (shown x).batch ≡ (shown y).batch → (shown x).number ≤ (shown y).number → HasPlan v.plans (shown y).number (arc_value (shown y).plan)
+  pub advances : (seat : ℕ) (v : Known) (x y : T) → v.batch ≡ (shown x).batch → (shown x).batch ≡ (shown y).batch
+      → (shown x).number ≤ (shown y).number → HasPlan v.plans (shown y).number (arc_value (shown y).plan)
       → TurnsAt (λ p. Kept (shown p)) seat v x y (λ v x y w. w ≡ advanced v (shown y))
   advances seat v x y mine same le here views k at =
       let w = advanced v (shown y) in
       let list : v.plans ≡ k.plans = (k.each seat v at).same mine in
-      let fits : Fits (shown y) k.plans w = record { earlier = let e : v.batch ≡ (shown y).batch = mine ∙ same in omega (arith, e); same = λ e. list; within = λ e. le_refl _ } in (
+      let fits : Fits (shown y) k.plans w = record {
+        earlier = let e : v.batch ≡ (shown y).batch = mine
+            ∙ same in omega (arith, e);
+        same = λ e. list;
+        within = λ e. le_refl _;
+      } in (
         w,
         record {
           plans = k.plans;
@@ -117,6 +129,7 @@ module _ {T : Type 0} (shown : T → Shown) where
 
   pub merges : (seat : ℕ) (v : Known) (other : ℕ) (w : Known) → Merges (λ p. Kept (shown p)) seat v other w w newcomer
   merges seat v other w x views k at apart there =
-      let theirs = ⊎_elim (λ (t : (other ≡ seat) × (w ≡ w)). absurd (apart t.0)) (λ (t : (other ≢ seat) × (get_elem? views other ≡ some w)). k.each other w t.1) (at_set views seat other w w there) in
+      let theirs = ⊎_elim (λ (t : (other ≡ seat) × (w ≡ w)). absurd (apart t.0))
+      (λ (t : (other ≢ seat) × (get_elem? views other ≡ some w)). k.each other w t.1) (at_set views seat other w w there) in
       let one = set_kept (shown x) views seat w k theirs in
       set_kept (shown x) (set views seat w) other newcomer one (new_fits (shown x) k.plans k.begun)

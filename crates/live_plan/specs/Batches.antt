@@ -20,8 +20,10 @@ pub record IsServed (plans : List Verified) (states : List State) (job : Job) (s
 
 -- The answers of a share, so far: those of every count-th job, from the share's own one on. The numbers lie between two
 -- bounds, and never fall.
-pub record IsShare (plans : List Verified) (states : List State) (jobs : List Job) (count share from upto : ℕ) (answers : List Served) : Type 0 where
-  pub each : (r : ℕ) (job : Job) (s : Served) → slice_get jobs (r * count + share) ≡ Some job → slice_get answers r ≡ Some s → IsServed plans states job s
+pub record IsShare (plans : List Verified) (states : List State) (jobs : List Job) (count share from upto : ℕ)
+    (answers : List Served) : Type 0 where
+  pub each : (r : ℕ) (job : Job) (s : Served) → slice_get jobs (r * count + share) ≡ Some job → slice_get answers r ≡ Some s
+      → IsServed plans states job s
   pub within : (r : ℕ) (s : Served) → slice_get answers r ≡ Some s → (from ≤ s.number) × (s.number ≤ upto)
   pub rising : (q r : ℕ) (s t : Served) → q ≤ r → slice_get answers q ≡ Some s → slice_get answers r ≡ Some t → s.number ≤ t.number
 
@@ -29,8 +31,10 @@ pub record IsShare (plans : List Verified) (states : List State) (jobs : List Jo
 -- In a share, which is the jobs of equal index modulo the count, the numbers never fall.
 pub record AreServed (plans : List Verified) (states : List State) (jobs : List Job) (count from : ℕ) (answers : List Served) : Type 0 where
   pub long : length answers ≡ length jobs
-  pub each : (i : ℕ) (job : Job) (s : Served) → slice_get jobs i ≡ Some job → slice_get answers i ≡ Some s → IsServed plans states job s × (from ≤ s.number)
-  pub rising : (i j : ℕ) (s t : Served) → i ≤ j → i % count ≡ j % count → slice_get answers i ≡ Some s → slice_get answers j ≡ Some t → s.number ≤ t.number
+  pub each : (i : ℕ) (job : Job) (s : Served) → slice_get jobs i ≡ Some job → slice_get answers i ≡ Some s
+      → IsServed plans states job s × (from ≤ s.number)
+  pub rising : (i j : ℕ) (s t : Served) → i ≤ j → i % count ≡ j % count → slice_get answers i ≡ Some s → slice_get answers j ≡ Some t
+      → s.number ≤ t.number
 
 -- each item is tied to the one at its place
 pub record AllPairs {A : Type 0} (R : A → A → Type 0) (xs ys : List A) : Type 0 where
@@ -72,7 +76,8 @@ module _ {P : Type 0} {g : Ghosts P} where
     pub goes_on : GoesOn w w'
     pub counted : share < length jobs → Counted w w'
     pub enough : IfSome w'.answers (λ q. length jobs ≤ length q.items * count + share)
-    pub served : IfSome w'.answers (λ q. (plans : List Verified) → Follows plans w → IsShare plans states jobs count share w.kept.number w'.kept.number q.items)
+    pub served : IfSome w'.answers (λ q. (plans : List Verified) → Follows plans w
+        → IsShare plans states jobs count share w.kept.number w'.kept.number q.items)
 
   -- a new worker, when n plans are published
   pub record IsHired (plans : List Verified) (n nodes index : ℕ) (w : Worker P g) : Type 0 where
@@ -88,4 +93,5 @@ module _ {P : Type 0} {g : Ghosts P} where
   -- If no worker kept a plan with a higher number than the last one's, the batch is a list of events. Publications, and
   -- workers that learn of them, lead from the plans and numbers before to those after.
   abbrev pub IsByEvents : List Verified → List Verified → List (Worker P g) → List (Worker P g) → Type 0
-  IsByEvents before after workers workers' = IsValid (machine_of before workers) → LeadsTo (machine_of before workers) (machine_of after workers')
+  IsByEvents before after workers workers' = IsValid (machine_of before workers)
+      → LeadsTo (machine_of before workers) (machine_of after workers')

@@ -37,7 +37,8 @@ pub record Kept (s : Shown) (views : List Known) : Type 0 where
 -- What an entry shows. In the batch that the seat knows, the plan is that of its list, and no earlier one than it has seen.
 -- In another batch it shows nothing.
 pub record Saw (v : Known) (s : Shown) (w : Known) : Type 0 where
-  pub here : v.batch ≡ s.batch → (w ≡ known v.batch v.plans s.number) × (HasPlan v.plans s.number (arc_value s.plan) × (v.number ≤ s.number))
+  pub here : v.batch ≡ s.batch → (w ≡ known v.batch v.plans s.number)
+      × (HasPlan v.plans s.number (arc_value s.plan) × (v.number ≤ s.number))
   pub elsewhere : v.batch ≢ s.batch → w ≡ v
 
 -- what the publisher knows when a batch begins: the plans that were published, and those that may be published in it

@@ -42,7 +42,8 @@ fn serve_all<R: Threads + Sync, G: Gate + Sync>(
     requires count { (0 < length workers.old) × (length workers.old ≤ 16) }
     requires states { All (λ w. w.place.nodes ≡ length states.now) workers.old }
     requires entries { All (λ job. job.entry < length states.now) jobs.now }
-    ensures { (i : ℕ) (d : _) → i < length workers.old → HasServed states.now jobs.now (length workers.old) i (slice_index_or workers.old i d) (slice_index_or workers.new i d) }
+    ensures { (i : ℕ) (d : _) → i < length workers.old → HasServed states.now jobs.now (length workers.old) i
+        (slice_index_or workers.old i d) (slice_index_or workers.new i d) }
 {
     let count = workers.len();
     for_each_beside(
@@ -50,7 +51,8 @@ fn serve_all<R: Threads + Sync, G: Gate + Sync>(
         workers,
         threads,
         &|share: usize, worker: &mut Worker<LivePlace>|
-            requires { (0 < count) × (count ≤ 16) × (share < count) × (worker.now.place.nodes ≡ length states.now) × All (λ job. job.entry < length states.now) jobs.now }
+            requires { (0 < count) × (count ≤ 16) × (share < count) × (worker.now.place.nodes ≡ length states.now)
+                × All (λ job. job.entry < length states.now) jobs.now }
             ensures { HasServed states.entry.now jobs.entry.now count share worker.entry.now worker.exit.now }
         { keep_share(alloc, count, share, states, jobs, gate, worker) },
     );
@@ -74,7 +76,8 @@ fn serve_beside<R: Threads + Wait + Sync, G: Gate + Sync>(
     requires states { All (λ w. w.place.nodes ≡ length states.now) workers.old }
     requires entries { All (λ job. job.entry < length states.now) jobs.now }
     ensures published { HasPublished teller.old teller.new result }
-    ensures served { (i : ℕ) (d : _) → i < length workers.old → HasServed states.now jobs.now (length workers.old) i (slice_index_or workers.old i d) (slice_index_or workers.new i d) }
+    ensures served { (i : ℕ) (d : _) → i < length workers.old
+        → HasServed states.now jobs.now (length workers.old) i (slice_index_or workers.old i d) (slice_index_or workers.new i d) }
 {
     if plans.is_empty() {
         serve_all(rt, alloc, threads, states, jobs, gate, workers);
@@ -87,8 +90,11 @@ fn serve_beside<R: Threads + Wait + Sync, G: Gate + Sync>(
             ensures { HasPublished teller.entry.now teller.exit.now result }
         { publish_all(rt, gate, teller, plans) },
         &mut ||
-            requires { IsSync R.row × IsSync G.row × (0 < threads) × (0 < length workers.now) × (length workers.now ≤ 16) × All (λ w. w.place.nodes ≡ length states.now) workers.now × All (λ job. job.entry < length states.now) jobs.now }
-            ensures { (i : ℕ) (d : _) → i < length workers.entry.now → HasServed states.entry.now jobs.entry.now (length workers.entry.now) i (slice_index_or workers.entry.now i d) (slice_index_or workers.exit.now i d) }
+            requires { IsSync R.row × IsSync G.row × (0 < threads) × (0 < length workers.now) × (length workers.now ≤ 16)
+                × All (λ w. w.place.nodes ≡ length states.now) workers.now × All (λ job. job.entry < length states.now) jobs.now }
+            ensures { (i : ℕ) (d : _) → i < length workers.entry.now
+                → HasServed states.entry.now jobs.entry.now (length workers.entry.now) i (slice_index_or workers.entry.now i d)
+                (slice_index_or workers.exit.now i d) }
         { serve_all(rt, alloc, threads, states, jobs, gate, workers) },
     );
     published
@@ -129,9 +135,12 @@ fn serve_batch<R: Threads + Wait + Sync, G: Gate + Sync>(
     requires states { length states.now ≡ teller.old.nodes }
     requires entries { All (λ job. job.entry < teller.old.nodes) jobs.now }
     ensures published { OnOk result (plans_of teller.new ≡ due_of teller.old) }
-    ensures served { IfOk result (λ answers. AreServed (plans_of teller.new) states.now jobs.now (length workers.old) (length (plans_of teller.old)) answers) }
-    ensures counted { OnOk result ((i : ℕ) (d : _) → i < length workers.old → i < length jobs.now → Counted (slice_index_or workers.old i d) (slice_index_or workers.new i d)) }
-    ensures follows { OnOk result ((i : ℕ) (d : _) → i < length workers.old → Follows (plans_of teller.new) (slice_index_or workers.new i d)) }
+    ensures served { IfOk result (λ answers. AreServed (plans_of teller.new) states.now jobs.now (length workers.old)
+        (length (plans_of teller.old)) answers) }
+    ensures counted { OnOk result ((i : ℕ) (d : _) → i < length workers.old → i < length jobs.now
+        → Counted (slice_index_or workers.old i d) (slice_index_or workers.new i d)) }
+    ensures follows { OnOk result ((i : ℕ) (d : _) → i < length workers.old
+        → Follows (plans_of teller.new) (slice_index_or workers.new i d)) }
     ensures lasts { AllPairs (Lasts (length (plans_of teller.old))) workers.old workers.new }
     ensures begins { IsPrefix (plans_of teller.old) (plans_of teller.new) }
     ensures within { IsPrefix (plans_of teller.new) (due_of teller.old) }
@@ -170,9 +179,12 @@ pub fn run_batch<R: Threads + Wait + Sync, G: Gate + Sync>(
     requires nodes { HaveNodes teller.old.nodes plans }
     requires room { length (plans_of teller.old) + length plans < 2 ^ 32 }
     ensures published { OnOk result (plans_of teller.new ≡ plans_of teller.old ++ plans) }
-    ensures served { IfOk result (λ answers. AreServed (plans_of teller.new) states.now jobs.now (length workers.old) (length (plans_of teller.old)) answers) }
-    ensures counted { OnOk result ((i : ℕ) (d : _) → i < length workers.old → i < length jobs.now → Counted (slice_index_or workers.old i d) (slice_index_or workers.new i d)) }
-    ensures follows { OnOk result ((i : ℕ) (d : _) → i < length workers.old → Follows (plans_of teller.new) (slice_index_or workers.new i d)) }
+    ensures served { IfOk result (λ answers. AreServed (plans_of teller.new) states.now jobs.now (length workers.old)
+        (length (plans_of teller.old)) answers) }
+    ensures counted { OnOk result ((i : ℕ) (d : _) → i < length workers.old → i < length jobs.now
+        → Counted (slice_index_or workers.old i d) (slice_index_or workers.new i d)) }
+    ensures follows { OnOk result ((i : ℕ) (d : _) → i < length workers.old
+        → Follows (plans_of teller.new) (slice_index_or workers.new i d)) }
     ensures lasts { AllPairs (Lasts (length (plans_of teller.old))) workers.old workers.new }
     ensures events { OnOk result (IsByEvents (plans_of teller.old) (plans_of teller.new) workers.old workers.new) }
     ensures begins { IsPrefix (plans_of teller.old) (plans_of teller.new) }

@@ -124,7 +124,8 @@ fn put(blocks: &mut Vec<Block>, lane: List<Block>) -> Result<(), AllocError>
 
 // Collects the blocks of all threads.
 fn all_blocks(alloc: Global, lanes: Vec<List<Block>>) -> Result<Vec<Block>, AllocError>
-    ensures { (answer : Job → Served) (jobs : List Job) → All (λ lane. All (HasAnswers answer jobs) lane) lanes.items → IfOk result (λ blocks. All (HasAnswers answer jobs) blocks.items) }
+    ensures { (answer : Job → Served) (jobs : List Job) → All (λ lane. All (HasAnswers answer jobs) lane) lanes.items
+        → IfOk result (λ blocks. All (HasAnswers answer jobs) blocks.items) }
 {
     let mut left = lanes;
     let mut blocks = Vec::new(alloc);
@@ -143,7 +144,8 @@ fn place_of(blocks: &[Block], from: usize) -> Option<usize>
 
 // The answers of the blocks, as far as these follow one another. There is room for `room` answers from the start.
 fn in_order(alloc: Global, room: usize, blocks: Vec<Block>) -> Result<Vec<Served>, AllocError>
-    ensures { (answer : Job → Served) (jobs : List Job) → All (HasAnswers answer jobs) blocks.items → IfOk result (λ answers. answers.items ≡ map answer (take (length answers.items) jobs)) }
+    ensures { (answer : Job → Served) (jobs : List Job) → All (HasAnswers answer jobs) blocks.items
+        → IfOk result (λ answers. answers.items ≡ map answer (take (length answers.items) jobs)) }
 {
     let mut left = blocks;
     let mut answers = Vec::with_capacity(alloc, room)?;

@@ -31,8 +31,10 @@ pub(crate) fn brief_all(
 ) -> Result<(), OutOfMemory>
     requires { (i : ℕ) (d : _) → i < length workers.old → (slice_index_or workers.old i d).place.nodes ≡ teller.old.nodes }
     ensures lasts { AllPairs (Lasts (length (plans_of teller.old))) workers.old workers.new }
-    ensures follows { OnOk result ((i : ℕ) (d : _) → i < length workers.old → Follows (due_of teller.old) (slice_index_or workers.new i d)) }
-    ensures number { OnOk result ((i : ℕ) (d : _) → i < length workers.old → (slice_index_or workers.new i d).kept.number ≡ length (plans_of teller.old)) }
+    ensures follows { OnOk result ((i : ℕ) (d : _) → i < length workers.old
+        → Follows (due_of teller.old) (slice_index_or workers.new i d)) }
+    ensures number { OnOk result ((i : ℕ) (d : _) → i < length workers.old
+        → (slice_index_or workers.new i d).kept.number ≡ length (plans_of teller.old)) }
     ensures told { told_by teller.new ≡ told_by teller.old }
     ensures nodes { teller.new.nodes ≡ teller.old.nodes }
 {

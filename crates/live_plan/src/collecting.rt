@@ -24,7 +24,8 @@ fn take_all(
 ) -> Result<Vec<VecDeque<Served>>, OutOfMemory>
     ensures keeps { AllPairs KeepsAll workers.old workers.new }
     ensures long { IfOk result (λ shares. length shares.items ≡ length workers.old) }
-    ensures answers { IfOk result (λ shares. (i : ℕ) (w : _) (d : _) → i < length workers.old → (slice_index_or workers.old i w).answers ≡ Some (slice_index_or shares.items i d)) }
+    ensures answers { IfOk result (λ shares. (i : ℕ) (w : _) (d : _) → i < length workers.old
+        → (slice_index_or workers.old i w).answers ≡ Some (slice_index_or shares.items i d)) }
 {
     let mut shares = Vec::new(alloc);
     for k in 0..workers.len() {
@@ -45,7 +46,8 @@ fn in_turn(
     requires some { 0 < length shares.old }
     requires enough { (i : ℕ) (d : _) → i < length shares.old → all ≤ length (slice_index_or shares.old i d).items * length shares.old + i }
     ensures long { IfOk result (λ answers. length answers ≡ all) }
-    ensures each { IfOk result (λ answers. (i : ℕ) (d : _) → i < all → slice_get answers i ≡ slice_get (slice_index_or shares.old (i % length shares.old) d).items (i / length shares.old)) }
+    ensures each { IfOk result (λ answers. (i : ℕ) (d : _) → i < all
+        → slice_get answers i ≡ slice_get (slice_index_or shares.old (i % length shares.old) d).items (i / length shares.old)) }
 {
     let mut answers = List::from_vec(Vec::with_capacity(alloc, all)?);
     while answers.as_slice().len() < all {
@@ -65,10 +67,13 @@ pub(crate) fn collect(
     workers: &mut [Worker<LivePlace>],
 ) -> Result<List<Served>, OutOfMemory>
     requires some { 0 < length workers.old }
-    requires enough { (i : ℕ) (d : _) → i < length workers.old → IfSome (slice_index_or workers.old i d).answers (λ q. all ≤ length q.items * length workers.old + i) }
+    requires enough { (i : ℕ) (d : _) → i < length workers.old
+        → IfSome (slice_index_or workers.old i d).answers (λ q. all ≤ length q.items * length workers.old + i) }
     ensures keeps { AllPairs KeepsAll workers.old workers.new }
     ensures long { IfOk result (λ answers. length answers ≡ all) }
-    ensures each { IfOk result (λ answers. (i : ℕ) (d : _) → i < all → IsSomeAnd (slice_index_or workers.old (i % length workers.old) d).answers (λ q. slice_get answers i ≡ slice_get q.items (i / length workers.old))) }
+    ensures each { IfOk result (λ answers. (i : ℕ) (d : _) → i < all
+        → IsSomeAnd (slice_index_or workers.old (i % length workers.old) d).answers
+        (λ q. slice_get answers i ≡ slice_get q.items (i / length workers.old))) }
 {
     let mut shares = take_all(workers, alloc)?;
     in_turn(shares.as_mut_slice(), alloc, all)

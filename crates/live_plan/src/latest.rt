@@ -75,7 +75,8 @@ pub fn serve_jobs<R: Threads + Wait + Sync, G: Gate + Sync>(
     requires nodes { HaveNodes teller.old.nodes plans }
     requires room { length (plans_of teller.old) + length plans < 2 ^ 32 }
     ensures published { OnOk result (plans_of teller.new ≡ plans_of teller.old ++ plans) }
-    ensures served { IfOk result (λ answers. AreServed (plans_of teller.new) states.now jobs.now (length workers.old) (length (plans_of teller.old)) answers) }
+    ensures served { IfOk result (λ answers. AreServed (plans_of teller.new) states.now jobs.now (length workers.old)
+        (length (plans_of teller.old)) answers) }
     ensures lasts { AllPairs (Lasts (length (plans_of teller.old))) workers.old workers.new }
     ensures events { OnOk result (IsByEvents (plans_of teller.old) (plans_of teller.new) workers.old workers.new) }
     ensures begins { IsPrefix (plans_of teller.old) (plans_of teller.new) }

@@ -52,7 +52,8 @@ impl ListPlace {
     /// `refusing`.
     pub fn new(alloc: Global, plans: List<Arc<Accepted>>, refusing: List<u64>) -> ListPlace
         requires within { (0 < length plans) × (length plans < 2 ^ 32) }
-        requires alike { (first : Verified) → slice_get (map arc_value plans) 0 ≡ Some first → HaveNodes (nodes_of first) (map arc_value plans) }
+        requires alike { (first : Verified) → slice_get (map arc_value plans) 0 ≡ Some first
+            → HaveNodes (nodes_of first) (map arc_value plans) }
         ensures plans { result.plans ≡ plans }
         ensures refusing { result.refusing ≡ refusing }
         ensures seen { result.seen ≡ 1 }
@@ -90,7 +91,9 @@ impl Place for ListPlace {
         ensures nodes { self.new.nodes ≡ self.old.nodes }
         ensures seen { self.old.seen ≤ self.new.seen }
         ensures counts { (self.old.entries ≤ self.new.entries) × (self.old.refusals ≤ self.new.refusals) }
-        ensures some { IfSome result (λ e. Rose self.old.entries self.new.entries × HasPlan (map arc_value self.new.plans) e.number (entry_plan e) × (e.number ≡ self.new.seen) × (nodes_of (entry_plan e) ≡ self.new.nodes)) }
+        ensures some { IfSome result (λ e. Rose self.old.entries self.new.entries
+            × HasPlan (map arc_value self.new.plans) e.number (entry_plan e) × (e.number ≡ self.new.seen)
+            × (nodes_of (entry_plan e) ≡ self.new.nodes)) }
         ensures none { IfNone result (Rose self.old.refusals self.new.refusals × (self.new.seen ≡ self.old.seen)) }
         // Which calls are refused, and how many plans the others see.
         ensures refusing { self.new.refusing ≡ self.old.refusing }

@@ -51,7 +51,8 @@ fn hire(
     workers: u32,
 ) -> Result<List<Worker<LivePlace>>, OutOfMemory>
     ensures count { IfOk result (λ all. length all ≡ workers) }
-    ensures each { IfOk result (λ all. (i : ℕ) (d : _) → i < workers → IsHired (due_of teller.old) (length (plans_of teller.old)) teller.old.nodes i (slice_index_or all i d)) }
+    ensures each { IfOk result (λ all. (i : ℕ) (d : _) → i < workers
+        → IsHired (due_of teller.old) (length (plans_of teller.old)) teller.old.nodes i (slice_index_or all i d)) }
     ensures told { told_by teller.new ≡ told_by teller.old }
     ensures nodes { teller.new.nodes ≡ teller.old.nodes }
 {
@@ -73,7 +74,8 @@ impl Live {
         ensures plans { IfOk result (λ t. plans_of t.0 ≡ first ∷ []) }
         ensures nodes { IfOk result (λ t. t.0.nodes ≡ nodes_of first) }
         ensures count { IfOk result (λ t. length t.1 ≡ workers) }
-        ensures workers { IfOk result (λ t. (i : ℕ) (d : _) → i < workers → IsHired (first ∷ []) 1 (nodes_of first) i (slice_index_or t.1 i d)) }
+        ensures workers { IfOk result (λ t. (i : ℕ) (d : _) → i < workers
+            → IsHired (first ∷ []) 1 (nodes_of first) i (slice_index_or t.1 i d)) }
     {
         let mut teller = open(rt, alloc, first)?;
         match hire(alloc, &mut teller, workers) {

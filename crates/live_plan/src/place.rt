@@ -75,6 +75,8 @@ pub trait Place {
         ensures nodes { nodes self.new ≡ nodes self.old }
         ensures seen { seen self.old ≤ seen self.new }
         ensures counts { (entries self.old ≤ entries self.new) × (refusals self.old ≤ refusals self.new) }
-        ensures some { IfSome result (λ e. Rose (entries self.old) (entries self.new) × IsSomeAnd (plans self.new) (λ l. HasPlan l e.number (entry_plan e)) × (e.number ≡ seen self.new) × (nodes_of (entry_plan e) ≡ nodes self.new)) }
+        ensures some { IfSome result (λ e. Rose (entries self.old) (entries self.new)
+            × IsSomeAnd (plans self.new) (λ l. HasPlan l e.number (entry_plan e)) × (e.number ≡ seen self.new)
+            × (nodes_of (entry_plan e) ≡ nodes self.new)) }
         ensures none { IfNone result (Rose (refusals self.old) (refusals self.new) × (seen self.new ≡ seen self.old)) };
 }

@@ -37,7 +37,8 @@ pub(crate) fn serve_from<P: Place, G: Gate>(
     ensures goes_on { GoesOn worker.old worker.new }
     ensures counted { share < length jobs.now → Counted worker.old worker.new }
     ensures all { IfOk result (λ answers. length jobs.now ≤ length answers.items * count + share) }
-    ensures served { IfOk result (λ answers. (plans : List Verified) → Follows plans worker.old → IsShare plans states.now jobs.now count share worker.old.kept.number worker.new.kept.number answers.items) }
+    ensures served { IfOk result (λ answers. (plans : List Verified) → Follows plans worker.old
+        → IsShare plans states.now jobs.now count share worker.old.kept.number worker.new.kept.number answers.items) }
 {
     let mut answers = room_for(alloc, jobs.len() / count + 1);
     let mut at = share;

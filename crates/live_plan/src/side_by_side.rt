@@ -50,7 +50,8 @@ fn beside<R: Threads + Sync, T: Send, F: Fn(usize, &mut T) + Sync>(
         ensures { ChangesFrom F.Fn f.entry.now base first.entry.now first.exit.now }
     { in_order(f, base, first) };
     let mut here = ||
-        requires { IsSync R.row × IsSync F.row × IsSend T.row × (0 < share) × (behind + length others.now < 2 ^ 64) × AcceptsFrom F.Fn f.now behind others.now }
+        requires { IsSync R.row × IsSync F.row × IsSend T.row × (0 < share) × (behind + length others.now < 2 ^ 64)
+            × AcceptsFrom F.Fn f.now behind others.now }
         ensures { ChangesFrom F.Fn f.entry.now behind others.entry.now others.exit.now }
     { shared_out(rt, f, share, behind, others) };
     thread::join_mut(rt, &mut there, &mut here);

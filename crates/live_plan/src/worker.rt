@@ -82,10 +82,12 @@ impl<P: Place> Worker<P> {
         ensures index { self.new.index ≡ self.old.index }
         ensures nodes { P.nodes self.new.place ≡ P.nodes self.old.place }
         ensures plans { P.plans self.new.place ≡ P.plans self.old.place }
-        ensures entered { Rose (P.entries self.old.place) (P.entries self.new.place) ⊎ Rose (P.refusals self.old.place) (P.refusals self.new.place) }
+        ensures entered { Rose (P.entries self.old.place) (P.entries self.new.place)
+            ⊎ Rose (P.refusals self.old.place) (P.refusals self.new.place) }
         ensures counts { (P.entries self.old.place ≤ P.entries self.new.place) × (P.refusals self.old.place ≤ P.refusals self.new.place) }
         ensures seen { P.seen self.old.place ≤ P.seen self.new.place }
-        ensures told { IfSome (P.plans self.new.place) (λ l. (self.new.kept.number ≡ P.seen self.new.place) × HasPlan l self.new.kept.number (entry_plan self.new.kept)) }
+        ensures told { IfSome (P.plans self.new.place) (λ l. (self.new.kept.number ≡ P.seen self.new.place)
+            × HasPlan l self.new.kept.number (entry_plan self.new.kept)) }
         ensures untold { P.plans self.old.place ≡ None → self.new.kept ≡ self.old.kept }
         ensures rises { self.old.kept.number ≤ self.new.kept.number }
         ensures routes { nodes_of (entry_plan self.new.kept) ≡ P.nodes self.old.place }
@@ -110,10 +112,12 @@ impl<P: Place> Worker<P> {
         ensures index { self.new.index ≡ self.old.index }
         ensures nodes { P.nodes self.new.place ≡ P.nodes self.old.place }
         ensures plans { P.plans self.new.place ≡ P.plans self.old.place }
-        ensures entered { Rose (P.entries self.old.place) (P.entries self.new.place) ⊎ Rose (P.refusals self.old.place) (P.refusals self.new.place) }
+        ensures entered { Rose (P.entries self.old.place) (P.entries self.new.place)
+            ⊎ Rose (P.refusals self.old.place) (P.refusals self.new.place) }
         ensures counts { (P.entries self.old.place ≤ P.entries self.new.place) × (P.refusals self.old.place ≤ P.refusals self.new.place) }
         ensures seen { P.seen self.old.place ≤ P.seen self.new.place }
-        ensures told { IfSome (P.plans self.new.place) (λ l. (self.new.kept.number ≡ P.seen self.new.place) × HasPlan l self.new.kept.number (entry_plan self.new.kept)) }
+        ensures told { IfSome (P.plans self.new.place) (λ l. (self.new.kept.number ≡ P.seen self.new.place)
+            × HasPlan l self.new.kept.number (entry_plan self.new.kept)) }
         ensures untold { P.plans self.old.place ≡ None → self.new.kept ≡ self.old.kept }
         ensures rises { self.old.kept.number ≤ self.new.kept.number }
         ensures number { IfOk result (λ served. served.number ≡ self.new.kept.number) }

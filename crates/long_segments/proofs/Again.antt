@@ -25,7 +25,8 @@ is_one : (n : ℕ) (b : Bool) → n ≡ flag b → (n == 1) ≡ b
 is_one n true e = (Decides-eqb n 1).1 e
 is_one n false e = rw e refl
 
-first_again : (first in_sequence : Bool) (remaining : ℕ) → remaining < 16 → bit (128 * flag first + 64 * flag in_sequence + remaining) 8 ≡ first
+first_again : (first in_sequence : Bool) (remaining : ℕ) → remaining < 16
+    → bit (128 * flag first + 64 * flag in_sequence + remaining) 8 ≡ first
 first_again first in_sequence remaining few = is_one _ first (number first in_sequence)
   where
     number : (f q : Bool) → (128 * flag f + 64 * flag q + remaining) / 128 % 2 ≡ flag f
@@ -34,7 +35,8 @@ first_again first in_sequence remaining few = is_one _ first (number first in_se
     number false true = omega arith
     number false false = omega arith
 
-sequence_again : (first in_sequence : Bool) (remaining : ℕ) → remaining < 16 → bit (128 * flag first + 64 * flag in_sequence + remaining) 7 ≡ in_sequence
+sequence_again : (first in_sequence : Bool) (remaining : ℕ) → remaining < 16
+    → bit (128 * flag first + 64 * flag in_sequence + remaining) 7 ≡ in_sequence
 sequence_again first in_sequence remaining few = is_one _ in_sequence (number first in_sequence)
   where
     number : (f q : Bool) → (128 * flag f + 64 * flag q + remaining) / 64 % 2 ≡ flag q
@@ -43,7 +45,8 @@ sequence_again first in_sequence remaining few = is_one _ in_sequence (number fi
     number false true = omega arith
     number false false = omega arith
 
-remaining_again : (first in_sequence : Bool) (remaining : ℕ) → remaining < 16 → bits (128 * flag first + 64 * flag in_sequence + remaining) 1 4 ≡ remaining
+remaining_again : (first in_sequence : Bool) (remaining : ℕ) → remaining < 16
+    → bits (128 * flag first + 64 * flag in_sequence + remaining) 1 4 ≡ remaining
 remaining_again true true remaining few = omega arith
 remaining_again true false remaining few = omega arith
 remaining_again false true remaining few = omega arith
@@ -60,36 +63,59 @@ contents_again s few =
       payload = s.payload;
     }
 
-pub segment_again : (class hops : ℕ) (called calling : Address) (params : List Parameter) (s : Segment) → s.remaining < 16 → segment_in (segment_message class hops called calling params s) ≡ Some s
+pub segment_again : (class hops : ℕ) (called calling : Address) (params : List Parameter) (s : Segment) → s.remaining < 16
+    → segment_in (segment_message class hops called calling params s) ≡ Some s
 segment_again class hops called calling params s few = ap Some (contents_again s few)
 
-segments_again : (class hops : ℕ) (called calling : Address) (params : List Parameter) (first in_sequence : Bool) (reference : ℕ) (ps : List (List ℕ)) → length ps ≤ 16 → segments_in (map (segment_message class hops called calling params) (segments first in_sequence reference ps)) ≡ segments first in_sequence reference ps
+segments_again : (class hops : ℕ) (called calling : Address) (params : List Parameter) (first in_sequence : Bool) (reference : ℕ)
+    (ps : List (List ℕ)) → length ps ≤ 16
+    → segments_in (map (segment_message class hops called calling params) (segments first in_sequence reference ps))
+    ≡ segments first in_sequence reference ps
 segments_again class hops called calling params first in_sequence reference [] few = refl
 segments_again class hops called calling params first in_sequence reference (p ∷ ps) few =
     let s : Segment = record { first = first; in_sequence = in_sequence; remaining = length ps; reference = reference; payload = p } in
-    ap (λ (o : Option Segment). cons_option o (segments_in (map (segment_message class hops called calling params) (segments false in_sequence reference ps)))) (segment_again class hops called calling params s (omega (arith, few)))
+    ap (λ (o : Option Segment). cons_option o (segments_in
+    (map (segment_message class hops called calling params) (segments false in_sequence reference ps))))
+    (segment_again class hops called calling params s (omega (arith, few)))
     ∙ ap (λ (l : List Segment). s ∷ l) (segments_again class hops called calling params false in_sequence reference ps (omega (arith, few)))
 
 -- the segments carry the data
-pub carries : (class hops : ℕ) (called calling : Address) (payload : List ℕ) (params : List Parameter) (size reference : ℕ) → 0 < size → piece_count payload size ≤ 16 → whole (segments_in (map (segment_message class hops called calling params) (cut class payload params size reference))) ≡ Some payload
+pub carries : (class hops : ℕ) (called calling : Address) (payload : List ℕ) (params : List Parameter) (size reference : ℕ) → 0 < size
+    → piece_count payload size ≤ 16
+    → whole (segments_in (map (segment_message class hops called calling params) (cut class payload params size reference))) ≡ Some payload
 carries class hops called calling payload params size reference some few =
-    ap whole (segments_again class hops called calling params true (is_in_sequence class) (reference_of params reference) (pieces payload size) (omega (arith, few, length-map-range_with_len (piece payload size) 0 (piece_count payload size))))
+    ap whole (segments_again class hops called calling params true (is_in_sequence class) (reference_of params reference)
+    (pieces payload size) (omega (arith, few, length-map-range_with_len (piece payload size) 0 (piece_count payload size))))
     ∙ cut_is_whole payload size (reference_of params reference) (is_in_sequence class) some
 
 -- ---- the messages at a pool
 
-arrival_again : (class hops : ℕ) (called calling : Address) (params : List Parameter) (s : Segment) → s.remaining < 16 → arrival_of (segment_message class hops called calling params s) ≡ Some (record { key = record { calling = calling; reference = s.reference }; segment = s })
-arrival_again class hops called calling params s few = λ i. Some (record { key = record { calling = calling; reference = reference_again s.reference i }; segment = contents_again s few i })
+arrival_again : (class hops : ℕ) (called calling : Address) (params : List Parameter) (s : Segment) → s.remaining < 16
+    → arrival_of (segment_message class hops called calling params s)
+    ≡ Some (record { key = record { calling = calling; reference = s.reference }; segment = s })
+arrival_again class hops called calling params s few = λ i. Some
+    (record { key = record { calling = calling; reference = reference_again s.reference i }; segment = contents_again s few i })
 
-arrivals_again : (class hops : ℕ) (called calling : Address) (params : List Parameter) (first in_sequence : Bool) (reference : ℕ) (ps : List (List ℕ)) → length ps ≤ 16 → arrivals_in (map (segment_message class hops called calling params) (segments first in_sequence reference ps)) ≡ of_key (record { calling = calling; reference = reference }) (segments first in_sequence reference ps)
+arrivals_again : (class hops : ℕ) (called calling : Address) (params : List Parameter) (first in_sequence : Bool) (reference : ℕ)
+    (ps : List (List ℕ)) → length ps ≤ 16
+    → arrivals_in (map (segment_message class hops called calling params) (segments first in_sequence reference ps))
+    ≡ of_key (record { calling = calling; reference = reference }) (segments first in_sequence reference ps)
 arrivals_again class hops called calling params first in_sequence reference [] few = refl
 arrivals_again class hops called calling params first in_sequence reference (p ∷ ps) few =
     let s : Segment = record { first = first; in_sequence = in_sequence; remaining = length ps; reference = reference; payload = p } in
-    ap (λ (o : Option Arrival). cons_option o (arrivals_in (map (segment_message class hops called calling params) (segments false in_sequence reference ps)))) (arrival_again class hops called calling params s (omega (arith, few)))
-    ∙ ap (λ (l : List Arrival). record { key = record { calling = calling; reference = reference }; segment = s } ∷ l) (arrivals_again class hops called calling params false in_sequence reference ps (omega (arith, few)))
+    ap (λ (o : Option Arrival). cons_option o (arrivals_in
+    (map (segment_message class hops called calling params) (segments false in_sequence reference ps))))
+    (arrival_again class hops called calling params s (omega (arith, few)))
+    ∙ ap (λ (l : List Arrival). record { key = record { calling = calling; reference = reference }; segment = s } ∷ l)
+    (arrivals_again class hops called calling params false in_sequence reference ps (omega (arith, few)))
 
-pub pool_answers : (arrivals : List Arrival) (class hops : ℕ) (called calling : Address) (payload : List ℕ) (params : List Parameter) (size reference : ℕ) → 0 < size → piece_count payload size ≤ 16 → IsRefusedOrWhole (answers (pooled [] arrivals) (arrivals_in (map (segment_message class hops called calling params) (cut class payload params size reference)))) payload
+pub pool_answers : (arrivals : List Arrival) (class hops : ℕ) (called calling : Address) (payload : List ℕ) (params : List Parameter)
+    (size reference : ℕ) → 0 < size → piece_count payload size ≤ 16
+    → IsRefusedOrWhole (answers (pooled [] arrivals) (arrivals_in
+    (map (segment_message class hops called calling params) (cut class payload params size reference)))) payload
 pool_answers arrivals class hops called calling payload params size reference some few =
-    let is = arrivals_again class hops called calling params true (is_in_sequence class) (reference_of params reference) (pieces payload size) (omega (arith, few, length-map-range_with_len (piece payload size) 0 (piece_count payload size))) in
+    let is = arrivals_again class hops called calling params true (is_in_sequence class) (reference_of params reference)
+    (pieces payload size) (omega (arith, few, length-map-range_with_len (piece payload size) 0 (piece_count payload size))) in
     subst (λ (l : List Arrival). IsRefusedOrWhole (answers (pooled [] arrivals) l) payload) (sym is)
-    (come_whole arrivals (record { calling = calling; reference = reference_of params reference }) payload size (reference_of params reference) (is_in_sequence class) some)
+    (come_whole arrivals (record { calling = calling; reference = reference_of params reference }) payload size
+    (reference_of params reference) (is_in_sequence class) some)

@@ -1,6 +1,7 @@
 -- A long unitdata message sent on in segments, each an extended unitdata message (ITU-T Q.714 section 4.1). Profile: the
 -- class and the options of the segments.
-use Rattle.std.specs.Prelude.{ℕ, ◌+◌, ◌*◌, ◌==◌, nat_lt, Bool, true, false, not, ◌&&◌, if◌then◌else◌, List, [], ◌∷◌, map, filter, Option, Some, None, Result, Ok, Err}
+use Rattle.std.specs.Prelude.{ℕ, ◌+◌, ◌*◌, ◌==◌, nat_lt, Bool, true, false, not, ◌&&◌, if◌then◌else◌, List, [], ◌∷◌, map, filter, Option}
+use Rattle.std.specs.Prelude.{Some, None, Result, Ok, Err}
 use Rattle.std.specs.Option.{option_map_or}
 use Rattle.std.specs.List.{All}
 use Rattle.sccp_base.specs.Answers.{Answers}
@@ -50,7 +51,8 @@ cut class payload params size reference = segments true (is_in_sequence class) (
 
 -- the segments of a long message, as messages
 abbrev pub sent_on : Message → ℕ → ℕ → List Message
-sent_on (messages.Ludt class hops called calling payload params) size reference = map (segment_message class hops called calling params) (cut class payload params size reference)
+sent_on (messages.Ludt class hops called calling payload params) size reference = map (segment_message class hops called calling params)
+    (cut class payload params size reference)
 sent_on _ size reference = []
 
 -- ---- what keeps a message from being sent on

@@ -13,13 +13,16 @@ ghost use Rattle.long_segments.specs.Carried.{arrivals_in, segments_in};
 
 /// The segments that a long message is sent on in are a whole message, with its data.
 pub fn segments_carry_the_data()
-    ensures { (class hops : ℕ) (called calling : Address) (payload : List ℕ) (params : List Parameter) (size reference : ℕ) → 0 < size → piece_count payload size ≤ 16 →
+    ensures { (class hops : ℕ) (called calling : Address) (payload : List ℕ) (params : List Parameter) (size reference : ℕ) → 0 < size
+        → piece_count payload size ≤ 16 →
         whole (segments_in (sent_on (Ludt class hops called calling payload params) size reference)) ≡ Some payload }
 {}
 
 /// Let a pool be given these segments one after another, after any arrivals. It answers the data at the last one; or it
 /// refuses the first one, since 64 other messages are under way.
 pub fn a_pool_answers_the_data()
-    ensures { (arrivals : List Arrival) (class hops : ℕ) (called calling : Address) (payload : List ℕ) (params : List Parameter) (size reference : ℕ) → 0 < size → piece_count payload size ≤ 16 →
-        IsRefusedOrWhole (answers (pooled [] arrivals) (arrivals_in (sent_on (Ludt class hops called calling payload params) size reference))) payload }
+    ensures { (arrivals : List Arrival) (class hops : ℕ) (called calling : Address) (payload : List ℕ) (params : List Parameter)
+        (size reference : ℕ) → 0 < size → piece_count payload size ≤ 16 →
+        IsRefusedOrWhole (answers (pooled [] arrivals) (arrivals_in
+        (sent_on (Ludt class hops called calling payload params) size reference))) payload }
 {}

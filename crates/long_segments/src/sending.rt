@@ -7,7 +7,8 @@ ghost use Rattle.sccp_message.specs.Written.{Writable, message_octets};
 ghost use Rattle.sccp_message.specs.declared.message.Message.TheVariants.{Ludt};
 ghost use Rattle.sccp_message.specs.Fields.{param as param_of, reads_if};
 ghost use Rattle.sccp_segment.specs.Segments.{segmentation_octets};
-ghost use Rattle.long_segments.specs.Sending.{FirstTells, Gives, class_for, is_one_segment, params_for, reference_of, segment_message, sending, sending_message, written_all};
+ghost use Rattle.long_segments.specs.Sending.{FirstTells, Gives, class_for, is_one_segment, params_for, reference_of, segment_message};
+ghost use Rattle.long_segments.specs.Sending.{sending, sending_message, written_all};
 
 use crate::long_fault::LongFault;
 use sccp_address::Address;
@@ -81,7 +82,8 @@ fn class_for(class: u8, segment: &Segment) -> u8
 // A segment as a message.
 fn message(alloc: Global, frame: &Frame, segment: &Segment) -> Result<Message, OutOfMemory>
     requires { segment.now.remaining < 16 }
-    ensures { IfOk result (λ m. m ≡ segment_message frame.now.class frame.now.hops frame.now.called frame.now.calling frame.now.params segment.now) }
+    ensures { IfOk result (λ m. m
+        ≡ segment_message frame.now.class frame.now.hops frame.now.called frame.now.calling frame.now.params segment.now) }
 {
     let called = frame.called.try_clone(alloc)?;
     let calling = frame.calling.try_clone(alloc)?;
@@ -100,9 +102,12 @@ fn message(alloc: Global, frame: &Frame, segment: &Segment) -> Result<Message, O
 // The octets of a segment.
 fn written(alloc: Global, frame: &Frame, segment: &Segment) -> Result<Octets, EncodeFault>
     requires { segment.now.remaining < 16 }
-    ensures found { IfOk result (λ octets. octets ≡ message_octets (segment_message frame.now.class frame.now.hops frame.now.called frame.now.calling frame.now.params segment.now)) }
-    ensures writable { IfOk result (λ _. Writable (segment_message frame.now.class frame.now.hops frame.now.called frame.now.calling frame.now.params segment.now)) }
-    ensures exact { Encodes (λ octets. octets) result (encoding (segment_message frame.now.class frame.now.hops frame.now.called frame.now.calling frame.now.params segment.now)) }
+    ensures found { IfOk result (λ octets. octets ≡ message_octets
+        (segment_message frame.now.class frame.now.hops frame.now.called frame.now.calling frame.now.params segment.now)) }
+    ensures writable { IfOk result
+        (λ _. Writable (segment_message frame.now.class frame.now.hops frame.now.called frame.now.calling frame.now.params segment.now)) }
+    ensures exact { Encodes (λ octets. octets) result (encoding
+        (segment_message frame.now.class frame.now.hops frame.now.called frame.now.calling frame.now.params segment.now)) }
 {
     let message = message(alloc, frame, segment)?;
     let octets = encode(alloc, &message);
@@ -118,8 +123,11 @@ fn push_all(
     segments: &[Segment],
 ) -> Result<(), OutOfMemory>
     requires few { All (λ s. s.remaining < 16) segments.now }
-    requires writable { All (λ s. Writable (segment_message frame.now.class frame.now.hops frame.now.called frame.now.calling frame.now.params s)) segments.now }
-    ensures { OnOk result (list.new ≡ list.old ++ map (λ s. message_octets (segment_message frame.now.class frame.now.hops frame.now.called frame.now.calling frame.now.params s)) segments.now) }
+    requires writable { All (λ s. Writable
+        (segment_message frame.now.class frame.now.hops frame.now.called frame.now.calling frame.now.params s)) segments.now }
+    ensures { OnOk result (list.new ≡ list.old
+        ++ map (λ s. message_octets
+        (segment_message frame.now.class frame.now.hops frame.now.called frame.now.calling frame.now.params s)) segments.now) }
 {
     for segment in segments {
         match written(alloc, frame, segment) {
@@ -138,8 +146,11 @@ fn written_all(
     segments: &[Segment],
 ) -> Result<List<Octets>, LongFault>
     requires few { All (λ s. s.remaining < 16) segments.now }
-    requires first_tells { FirstTells (map (segment_message frame.now.class frame.now.hops frame.now.called frame.now.calling frame.now.params) segments.now) }
-    ensures { Gives (λ list. list) result (written_all (map (segment_message frame.now.class frame.now.hops frame.now.called frame.now.calling frame.now.params) segments.now)) }
+    requires first_tells { FirstTells
+        (map (segment_message frame.now.class frame.now.hops frame.now.called frame.now.calling frame.now.params) segments.now) }
+    ensures { Gives (λ list. list) result
+        (written_all (map (segment_message frame.now.class frame.now.hops frame.now.called frame.now.calling frame.now.params)
+        segments.now)) }
 {
     let mut list = List::new(alloc);
     let Some((first, rest)) = segments.split_first() else {
@@ -188,7 +199,8 @@ fn send_message(
     reference: Reference,
 ) -> Result<List<Octets>, LongFault>
     requires { reads_if segmentation (param_of frame.now.params segmentation) ≡ true }
-    ensures { Gives (λ list. list) result (sending_message (Ludt frame.now.class frame.now.hops frame.now.called frame.now.calling payload.now frame.now.params) size reference) }
+    ensures { Gives (λ list. list) result (sending_message
+        (Ludt frame.now.class frame.now.hops frame.now.called frame.now.calling payload.now frame.now.params) size reference) }
 {
     if !is_one_segment(&frame.params) {
         return Err(LongFault::AlreadySegment);

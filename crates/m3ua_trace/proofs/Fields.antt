@@ -13,13 +13,15 @@ other test separator octet fails pass =
       | inr differs ↦ differs.0
     ]
 
-pub cut_front : (test : ℕ → Bool) (separator : ℕ) (front back : List ℕ) → test separator ≡ false → list_all test front ≡ true → cut_at separator (front ++ separator ∷ back) ≡ Some (front, back)
+pub cut_front : (test : ℕ → Bool) (separator : ℕ) (front back : List ℕ) → test separator ≡ false → list_all test front ≡ true
+    → cut_at separator (front ++ separator ∷ back) ≡ Some (front, back)
 cut_front test separator [] back fails each = rw (eq-eqb separator separator refl) refl
 cut_front test separator (octet ∷ front) back fails each =
     let p = and_parts (test octet) (list_all test front) each in
     rw (other test separator octet fails p.0, cut_front test separator front back fails p.1) refl
 
-pub cut_none : (test : ℕ → Bool) (separator : ℕ) (text : List ℕ) → test separator ≡ false → list_all test text ≡ true → cut_at separator text ≡ None
+pub cut_none : (test : ℕ → Bool) (separator : ℕ) (text : List ℕ) → test separator ≡ false → list_all test text ≡ true
+    → cut_at separator text ≡ None
 cut_none test separator [] fails each = refl
 cut_none test separator (octet ∷ text) fails each =
     let p = and_parts (test octet) (list_all test text) each in

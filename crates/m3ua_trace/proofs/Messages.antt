@@ -1,5 +1,6 @@
 -- A message line that is printed is read again.
-use Rattle.std.proofs.Common.{◌≡◌, ℕ, ◌+◌, ◌*◌, ◌<◌, ◌≤◌, Bool, true, false, List, [], ◌∷◌, ◌++◌, length, Option, Some, None, Ok, refl, sym, ◌∙◌, ap, length-append, arith}
+use Rattle.std.proofs.Common.{◌≡◌, ℕ, ◌+◌, ◌*◌, ◌<◌, ◌≤◌, Bool, true, false, List, [], ◌∷◌, ◌++◌, length, Option, Some, None, Ok, refl, sym}
+use Rattle.std.proofs.Common.{◌∙◌, ap, length-append, arith}
 use Rattle.std.specs.Prelude.{codes, option_map, option_and_then}
 use Rattle.std.specs.Result.{result_ok}
 use Rattle.std.proofs.lemmas.List.Sums.{list_all-from_AllPass}
@@ -22,15 +23,18 @@ hex_some [] octets some e = absurd (omega arith)
 hex_some (digit ∷ digits) octets some e = ap result_ok e
 
 hex-again : (octets : List ℕ) → IsBytes octets → 0 < length octets → hex_word (encode_upper octets) ≡ Some octets
-hex-again octets bytes some = hex_some (encode_upper octets) octets (omega (arith, length-encode_with upper_digits octets)) (decode_of-encode_upper octets bytes)
+hex-again octets bytes some = hex_some (encode_upper octets) octets (omega (arith, length-encode_with upper_digits octets))
+    (decode_of-encode_upper octets bytes)
 
 message-again : (name octets : List ℕ) (origin : ℕ) → IsName name → origin < 16384 → IsBytes octets → 0 < length octets
     → message (name ++ 32 ∷ (point_code_text origin ++ 32 ∷ encode_upper octets)) ≡ Some (Msg name origin octets)
 unfolding message
 message-again name octets origin is_name point bytes some =
     let back : List ℕ = point_code_text origin ++ 32 ∷ encode_upper octets in
-    let first : cut_at 32 (name ++ 32 ∷ back) ≡ Some (name, back) = cut_front is_name_octet 32 name back refl (list_all-from_AllPass is_name_octet name is_name.each) in
-    let second : cut_at 32 back ≡ Some (point_code_text origin, encode_upper octets) = cut_front is_point_octet 32 (point_code_text origin) (encode_upper octets) refl (point_octets origin point) in
+    let first : cut_at 32 (name ++ 32 ∷ back) ≡ Some (name, back) =
+    cut_front is_name_octet 32 name back refl (list_all-from_AllPass is_name_octet name is_name.each) in
+    let second : cut_at 32 back ≡ Some (point_code_text origin, encode_upper octets) =
+    cut_front is_point_octet 32 (point_code_text origin) (encode_upper octets) refl (point_octets origin point) in
     let named_is : name_of name ≡ Some name = sym (named name (Some name) (is_name, refl)) in
     rw (first, second, point-again origin point, named_is, hex-again octets bytes some) refl
 
@@ -39,7 +43,8 @@ pub line-again : (name octets : List ℕ) (origin : ℕ) → IsName name → ori
 unfolding line_of line_of_fields message_line
 line-again name octets origin is_name point bytes some = message-again name octets origin is_name point bytes some
 
-pub line-plain : (name octets : List ℕ) (origin : ℕ) → IsName name → origin < 16384 → IsBytes octets → IsPlain (message_line name origin octets)
+pub line-plain : (name octets : List ℕ) (origin : ℕ) → IsName name → origin < 16384 → IsBytes octets
+    → IsPlain (message_line name origin octets)
 unfolding message_line
 line-plain name octets origin is_name point bytes =
     plain-append (codes "msg ") (name ++ 32 ∷ (point_code_text origin ++ 32 ∷ encode_upper octets)) refl
@@ -49,7 +54,8 @@ line-plain name octets origin is_name point bytes =
     (plain-append (32 ∷ []) (encode_upper octets) refl (plain-octets octets bytes)))))
 
 -- two octets of the line for each octet of the message, and at most 29 before them
-pub length-line : (name octets : List ℕ) (origin : ℕ) → IsName name → origin < 16384 → length (message_line name origin octets) ≤ 37 + 2 * length octets
+pub length-line : (name octets : List ℕ) (origin : ℕ) → IsName name → origin < 16384
+    → length (message_line name origin octets) ≤ 37 + 2 * length octets
 unfolding message_line
 length-line name octets origin is_name point =
     omega (

@@ -1,5 +1,6 @@
 -- Numbers that are printed in decimal digits are read again.
-use Rattle.std.proofs.Common.{◌≡◌, ℕ, ◌+◌, ◌-◌, ◌*◌, ◌/◌, ◌%◌, ◌^◌, ◌<◌, ◌≤◌, Bool, true, false, cond, leb, ltb, eqb, not, ◌&&◌, ◌||◌, List, [], ◌∷◌, ◌++◌, length, Option, Some, None, refl, sym, ◌∙◌, ap, append_assoc, length-append, arith}
+use Rattle.std.proofs.Common.{◌≡◌, ℕ, ◌+◌, ◌-◌, ◌*◌, ◌/◌, ◌%◌, ◌^◌, ◌<◌, ◌≤◌, Bool, true, false, cond, leb, ltb, eqb, not, ◌&&◌, ◌||◌, List}
+use Rattle.std.proofs.Common.{[], ◌∷◌, ◌++◌, length, Option, Some, None, refl, sym, ◌∙◌, ap, append_assoc, length-append, arith}
 use Rattle.std.proofs.Math.Dec.{eqb-suc-zero}
 use Rattle.std.specs.Prelude.{◌==◌}
 use Rattle.std.specs.Fmt.{decimal}
@@ -27,7 +28,8 @@ one_digit n lt = record { digits = rw (digit n lt) refl; number = omega arith }
 more_digits : (n : ℕ) (ds : List ℕ) → 10 ≤ n → Spells (n / 10) ds → Spells n (ds ++ ((48 + n % 10) ∷ []))
 more_digits n ds le h = record {
   digits = list_all-append is_ascii_digit ds ((48 + n % 10) ∷ []) ∙ rw (h.digits, digit (n % 10) (omega arith)) refl;
-  number = fold-append (λ v c. 10 * v + (c - 48)) 0 ds ((48 + n % 10) ∷ []) ∙ ap (λ (v : ℕ). 10 * v + (48 + n % 10 - 48)) h.number ∙ omega arith;
+  number = fold-append (λ v c. 10 * v + (c - 48)) 0 ds ((48 + n % 10) ∷ []) ∙ ap (λ (v : ℕ). 10 * v + (48 + n % 10 - 48)) h.number
+      ∙ omega arith;
 }
 
 spells : (n : ℕ) → n < 2 ^ 64 → Spells n (decimal n)
@@ -36,13 +38,15 @@ spells n lt = decimal_by_steps Spells one_digit more_digits n lt
 pub digits-decimal : (n : ℕ) → n < 2 ^ 64 → list_all is_ascii_digit (decimal n) ≡ true
 digits-decimal n lt = (spells n lt).digits
 
-some_digits : (ds : List ℕ) (n most : ℕ) → 0 < length ds → length ds ≤ most → list_all is_ascii_digit ds ≡ true → spelled ds ≡ n → decimal_of most ds ≡ Some n
+some_digits : (ds : List ℕ) (n most : ℕ) → 0 < length ds → length ds ≤ most → list_all is_ascii_digit ds ≡ true → spelled ds ≡ n
+    → decimal_of most ds ≡ Some n
 some_digits [] n most some le digits number = absurd (omega arith)
 some_digits (d ∷ ds) n most some le digits number = rw (eqb-suc-zero (length ds), le-leb (length (d ∷ ds)) most le, digits) (ap Some number)
 
 pub decimal_of-decimal : (n : ℕ) → n < 1000 → decimal_of 3 (decimal n) ≡ Some n
 decimal_of-decimal n lt =
-    some_digits (decimal n) n 3 (decimal_nonempty n (omega arith)) (length-decimal-le 3 n (omega arith) lt (omega arith)) (digits-decimal n (omega arith)) (spells n (omega arith)).number
+    some_digits (decimal n) n 3 (decimal_nonempty n (omega arith)) (length-decimal-le 3 n (omega arith) lt (omega arith))
+    (digits-decimal n (omega arith)) (spells n (omega arith)).number
 
 below_is : (limit n : ℕ) (read : Option ℕ) → read ≡ Some n → n < limit → below limit read ≡ Some n
 below_is limit n read e lt = rw (e, lt-ltb n limit lt) refl
@@ -55,13 +59,15 @@ three_numbers z a p zone area point =
       below_is 8 p (decimal_of 3 (decimal p)) (decimal_of-decimal p (omega arith)) point,
     ) refl
 
-parted : (z a p : ℕ) → z < 8 → a < 256 → p < 8 → point_code_of (decimal z ++ 45 ∷ (decimal a ++ 45 ∷ decimal p)) ≡ Some (2048 * z + 8 * a + p)
+parted : (z a p : ℕ) → z < 8 → a < 256 → p < 8 → point_code_of (decimal z ++ 45 ∷ (decimal a ++ 45 ∷ decimal p))
+    ≡ Some (2048 * z + 8 * a + p)
 parted z a p zone area point =
     let first : cut_at 45 (decimal z ++ 45 ∷ (decimal a ++ 45 ∷ decimal p)) ≡ Some (decimal z, decimal a ++ 45 ∷ decimal p) =
     cut_front is_ascii_digit 45 (decimal z) (decimal a ++ 45 ∷ decimal p) refl (digits-decimal z (omega arith)) in
     let second : cut_at 45 (decimal a ++ 45 ∷ decimal p) ≡ Some (decimal a, decimal p) =
     cut_front is_ascii_digit 45 (decimal a) (decimal p) refl (digits-decimal a (omega arith)) in
-    ap (point_code_in (decimal z ++ 45 ∷ (decimal a ++ 45 ∷ decimal p))) first ∙ ap (point_code_from (decimal z)) second ∙ three_numbers z a p zone area point
+    ap (point_code_in (decimal z ++ 45 ∷ (decimal a ++ 45 ∷ decimal p))) first ∙ ap (point_code_from (decimal z)) second
+    ∙ three_numbers z a p zone area point
 
 text_is : (pc : ℕ) → point_code_text pc ≡ decimal (pc / 2048) ++ 45 ∷ (decimal (pc / 8 % 256) ++ 45 ∷ decimal (pc % 8))
 unfolding point_code_text
@@ -105,4 +111,13 @@ length-point pc lt =
     let a : ℕ = pc / 8 % 256 in
     let p : ℕ = pc % 8 in
     let e : length (point_code_text pc) ≡ length (decimal z ++ 45 ∷ (decimal a ++ 45 ∷ decimal p)) = ap length (text_is pc) in
-    omega (arith, e, length-three z (omega arith), length-three a (omega arith), length-three p (omega arith), length-append (decimal z) (45 ∷ (decimal a ++ 45 ∷ decimal p)), length-append (decimal a) (45 ∷ decimal p))
+    omega (
+      arith,
+      e,
+      length-three z (omega arith),
+      length-three a (omega arith),
+      length-three p (omega arith),
+      length-append (decimal z)
+          (45 ∷ (decimal a ++ 45 ∷ decimal p)),
+      length-append (decimal a) (45 ∷ decimal p),
+    )

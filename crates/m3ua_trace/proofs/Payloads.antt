@@ -1,5 +1,6 @@
 -- What a DATA message carries is among its octets.
-use Rattle.std.proofs.Common.{◌≡◌, ℕ, ◌+◌, ◌-◌, ◌<◌, ◌≤◌, Bool, true, false, cond, eqb, leb, ltb, List, [], ◌∷◌, ◌++◌, length, drop, get_or, Option, Some, None, Ok, refl, sym, ◌∙◌, ap, subst, append_assoc, length-drop, arith, inl, inr, ◌⊎◌}
+use Rattle.std.proofs.Common.{◌≡◌, ℕ, ◌+◌, ◌-◌, ◌<◌, ◌≤◌, Bool, true, false, cond, eqb, leb, ltb, List, [], ◌∷◌, ◌++◌, length, drop, get_or}
+use Rattle.std.proofs.Common.{Option, Some, None, Ok, refl, sym, ◌∙◌, ap, subst, append_assoc, length-drop, arith, inl, inr, ◌⊎◌}
 use Rattle.std.specs.Prelude.{option_map, option_and_then, find, slice_index, ◌==◌}
 use Rattle.std.proofs.lemmas.Bool.{ltb-true, ltb-false, leb-true}
 use Rattle.std.proofs.lemmas.List.{get_or-drop, get_or_append_left, get_or_past}
@@ -31,7 +32,9 @@ bytes-front front back h = λ i. by i (ltb i (length front)) refl where
 -- the contents of a parameter at the front
 contents_in : (room : ℕ) (octets : List ℕ) (p : Tagged) → IsBytes octets → Stands room octets p → IsBytes p.octets
 contents_in room octets p h s =
-    bytes-front p.octets s.behind (subst IsBytes (ap (drop 4) (s.parts ∙ append_assoc (to_be_bytes w16 p.tag ++ to_be_bytes w16 (own_length p)) p.octets s.behind)) (bytes-drop 4 octets h))
+    bytes-front p.octets s.behind
+    (subst IsBytes (ap (drop 4) (s.parts ∙ append_assoc (to_be_bytes w16 p.tag ++ to_be_bytes w16 (own_length p)) p.octets s.behind))
+    (bytes-drop 4 octets h))
 
 some_is : {x y : List ℕ} → Some x ≡ Some y → x ≡ y
 some_is e = cc
@@ -40,16 +43,23 @@ none_is : {y : List ℕ} → None ≡ Some y → ⊥
 none_is e = cc
 
 -- the contents of the first parameter of a tag
-first_in : (b : List ℕ) (end place tag : ℕ) (ps : List Tagged) (octets : List ℕ) → IsBytes b → end ≤ length b → 8 ≤ place → StandFrom b end place ps → first tag ps ≡ Some octets
+first_in : (b : List ℕ) (end place tag : ℕ) (ps : List Tagged) (octets : List ℕ) → IsBytes b → end ≤ length b → 8 ≤ place
+    → StandFrom b end place ps → first tag ps ≡ Some octets
     → IsIn b octets 12
 first_in b end place tag [] octets bytes le from stand e = absurd (none_is e)
-first_in b end place tag (p ∷ ps) octets bytes le from stand e = by (eqb p.tag tag) e (λ f. first_in b end (up_to_four (place + own_length p)) tag ps octets bytes le (omega arith) stand.1 f) where
-  here : IsIn b p.octets 12
-  here = record { short = omega (arith, stand.0.inside); bytes = contents_in (end - place) (drop place b) p (bytes-drop place b bytes) stand.0 }
+first_in b end place tag (p ∷ ps) octets bytes le from stand e =
+    by (eqb p.tag tag) e (λ f. first_in b end (up_to_four (place + own_length p)) tag ps octets bytes le (omega arith) stand.1 f) where
+      here : IsIn b p.octets 12
+      here = record {
+        short = omega (arith, stand.0.inside);
+        bytes = contents_in (end - place) (drop place b) p
+            (bytes-drop place b bytes) stand.0;
+      }
 
-  by : (is : Bool) → option_map (λ p. p.octets) (cond is (Some p) (find (λ p. p.tag == tag) ps)) ≡ Some octets → (first tag ps ≡ Some octets → IsIn b octets 12) → IsIn b octets 12
-  by true f later = subst (λ o. IsIn b o 12) (some_is f) here
-  by false f later = later f
+      by : (is : Bool) → option_map (λ p. p.octets) (cond is (Some p) (find (λ p. p.tag == tag) ps)) ≡ Some octets
+          → (first tag ps ≡ Some octets → IsIn b octets 12) → IsIn b octets 12
+      by true f later = subst (λ o. IsIn b o 12) (some_is f) here
+      by false f later = later f
 
 size_in : (b : List ℕ) (size : ℕ) → (length b ≡ size) ⊎ (length b ≡ up_to_four size) → size ≤ length b
 size_in b size (inl e) = omega arith
@@ -87,4 +97,5 @@ carried_in b ps p bytes reads e = by (first protocol_data ps) refl e where
 
   by : (o : Option (List ℕ)) → first protocol_data ps ≡ o → option_and_then payload_of o ≡ Some p → IsCarried b p
   by None is f = absurd (no_payload f)
-  by (Some octets) is f = from_contents b octets p (first_in b d.size 8 protocol_data ps octets bytes (size_in b d.size d.whole) (omega arith) d.stand is) f
+  by (Some octets) is f = from_contents b octets p (first_in b d.size 8 protocol_data ps octets bytes (size_in b d.size d.whole)
+      (omega arith) d.stand is) f

@@ -1,5 +1,6 @@
 -- Texts of one line.
-use Rattle.std.proofs.Common.{◌≡◌, ℕ, zero, suc, ◌-◌, ◌^◌, ◌<◌, ◌≤◌, Bool, true, false, cond, eqb, not, ◌&&◌, ◌||◌, List, [], ◌∷◌, ◌++◌, length, take, get_or, refl, sym, ◌∙◌, ap, arith}
+use Rattle.std.proofs.Common.{◌≡◌, ℕ, zero, suc, ◌-◌, ◌^◌, ◌<◌, ◌≤◌, Bool, true, false, cond, eqb, not, ◌&&◌, ◌||◌, List, [], ◌∷◌, ◌++◌}
+use Rattle.std.proofs.Common.{length, take, get_or, refl, sym, ◌∙◌, ap, arith}
 use Rattle.std.specs.Prelude.{slice_index, decimal, ◌==◌}
 use Rattle.std.specs.Char.{is_ascii_digit}
 use Rattle.std.specs.List.{All, AllPass, list_all}
@@ -43,7 +44,9 @@ plain-point pc lt = plain_by is_point_octet (point_code_text pc) refl refl (poin
 
 pub plain-octets : (octets : List ℕ) → IsBytes octets → IsPlain (encode_upper octets)
 plain-octets octets h =
-    plain_by is_hex_digit (encode_upper octets) refl refl (list_all-from_AllPass is_hex_digit (encode_upper octets) (decode_of-ok (encode_upper octets) octets (decode_of-encode_upper octets h)).1)
+    plain_by is_hex_digit (encode_upper octets) refl refl
+    (list_all-from_AllPass is_hex_digit (encode_upper octets)
+    (decode_of-ok (encode_upper octets) octets (decode_of-encode_upper octets h)).1)
 
 -- ---- what the lines of a text ask for
 

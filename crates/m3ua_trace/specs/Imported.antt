@@ -1,6 +1,7 @@
 -- What becomes of a DATA message in a trace. It is a line with the message of SCCP that it carries, or a line that says why
 -- there is none.
-use Rattle.std.specs.Prelude.{ℕ, not, ◌||◌, ◌==◌, nat_lt, if◌then◌else◌, List, [], ◌++◌, length, codes, decimal, Option, Some, None, Result, Ok, Err, option_and_then}
+use Rattle.std.specs.Prelude.{ℕ, not, ◌||◌, ◌==◌, nat_lt, if◌then◌else◌, List, [], ◌++◌, length, codes, decimal, Option, Some, None, Result}
+use Rattle.std.specs.Prelude.{Ok, Err, option_and_then}
 use Rattle.std.specs.List.{find}
 use Rattle.hex.specs.Hex.{encode_upper}
 use Rattle.m3ua_data.specs.Carried.{Payload, carried_of}

@@ -7,7 +7,8 @@ ghost use Rattle.m3ua_data.specs.Reading.{is_memory};
 ghost use Rattle.plan_model.specs.Network.{has_point};
 ghost use Rattle.sccp_base.specs.Names.{name_of};
 ghost use Rattle.sccp_report.specs.Values.{point_code_text};
-ghost use Rattle.m3ua_trace.specs.Imported.{Refused, fault_number, number_unless_memory, name_at, for_node, payload_in, from_payload, from_carried, imported, message_line, imported_text};
+ghost use Rattle.m3ua_trace.specs.Imported.{Refused, fault_number, number_unless_memory, name_at, for_node, payload_in, from_payload};
+ghost use Rattle.m3ua_trace.specs.Imported.{from_carried, imported, message_line, imported_text};
 
 use m3ua_data::{Carried, Data, DataFault, carried, decode};
 use plan_model::{Node, Plan};

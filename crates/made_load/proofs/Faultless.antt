@@ -1,5 +1,6 @@
 -- The made relays and their cover make a plan.
-use Rattle.std.proofs.Common.{◌≡◌, ℕ, zero, suc, ◌+◌, ◌%◌, ◌<◌, Bool, true, false, List, [], ◌∷◌, ◌++◌, map, Some, None, refl, sym, ◌∙◌, ap, arith}
+use Rattle.std.proofs.Common.{◌≡◌, ℕ, zero, suc, ◌+◌, ◌%◌, ◌<◌, Bool, true, false, List, [], ◌∷◌, ◌++◌, map, Some, None, refl, sym, ◌∙◌, ap}
+use Rattle.std.proofs.Common.{arith}
 use Rattle.std.specs.Fmt.{digits}
 use Rattle.std.specs.List.{All, range_with_len}
 use Rattle.std.specs.Prelude.{nat_lt, if◌then◌else◌, min, option_to_list, codes, decimal, IfSome}
@@ -32,7 +33,14 @@ abbrev row_by : (ℕ → ℕ → ℕ) → ℕ → ℕ → Rule
 row_by next i d = rule selector None (d ∷ []) (option_to_list (if nat_lt i 7 then Some (onward (next i d)) else None) ++ destination d ∷ [])
 
 abbrev relay_by : (ℕ → ℕ → ℕ) → ℕ → Node
-relay_by next i = record { name = codes "n" ++ decimal i; pc = relay_point i; subsystems = []; concerned = []; table = map (row_by next i) (range_with_len 0 10) }
+relay_by next i = record {
+  name = codes "n" ++ decimal i;
+  pc = relay_point i;
+  subsystems = [];
+  concerned = [];
+  table = map (row_by next i)
+      (range_with_len 0 10);
+}
 
 abbrev relays_by : (ℕ → ℕ → ℕ) → List Node
 relays_by next = map (relay_by next) (range_with_len 0 8)
@@ -51,9 +59,11 @@ no_fault : (number : ℕ) → plan_fault (relays number) (cover ∷ []) ≡ None
 no_fault number = ap (λ nodes. plan_fault nodes (cover ∷ [])) (by_remainder number) ∙ no_fault_of (number % 3) (omega arith)
 
 -- so building them gives no fault
-pub never : (number : ℕ) (nodes : List Node) (covers : List Cover) (fault : PlanFault) → nodes ≡ relays number → covers ≡ cover ∷ [] → plan_fault nodes covers ≡ Some fault → ⊥
+pub never : (number : ℕ) (nodes : List Node) (covers : List Cover) (fault : PlanFault) → nodes ≡ relays number → covers ≡ cover ∷ []
+    → plan_fault nodes covers ≡ Some fault → ⊥
 never number nodes covers fault same one is =
-    let none : plan_fault nodes covers ≡ None = ap (λ ns. plan_fault ns covers) same ∙ ap (λ cs. plan_fault (relays number) cs) one ∙ no_fault number in
+    let none : plan_fault nodes covers ≡ None = ap (λ ns. plan_fault ns covers) same ∙ ap (λ cs. plan_fault (relays number) cs) one
+    ∙ no_fault number in
     let both : None ≡ Some fault = sym none ∙ is in cc
 
 -- ---- what the relays and the cover keep by themselves
@@ -79,11 +89,13 @@ sound_relay number i = record {
   subsystems = All-nil _;
   each_subsystem = λ k l d below lt. absurd (omega (arith, lt));
   each_concerned = λ k l d below lt. absurd (omega (arith, lt));
-  named = All-map NamesSubsystems (row_of number i) (range_with_len 0 10) (each (λ d. NamesSubsystems (row_of number i d)) (named_row number i) (range_with_len 0 10));
+  named = All-map NamesSubsystems (row_of number i) (range_with_len 0 10)
+      (each (λ d. NamesSubsystems (row_of number i d)) (named_row number i) (range_with_len 0 10));
 }
 
 pub sound_relays : (number : ℕ) → All IsNode (relays number)
-sound_relays number = All-map IsNode (relay number) (range_with_len 0 8) (each (λ i. IsNode (relay number i)) (sound_relay number) (range_with_len 0 8))
+sound_relays number = All-map IsNode (relay number) (range_with_len 0 8)
+    (each (λ i. IsNode (relay number i)) (sound_relay number) (range_with_len 0 8))
 
 pub few_digits : All HasFewDigits (cover ∷ [])
 few_digits = All-cons HasFewDigits cover [] (record { least = omega arith; most = omega arith }) (All-nil HasFewDigits)

@@ -12,7 +12,8 @@ laid place a b c d e =
 abbrev two_on : ℕ → ℕ
 two_on x = after (after x)
 
-drawn_out : (place x : ℕ) → laid place (pair x) (pair (two_on x)) (pair (two_on (two_on x))) (pair (two_on (two_on (two_on x)))) (pair (two_on (two_on (two_on (two_on x))))) ≡ made_octets place x
+drawn_out : (place x : ℕ) → laid place (pair x) (pair (two_on x)) (pair (two_on (two_on x))) (pair (two_on (two_on (two_on x))))
+    (pair (two_on (two_on (two_on (two_on x))))) ≡ made_octets place x
 unfolding made_octets
 drawn_out place x = refl
 
@@ -23,7 +24,8 @@ laid_out place x x1 x2 x3 x4 a b c d e h1 h2 h3 h4 ha hb hc hd he =
     let e2 : x2 ≡ two_on (two_on x) = h2 ∙ ap two_on h1 in
     let e3 : x3 ≡ two_on (two_on (two_on x)) = h3 ∙ ap two_on e2 in
     let e4 : x4 ≡ two_on (two_on (two_on (two_on x))) = h4 ∙ ap two_on e3 in
-    ap (λ z. laid place z b c d e) ha ∙ ap (λ z. laid place (pair x) z c d e) (hb ∙ ap pair h1) ∙ ap (λ z. laid place (pair x) (pair (two_on x)) z d e) (hc ∙ ap pair e2)
+    ap (λ z. laid place z b c d e) ha ∙ ap (λ z. laid place (pair x) z c d e) (hb ∙ ap pair h1)
+    ∙ ap (λ z. laid place (pair x) (pair (two_on x)) z d e) (hc ∙ ap pair e2)
     ∙ ap (λ z. laid place (pair x) (pair (two_on x)) (pair (two_on (two_on x))) z e) (hd ∙ ap pair e3)
     ∙ ap (λ z. laid place (pair x) (pair (two_on x)) (pair (two_on (two_on x))) (pair (two_on (two_on (two_on x)))) z) (he ∙ ap pair e4)
     ∙ drawn_out place x

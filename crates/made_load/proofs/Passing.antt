@@ -1,5 +1,6 @@
 -- Messages that are not sent leave the same as those that are, but for the counts.
-use Rattle.std.proofs.Common.{◌≡◌, ◌≤◌, ◌<◌, ℕ, zero, suc, ◌+◌, ◌-◌, ◌%◌, Bool, true, false, cond, List, length, refl, sym, ◌∙◌, ap, subst, arith}
+use Rattle.std.proofs.Common.{◌≡◌, ◌≤◌, ◌<◌, ℕ, zero, suc, ◌+◌, ◌-◌, ◌%◌, Bool, true, false, cond, List, length, refl, sym, ◌∙◌, ap, subst}
+use Rattle.std.proofs.Common.{arith}
 use Rattle.std.specs.Prelude.{◌==◌}
 use Rattle.plan_model.specs.Network.{Network}
 use Rattle.relay_net.specs.Journeys.{journey}
@@ -7,7 +8,8 @@ use Rattle.relay_net.specs.States.{State, markings_of}
 use Rattle.relay_net.specs.declared.travelled.Journey.{Journey}
 use Rattle.made_load.specs.Draws.{after, after_digits, drawn}
 use Rattle.made_load.specs.Fates.{fate_of}
-use Rattle.made_load.specs.Loads.{Load, no_counts, with_fate, counted, turned, before_message, sent, all_sent, passed, all_passed, part_counts, plus, begun, IsAfter}
+use Rattle.made_load.specs.Loads.{Load, no_counts, with_fate, counted, turned, before_message, sent, all_sent, passed, all_passed}
+use Rattle.made_load.specs.Loads.{part_counts, plus, begun, IsAfter}
 use Rattle.made_load.specs.Messages.{made_octets, origin}
 use Rattle.made_load.specs.Relays.{load_plan}
 use Rattle.made_load.specs.declared.counts.Counts.{Counts}
@@ -21,7 +23,8 @@ abbrev four : ℕ → ℕ → ℕ → ℕ → Counts
 four m e r t = record { messages = m; ended = e; returned = r; translations = t }
 
 counts_by : (m e r t m' e' r' t' : ℕ) → m ≡ m' → e ≡ e' → r ≡ r' → t ≡ t' → four m e r t ≡ four m' e' r' t'
-counts_by m e r t m' e' r' t' a b c d = ap (λ x. four x e r t) a ∙ ap (λ x. four m' x r t) b ∙ ap (λ x. four m' e' x t) c ∙ ap (λ x. four m' e' r' x) d
+counts_by m e r t m' e' r' t' a b c d = ap (λ x. four x e r t) a ∙ ap (λ x. four m' x r t) b ∙ ap (λ x. four m' e' x t) c
+    ∙ ap (λ x. four m' e' r' x) d
 
 ended_by : (fate : Fate) (c d : Counts) → with_fate fate (plus c d) ≡ plus c (with_fate fate d)
 ended_by fates.Ended c d =
@@ -35,12 +38,15 @@ ended_by fates.Other c d = refl
 counted_by : (j : Journey) (c d : Counts) → counted j (plus c d) ≡ plus c (counted j d)
 counted_by j c d =
     let n = length j.path in
-    ap (λ x. with_fate (fate_of j.end) x) (counts_by (c.messages + d.messages + 1) (c.ended + d.ended) (c.returned + d.returned) (c.translations + d.translations + n)
-    (c.messages + (d.messages + 1)) (c.ended + d.ended) (c.returned + d.returned) (c.translations + (d.translations + n)) (omega arith) refl refl (omega arith))
+    ap (λ x. with_fate (fate_of j.end) x) (counts_by (c.messages + d.messages + 1) (c.ended + d.ended) (c.returned + d.returned)
+    (c.translations + d.translations + n)
+    (c.messages + (d.messages + 1)) (c.ended + d.ended) (c.returned + d.returned) (c.translations + (d.translations + n))
+    (omega arith) refl refl (omega arith))
     ∙ ended_by (fate_of j.end) c (record d { messages = d.messages + 1; translations = d.translations + n })
 
 none_more : (c : Counts) → plus c no_counts ≡ c
-none_more c = counts_by (c.messages + 0) (c.ended + 0) (c.returned + 0) (c.translations + 0) c.messages c.ended c.returned c.translations (omega arith) (omega arith) (omega arith) (omega arith)
+none_more c = counts_by (c.messages + 0) (c.ended + 0) (c.returned + 0) (c.translations + 0) c.messages c.ended c.returned c.translations
+    (omega arith) (omega arith) (omega arith) (omega arith)
 
 -- ---- what is counted changes nothing else
 
@@ -56,13 +62,15 @@ bare l = record l { counts = no_counts }
 
 before_ahead : (plan : Network) (i : ℕ) (c : Counts) (l : Load) → before_message plan i (ahead c l) ≡ ahead c (before_message plan i l)
 before_ahead plan i c l = by (i % 64 == 63) where
-  by : (due : Bool) → cond due (record (ahead c l) { at = after l.at; states = turned plan l.states (drawn l.at) }) (ahead c l) ≡ ahead c (cond due (record l { at = after l.at; states = turned plan l.states (drawn l.at) }) l)
+  by : (due : Bool) → cond due (record (ahead c l) { at = after l.at; states = turned plan l.states (drawn l.at) }) (ahead c l)
+      ≡ ahead c (cond due (record l { at = after l.at; states = turned plan l.states (drawn l.at) }) l)
   by true = refl
   by false = refl
 
 before_bare : (plan : Network) (i : ℕ) (l : Load) → before_message plan i (bare l) ≡ bare (before_message plan i l)
 before_bare plan i l = by (i % 64 == 63) where
-  by : (due : Bool) → cond due (record (bare l) { at = after l.at; states = turned plan l.states (drawn l.at) }) (bare l) ≡ bare (cond due (record l { at = after l.at; states = turned plan l.states (drawn l.at) }) l)
+  by : (due : Bool) → cond due (record (bare l) { at = after l.at; states = turned plan l.states (drawn l.at) }) (bare l)
+      ≡ bare (cond due (record l { at = after l.at; states = turned plan l.states (drawn l.at) }) l)
   by true = refl
   by false = refl
 
@@ -121,18 +129,25 @@ pub record StillPasses (plan : Network) (upto place : ℕ) (first l : Load) : Ty
   pub states : length l.states ≡ 8
 
 pub begins : (plan : Network) (upto : ℕ) (first : Load) → length first.states ≡ 8 → StillPasses plan upto 0 first first
-begins plan upto first many = record { whole = let none : upto - 0 ≡ upto = omega arith in ap (λ n. all_passed plan n 0 first) none; states = many }
+begins plan upto first many = record {
+  whole = let none : upto - 0
+      ≡ upto = omega arith in ap (λ n. all_passed plan n 0 first) none;
+  states = many;
+}
 
-pub goes_by : (plan : Network) (upto place : ℕ) (first l ready now : Load) → place < upto → ready ≡ before_message plan place l → now ≡ passed ready → StillPasses plan upto place first l → StillPasses plan upto (place + 1) first now
+pub goes_by : (plan : Network) (upto place : ℕ) (first l ready now : Load) → place < upto → ready ≡ before_message plan place l
+    → now ≡ passed ready → StillPasses plan upto place first l → StillPasses plan upto (place + 1) first now
 goes_by plan upto place first l ready now lt prepares passes so_far =
     let next : now ≡ passed (before_message plan place l) = passes ∙ ap (λ k. passed k) prepares in
     let one : upto - place ≡ suc (upto - (place + 1)) = omega (arith, lt) in
     record {
-      whole = ap (λ k. all_passed plan (upto - (place + 1)) (place + 1) k) next ∙ sym (ap (λ n. all_passed plan n place l) one) ∙ so_far.whole;
+      whole = ap (λ k. all_passed plan (upto - (place + 1)) (place + 1) k) next ∙ sym (ap (λ n. all_passed plan n place l) one)
+          ∙ so_far.whole;
       states = ap (λ (k : Load). length k.states) next ∙ prepared_states plan place l ∙ so_far.states;
     }
 
-pub done_by : (plan : Network) (upto place : ℕ) (first l : Load) → upto ≤ place → StillPasses plan upto place first l → l ≡ all_passed plan upto 0 first
+pub done_by : (plan : Network) (upto place : ℕ) (first l : Load) → upto ≤ place → StillPasses plan upto place first l
+    → l ≡ all_passed plan upto 0 first
 done_by plan upto place first l le so_far =
     let none : upto - place ≡ 0 = omega (arith, le) in
     sym (ap (λ n. all_passed plan n place l) none) ∙ so_far.whole
@@ -143,5 +158,6 @@ passed_after number place =
     let plan = load_plan number in
     let there : Load = all_sent plan place 0 (begun number plan) in
     let is : IsAfter place there = stands_after plan number place refl in
-    let none : IsAfter place (bare there) = record { states = is.states; messages = omega arith; ended = omega arith; returned = omega arith; translations = omega arith } in
+    let none : IsAfter place (bare there) =
+    record { states = is.states; messages = omega arith; ended = omega arith; returned = omega arith; translations = omega arith } in
     subst (IsAfter place) (sym (all_bare plan place 0 (begun number plan))) none

@@ -1,5 +1,6 @@
 -- The plan that is made from a number.
-use Rattle.std.specs.Prelude.{ℕ, ◌+◌, ◌*◌, ◌%◌, min, nat_lt, List, [], ◌∷◌, ◌++◌, map, codes, decimal, Option, Some, None, option_to_list, if◌then◌else◌}
+use Rattle.std.specs.Prelude.{ℕ, ◌+◌, ◌*◌, ◌%◌, min, nat_lt, List, [], ◌∷◌, ◌++◌, map, codes, decimal, Option, Some, None, option_to_list}
+use Rattle.std.specs.Prelude.{if◌then◌else◌}
 use Rattle.std.specs.List.{range_with_len}
 use Rattle.sccp_base.specs.Selector.{Numbers, numbers}
 use Rattle.plan_rules.specs.Rule.{Rule, rule}
@@ -55,7 +56,16 @@ relays number = map (relay number) (range_with_len 0 8)
 
 -- titles of ten digits at the first relay are for their destinations
 abbrev pub cover : Cover
-cover = record { node = 0; selector = selector; ssn = 6; prefix = []; least = 10; most = 10; allowed = map (λ d. (end_point d, 6)) (range_with_len 0 10) }
+cover = record {
+  node = 0;
+  selector = selector;
+  ssn = 6;
+  prefix = [];
+  least = 10;
+  most = 10;
+  allowed = map (λ d. (end_point d, 6))
+      (range_with_len 0 10);
+}
 
 unfoldable pub load_plan : ℕ → Network
 load_plan number = network (relays number) (cover ∷ [])

@@ -3,7 +3,8 @@ ghost use Rattle.std.specs.Prelude.{◌≡◌, ◌<◌, ◌+◌, ◌-◌, ◌^�
 ghost use Rattle.relay_net.specs.Journeys.{held_at, journey};
 ghost use Rattle.relay_net.specs.States.{markings_of};
 ghost use Rattle.made_load.specs.Relays.{load_plan};
-ghost use Rattle.made_load.specs.Loads.{all_passed, all_sent, before_message, begun, counted, part_counts, sent, turn, turned, IsAfter, IsRoomy};
+ghost use Rattle.made_load.specs.Loads.{all_passed, all_sent, before_message, begun, counted, part_counts, sent, turn, turned, IsAfter};
+ghost use Rattle.made_load.specs.Loads.{IsRoomy};
 ghost use Rattle.made_load.specs.Messages.{origin};
 ghost use Rattle.made_load.specs.Draws.{after, drawn};
 

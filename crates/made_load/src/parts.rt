@@ -60,7 +60,8 @@ fn count_parts<R: Threads + Sync>(
 ) -> Result<Vec<Result<Counts, OutOfMemory>>, AllocError>
     requires { accepted.now.plan ≡ load_plan number }
     ensures long { IfOk result (λ all. vec_len all ≡ parts) }
-    ensures each { IfOk result (λ all. (k : ℕ) (d : _) → k < parts → IfOk (slice_index_or all.items k d) (λ counts. counts ≡ counts_of_part number size parts k)) }
+    ensures each { IfOk result (λ all. (k : ℕ) (d : _) → k < parts
+        → IfOk (slice_index_or all.items k d) (λ counts. counts ≡ counts_of_part number size parts k)) }
 {
     thread::map_indices(
         rt,

@@ -47,7 +47,8 @@ pub record BothTight (old new : Network) (bound : ℕ) (spot : Spot) (turns : Li
 
 -- A mixed route that shows that the plans may not be mixed. Both covers have the spot, and the route ends as no route of one of
 -- them may.
-pub record BothBad (old new : Network) (old_cover new_cover : ℕ) (spot : Spot) (turns : List Turn) (hops : List MixedHop) (kind : Kind) : Type 0 where
+pub record BothBad (old new : Network) (old_cover new_cover : ℕ) (spot : Spot) (turns : List Turn) (hops : List MixedHop)
+    (kind : Kind) : Type 0 where
   pub old_covered : HasSpot old old_cover spot
   pub new_covered : HasSpot new new_cover spot
   pub is_route : hops ≡ tagged (mixed old new spot turns) turns

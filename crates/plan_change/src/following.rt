@@ -61,7 +61,8 @@ fn follow_plan(
     requires met { IsMet plans.now.old.now plans.now.new.now hop.old.met hop.old.stops }
     ensures met { OnOk result (IsMet plans.now.old.now plans.now.new.now hop.new.met hop.new.stops) }
     ensures grows { OnOk result (Grows hop.old.stops hop.new.stops (ComesFrom plans.now.old.now plans.now.new.now class.now place)) }
-    ensures well { IfOk result (λ way. way ≡ None → LeadsUnder plans.now.old.now plans.now.new.now (held plans.now.old.now plans.now.new.now which) class.now hop.new.stops) }
+    ensures well { IfOk result (λ way. way ≡ None → LeadsUnder plans.now.old.now plans.now.new.now
+        (held plans.now.old.now plans.now.new.now which) class.now hop.new.stops) }
     ensures bad { IfOk result (λ way. IfSome way (IsBadHere plans.now.old.now plans.now.new.now class.now)) }
     ensures wide { result ≡ Err halts.Wide → MixedReachAtLeast plans.now.old.now plans.now.new.now most_classes }
 {
@@ -88,7 +89,8 @@ fn follow_row(
     requires met { IsMet plans.now.old.now plans.now.new.now hop.old.met hop.old.stops }
     ensures met { OnOk result (IsMet plans.now.old.now plans.now.new.now hop.new.met hop.new.stops) }
     ensures grows { OnOk result (Grows hop.old.stops hop.new.stops (ComesFrom plans.now.old.now plans.now.new.now class.now place)) }
-    ensures well { IfOk result (λ way. way ≡ None → LeadsUnder plans.now.old.now plans.now.new.now (held plans.now.old.now plans.now.new.now which) class.now hop.new.stops) }
+    ensures well { IfOk result (λ way. way ≡ None → LeadsUnder plans.now.old.now plans.now.new.now
+        (held plans.now.old.now plans.now.new.now which) class.now hop.new.stops) }
     ensures bad { IfOk result (λ way. IfSome way (IsBadHere plans.now.old.now plans.now.new.now class.now)) }
     ensures wide { result ≡ Err halts.Wide → MixedReachAtLeast plans.now.old.now plans.now.new.now most_classes }
 {
@@ -121,7 +123,8 @@ fn follow_target(
     requires met { IsMet plans.now.old.now plans.now.new.now hop.old.met hop.old.stops }
     ensures met { OnOk result (IsMet plans.now.old.now plans.now.new.now hop.new.met hop.new.stops) }
     ensures grows { OnOk result (Grows hop.old.stops hop.new.stops (ComesFrom plans.now.old.now plans.now.new.now class.now origin.place)) }
-    ensures well { IfOk result (λ way. way ≡ None → TargetGoesWell plans.now.old.now plans.now.new.now (held plans.now.old.now plans.now.new.now origin.which) class.now origin.target hop.new.stops) }
+    ensures well { IfOk result (λ way. way ≡ None → TargetGoesWell plans.now.old.now plans.now.new.now
+        (held plans.now.old.now plans.now.new.now origin.which) class.now origin.target hop.new.stops) }
     ensures bad { IfOk result (λ way. IfSome way (IsBadHere plans.now.old.now plans.now.new.now class.now)) }
     ensures wide { result ≡ Err halts.Wide → MixedReachAtLeast plans.now.old.now plans.now.new.now most_classes }
 {
@@ -205,7 +208,8 @@ fn bad_way(
     requires may { MayGoOn plans.now.old.now plans.now.new.now class.now }
     requires reached { Reaches (held plans.now.old.now plans.now.new.now origin.which) class.now origin.target }
     requires member { IsMember class.now digits }
-    requires bad { IsSomeAnd (brought (held plans.now.old.now plans.now.new.now origin.which) class.now origin.target digits) (IsBadStep plans.now.old.now plans.now.new.now class.now.cover) }
+    requires bad { IsSomeAnd (brought (held plans.now.old.now plans.now.new.now origin.which) class.now origin.target digits)
+        (IsBadStep plans.now.old.now plans.now.new.now class.now.cover) }
     ensures { IfOk result (IsBadHere plans.now.old.now plans.now.new.now class.now) }
 {
     let Origin { which, target, .. } = origin;

@@ -5,7 +5,8 @@ use Rattle.plan_model.specs.Limits.{most_classes}
 use Rattle.plan_classes.specs.Titles.{Titles}
 use Rattle.plan_check.specs.Ranking.{rank_in, IsRanks, IsFullFor}
 
-pub put_few : (old : List (Titles × ℕ)) (c : Titles) (count : ℕ) (was : Option ℕ) → IsRanks old → (IsFullFor old c → ⊥) → was ≡ rank_in old c → count ≡ length old + (if is_some was then 0 else 1) → count ≤ most_classes
+pub put_few : (old : List (Titles × ℕ)) (c : Titles) (count : ℕ) (was : Option ℕ) → IsRanks old → (IsFullFor old c → ⊥)
+    → was ≡ rank_in old c → count ≡ length old + (if is_some was then 0 else 1) → count ≤ most_classes
 put_few old c count (Some r) is other w e = omega (arith, is.few, e)
 put_few old c count None is other w e = below (length old) is.few (λ full. other (record { full = full; other = sym w })) e
   where

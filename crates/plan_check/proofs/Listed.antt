@@ -20,13 +20,15 @@ has_rank (e ∷ es) =
     (e.1, ap (λ (b : Bool). cond b (Some e.1) (rank_in es e.0)) (own_class e.0))
     (λ k d lt.
     let h = has_rank es k d lt in
-    elim (is_eq (class_cmp (get_or (classes_in es) k d) e.0)) as (λ b. (r : ℕ) × (cond b (Some e.1) (rank_in es (get_or (classes_in es) k d)) ≡ Some r)) [
+    elim (is_eq (class_cmp (get_or (classes_in es) k d) e.0)) as (λ b. (r : ℕ)
+    × (cond b (Some e.1) (rank_in es (get_or (classes_in es) k d)) ≡ Some r)) [
       | true ↦ (e.1, refl)
       | false ↦ h
     ])
 
 -- this number of classes of the table, no two the same, and each with what holds of every class that has a rank
-pub listed : (P : Titles → Type 0) (ranks : List (Titles × ℕ)) (count : ℕ) → ((c : Titles) (r : ℕ) → rank_in ranks c ≡ Some r → P c) → IsStrictlySortedBy class_cmp (classes_in ranks) → count ≤ length ranks
+pub listed : (P : Titles → Type 0) (ranks : List (Titles × ℕ)) (count : ℕ) → ((c : Titles) (r : ℕ) → rank_in ranks c ≡ Some r → P c)
+    → IsStrictlySortedBy class_cmp (classes_in ranks) → count ≤ length ranks
     → (cs : List Titles) × (length cs ≡ count) × AllPairs (λ c d. c ≢ d) cs × All P cs
 listed P ranks count each ordered le = (
   take count (classes_in ranks),
@@ -41,10 +43,15 @@ listed P ranks count each ordered le = (
     short : length (take count (classes_in ranks)) ≡ count
     short = length-take-le count (classes_in ranks) long
 
-    apart : (i j : ℕ) (d : Titles) → i < j → j < length (take count (classes_in ranks)) → get_or (take count (classes_in ranks)) i d ≡ get_or (take count (classes_in ranks)) j d → ⊥
+    apart : (i j : ℕ) (d : Titles) → i < j → j < length (take count (classes_in ranks))
+        → get_or (take count (classes_in ranks)) i d ≡ get_or (take count (classes_in ranks)) j d → ⊥
     apart i j d lt in' same =
-        let less : class_cmp (get_or (classes_in ranks) i d) (get_or (classes_in ranks) j d) ≡ Less = Less-from_sorted class_cmp (classes_in ranks) i j d ordered lt (omega (arith, short, long)) in
-        let one : get_or (classes_in ranks) i d ≡ get_or (classes_in ranks) j d = sym (get_or-take count (classes_in ranks) i d (omega (arith, short))) ∙ same ∙ get_or-take count (classes_in ranks) j d (omega (arith, short)) in
-        let equal : class_cmp (get_or (classes_in ranks) i d) (get_or (classes_in ranks) j d) ≡ Equal = ap (class_cmp (get_or (classes_in ranks) i d)) (sym one) ∙ own_order (get_or (classes_in ranks) i d) in
+        let less : class_cmp (get_or (classes_in ranks) i d) (get_or (classes_in ranks) j d) ≡ Less =
+        Less-from_sorted class_cmp (classes_in ranks) i j d ordered lt (omega (arith, short, long)) in
+        let one : get_or (classes_in ranks) i d ≡ get_or (classes_in ranks) j d =
+        sym (get_or-take count (classes_in ranks) i d (omega (arith, short))) ∙ same
+        ∙ get_or-take count (classes_in ranks) j d (omega (arith, short)) in
+        let equal : class_cmp (get_or (classes_in ranks) i d) (get_or (classes_in ranks) j d) ≡ Equal =
+        ap (class_cmp (get_or (classes_in ranks) i d)) (sym one) ∙ own_order (get_or (classes_in ranks) i d) in
         let clash : Less ≡ Equal = sym less ∙ equal in
         absurd (cc)

@@ -21,11 +21,14 @@ pub record AreImages (plan : Network) (c : Titles) (count : ℕ) (images : List 
 -- a target that leads somewhere is one of the class's
 inside : (plan : Network) (c : Titles) (place : ℕ) (image : Image) → HasImage plan c place image → place < length (class_targets plan c)
 inside plan c place image h =
-    let node = some_of (slice_get plan.nodes c.node) (λ node. IsSomeAnd (slice_get (class_targets plan c) place) (λ t. image ≡ image_at plan node c t)) h in
+    let node = some_of (slice_get plan.nodes c.node) (λ node. IsSomeAnd (slice_get (class_targets plan c) place)
+    (λ t. image ≡ image_at plan node c t)) h in
     let target = some_of (slice_get (class_targets plan c) place) (λ t. image ≡ image_at plan node.0 c t) node.2 in
     slice_get_within (class_targets plan c) place target.0 target.1
 
-pub images_pushed : (plan : Network) (c : Titles) (count : ℕ) (images : List Image) (new : List Image) (image : Image) → new ≡ images ++ image ∷ [] → AreImages plan c count images → Reaches plan c count → HasImage plan c count image → AreImages plan c (count + 1) new
+pub images_pushed : (plan : Network) (c : Titles) (count : ℕ) (images : List Image) (new : List Image) (image : Image)
+    → new ≡ images ++ image ∷ [] → AreImages plan c count images → Reaches plan c count → HasImage plan c count image
+    → AreImages plan c (count + 1) new
 images_pushed plan c count images new image is h reached has = rw is (record {
   each = All-push (LeadsTo plan c) images image h.each (count, reached, has);
   every = λ place other lt there leads. ⊎_elim
@@ -37,7 +40,8 @@ images_pushed plan c count images new image is h reached has = rw is (record {
       (cases_lt place count);
 })
 
-pub images_kept : (plan : Network) (c : Titles) (count : ℕ) (images : List Image) → AreImages plan c count images → (Reaches plan c count → ⊥) → AreImages plan c (count + 1) images
+pub images_kept : (plan : Network) (c : Titles) (count : ℕ) (images : List Image) → AreImages plan c count images
+    → (Reaches plan c count → ⊥) → AreImages plan c (count + 1) images
 images_kept plan c count images h unreached = record {
   each = h.each;
   every = λ place other lt there leads. ⊎_elim
@@ -48,5 +52,6 @@ images_kept plan c count images h unreached = record {
       (cases_lt place count);
 }
 
-pub images_whole : (plan : Network) (c : Titles) (count : ℕ) (images : List Image) → length (class_targets plan c) ≤ count → AreImages plan c count images → (image : Image) → LeadsTo plan c image → Contains images image
+pub images_whole : (plan : Network) (c : Titles) (count : ℕ) (images : List Image) → length (class_targets plan c) ≤ count
+    → AreImages plan c count images → (image : Image) → LeadsTo plan c image → Contains images image
 images_whole plan c count images all h image led = h.every led.0 image (omega (arith, all, inside plan c led.0 image led.2)) led.1 led.2

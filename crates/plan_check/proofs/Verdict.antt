@@ -23,23 +23,30 @@ none-some : {X : Type 0} (o : Option X) → o ≡ None → IsSome o → ⊥
 none-some None e h = cc
 none-some (Some x) e h = cc
 
-table_faultless : (plan : Network) (ranks : List (Titles × ℕ)) (fault : CheckFault) → IsRanked plan (rank_in ranks) → IsTableFault plan ranks fault → fault ≡ OutOfMemory
+table_faultless : (plan : Network) (ranks : List (Titles × ℕ)) (fault : CheckFault) → IsRanked plan (rank_in ranks)
+    → IsTableFault plan ranks fault → fault ≡ OutOfMemory
 table_faultless plan ranks fault ranked h =
     ranked_faultless plan (rank_in ranks) h.class h.rank fault
     (ranked h.class h.rank h.first.has)
     h.fails
 
 -- if every test passes, the only fault is a lack of memory
-pub faultless : (plan : Network) (ranks : List (Titles × ℕ)) (longest : Longest) (fault : CheckFault) → IsCheckFault plan ranks longest fault → (bound : ℕ) → Passes plan ranks longest bound → fault ≡ OutOfMemory
-faultless plan ranks longest (NoStart number) h bound passes = absurd (none-some (rank_in ranks (start_of number h.cover)) h.lacks (starts_ranked plan (rank_in ranks) bound passes.start.each number h.cover h.at))
+pub faultless : (plan : Network) (ranks : List (Titles × ℕ)) (longest : Longest) (fault : CheckFault)
+    → IsCheckFault plan ranks longest fault → (bound : ℕ) → Passes plan ranks longest bound → fault ≡ OutOfMemory
+faultless plan ranks longest (NoStart number) h bound passes =
+    absurd (none-some (rank_in ranks (start_of number h.cover)) h.lacks
+    (starts_ranked plan (rank_in ranks) bound passes.start.each number h.cover h.at))
 faultless plan ranks longest (NoRank c) h bound passes = table_faultless plan ranks (NoRank c) passes.ranked h.1
 faultless plan ranks longest (NotLower c) h bound passes = table_faultless plan ranks (NotLower c) passes.ranked h.1
 faultless plan ranks longest (BadEnd c) h bound passes = table_faultless plan ranks (BadEnd c) passes.ranked h.1
-faultless plan ranks longest NotTight h bound passes = absurd (h.loose (subst (λ (n : ℕ). Tight plan n longest.spot longest.markings) (same_greatest plan (rank_in ranks) bound h.bound passes.start h.start) passes.tight))
+faultless plan ranks longest NotTight h bound passes = absurd
+    (h.loose (subst (λ (n : ℕ). Tight plan n longest.spot longest.markings)
+    (same_greatest plan (rank_in ranks) bound h.bound passes.start h.start) passes.tight))
 faultless plan ranks longest OutOfMemory h bound passes = refl
 
 -- a plan that passes is safe, its bound is from 1 to 14, and its longest route is in range
-pub passed_verified : (plan : Network) (ranks : List (Titles × ℕ)) (longest : Longest) (bound : ℕ) → IsPlan plan → All IsMarking longest.markings → Passes plan ranks longest bound → IsVerified (verified plan bound longest)
+pub passed_verified : (plan : Network) (ranks : List (Titles × ℕ)) (longest : Longest) (bound : ℕ) → IsPlan plan
+    → All IsMarking longest.markings → Passes plan ranks longest bound → IsVerified (verified plan bound longest)
 passed_verified plan ranks longest bound is marked passes =
     let first = passes.ranked (start_of passes.start.number passes.start.cover) bound passes.start.reached in
     record {

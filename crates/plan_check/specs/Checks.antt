@@ -90,7 +90,8 @@ pub record LacksStart (plan : Network) (rank : Titles → Option ℕ) (number : 
   pub cover : Cover
   pub at : slice_get plan.covers number ≡ Some cover
   pub lacks : rank (start_of number cover) ≡ None
-  pub before : (earlier : ℕ) (cover : Cover) → earlier < number → slice_get plan.covers earlier ≡ Some cover → IsSome (rank (start_of earlier cover))
+  pub before : (earlier : ℕ) (cover : Cover) → earlier < number → slice_get plan.covers earlier ≡ Some cover
+      → IsSome (rank (start_of earlier cover))
 
 -- the starts have ranks and all classes are ranked, but the route does not have as many hops as the greatest rank of a start
 pub record LacksRoute (plan : Network) (ranks : List (Titles × ℕ)) (longest : Longest) : Type 0 where

@@ -53,7 +53,8 @@ IsRanked plan rank = (c : Titles) (r : ℕ) → rank c ≡ Some r → IsRankedCl
 
 -- the start of each cover has a rank up to the bound
 abbrev pub StartsBelow : Network → (Titles → Option ℕ) → ℕ → Type 0
-StartsBelow plan rank bound = (number : ℕ) (cover : Cover) → slice_get plan.covers number ≡ Some cover → RanksUpTo rank bound (start_of number cover)
+StartsBelow plan rank bound = (number : ℕ) (cover : Cover) → slice_get plan.covers number ≡ Some cover
+    → RanksUpTo rank bound (start_of number cover)
 
 -- the bound is the greatest rank of a start
 pub record IsGreatestStart (plan : Network) (rank : Titles → Option ℕ) (bound : ℕ) : Type 0 where

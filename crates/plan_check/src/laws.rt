@@ -7,5 +7,6 @@ ghost use Rattle.plan_check.specs.Ranked.{IsRanked, StartsBelow};
 
 /// A plan whose classes are ranked, whatever gives the ranks, is safe for a bound on the ranks of the starts.
 pub fn ranked_plans_are_safe()
-    ensures { (plan : Network) (rank : Titles → Option ℕ) (bound : ℕ) → IsPlan plan → IsRanked plan rank → StartsBelow plan rank bound → Safe plan bound }
+    ensures { (plan : Network) (rank : Titles → Option ℕ) (bound : ℕ) → IsPlan plan → IsRanked plan rank → StartsBelow plan rank bound
+        → Safe plan bound }
 {}

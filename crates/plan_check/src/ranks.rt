@@ -64,7 +64,8 @@ impl Ranks {
     /// Gives a class a rank, in place of the one that it has. The fault is `Full` if 262,144 other classes have one. After a
     /// fault the table is as it was.
     pub fn put(&mut self, class: Class, rank: u8) -> Result<(), RanksFault>
-        ensures ok { OnOk result ((c : Titles) → rank_in self.new c ≡ (if is_eq (class_cmp class c) then Some rank else rank_in self.old c)) }
+        ensures ok { OnOk result ((c : Titles) → rank_in self.new c
+            ≡ (if is_eq (class_cmp class c) then Some rank else rank_in self.old c)) }
         ensures full { (result ≡ Err RanksFault.Full) ↔ IsFullFor self.old class }
         ensures err { OnErr result (self.new ≡ self.old) }
         ensures sound { IsRanks self.old }

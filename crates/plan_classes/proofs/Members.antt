@@ -12,7 +12,8 @@ member_begins c digits m = starts_with-split digits c.known m.rest m.whole
 pub member_decimal : (c : Titles) (digits : List ℕ) → IsMember c digits → All (λ d. d < 10) (drop (length c.known) digits)
 member_decimal c digits m = subst (All (λ d. d < 10)) (sym (ap (drop (length c.known)) m.whole ∙ drop-append_seam c.known m.rest)) m.decimal
 
-pub member_from : (c : Titles) (digits : List ℕ) → starts_with nat_eq digits c.known ≡ true → length c.known + c.least ≤ length digits → length digits ≤ length c.known + c.most → All (λ d. d < 10) (drop (length c.known) digits) → IsMember c digits
+pub member_from : (c : Titles) (digits : List ℕ) → starts_with nat_eq digits c.known ≡ true → length c.known + c.least ≤ length digits
+    → length digits ≤ length c.known + c.most → All (λ d. d < 10) (drop (length c.known) digits) → IsMember c digits
 member_from c digits begins least most decimal =
     record {
       rest = drop (length c.known) digits;

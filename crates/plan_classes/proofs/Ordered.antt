@@ -33,7 +33,12 @@ same_selector a b e =
     let k = both_equal (nat_cmp a.kind b.kind) _ e in
     let t = both_equal (nat_cmp a.translation b.translation) _ k.1 in
     let p = both_equal (nat_cmp a.plan b.plan) _ t.1 in
-    λ i. record { kind = exact_unsigned a.kind b.kind k.0 i; translation = exact_unsigned a.translation b.translation t.0 i; plan = exact_unsigned a.plan b.plan p.0 i; nature = exact_unsigned a.nature b.nature p.1 i }
+    λ i. record {
+      kind = exact_unsigned a.kind b.kind k.0 i;
+      translation = exact_unsigned a.translation b.translation t.0 i;
+      plan = exact_unsigned a.plan b.plan p.0 i;
+      nature = exact_unsigned a.nature b.nature p.1 i;
+    }
 
 is_equal : (o : Ordering) → is_eq o ≡ true → o ≡ Equal
 is_equal Less e = absurd (false≢true e)

@@ -64,11 +64,14 @@ next_digit (k ∷ ks) xs ys a b e = next_digit ks xs ys a b (ap tail e)
 longer_than : (xs ys zs : List ℕ) (a : ℕ) → xs ++ ys ≡ (xs ++ a ∷ []) ++ zs → 0 < length ys
 longer_than xs ys zs a e = omega (arith, ap length e, length-append xs ys, length-append (xs ++ a ∷ []) zs, length-append xs (a ∷ []))
 
-apart_extended : (c : Titles) → AllPairs (λ p q. (digits : List ℕ) → IsMember p digits → IsMember q digits → ⊥) (map (extended c) (range_with_len 0 10))
+apart_extended : (c : Titles) → AllPairs (λ p q. (digits : List ℕ) → IsMember p digits → IsMember q digits
+    → ⊥) (map (extended c) (range_with_len 0 10))
 apart_extended c = λ i j d lt in'.
     let ten : j < 10 = omega (arith, length-map-range_with_len (extended c) 0 10) in
-    let at_i : get_or (map (extended c) (range_with_len 0 10)) i d ≡ extended c i = get_or-map-range_with_len (extended c) 0 10 i i d (omega arith) (zero-add i) in
-    let at_j : get_or (map (extended c) (range_with_len 0 10)) j d ≡ extended c j = get_or-map-range_with_len (extended c) 0 10 j j d ten (zero-add j) in
+    let at_i : get_or (map (extended c) (range_with_len 0 10)) i d ≡ extended c i = get_or-map-range_with_len (extended c) 0 10 i i d
+    (omega arith) (zero-add i) in
+    let at_j : get_or (map (extended c) (range_with_len 0 10)) j d ≡ extended c j = get_or-map-range_with_len (extended c) 0 10 j j d ten
+    (zero-add j) in
     λ digits m n.
     let a : IsMember (extended c i) digits = subst (λ (p : Titles). IsMember p digits) at_i m in
     let b : IsMember (extended c j) digits = subst (λ (p : Titles). IsMember p digits) at_j n in
@@ -83,14 +86,17 @@ AllPairs-cons {X} R x xs here rest (suc i) zero d lt in' = absurd (omega arith)
 AllPairs-cons {X} R x xs here rest (suc i) (suc j) d lt in' = rest i j d (omega arith) (omega arith)
 
 -- the closed part has none of the titles with a further digit
-apart_closed : (c : Titles) → All (λ q. (digits : List ℕ) → IsMember (closed c) digits → IsMember q digits → ⊥) (map (extended c) (range_with_len 0 10))
+apart_closed : (c : Titles) → All (λ q. (digits : List ℕ) → IsMember (closed c) digits → IsMember q digits
+    → ⊥) (map (extended c) (range_with_len 0 10))
 apart_closed c = λ k d lt digits m n.
     let in' : k < 10 = omega (arith, length-map-range_with_len (extended c) 0 10) in
-    let b : IsMember (extended c k) digits = subst (λ (p : Titles). IsMember p digits) (get_or-map-range_with_len (extended c) 0 10 k k d in' (zero-add k)) n in
+    let b : IsMember (extended c k) digits = subst (λ (p : Titles). IsMember p digits)
+    (get_or-map-range_with_len (extended c) 0 10 k k d in' (zero-add k)) n in
     omega (arith, m.most, longer_than c.known m.rest b.rest k (sym m.whole ∙ b.whole))
 
 -- a member with a further digit is in that digit's part
-in_extended : (c : Titles) (digits : List ℕ) (x : ℕ) (xs : List ℕ) → digits ≡ c.known ++ (x ∷ xs) → All (λ d. d < 10) (x ∷ xs) → c.least ≤ length (x ∷ xs) → length (x ∷ xs) ≤ c.most → Any (λ part. IsMember part digits) (map (extended c) (range_with_len 0 10))
+in_extended : (c : Titles) (digits : List ℕ) (x : ℕ) (xs : List ℕ) → digits ≡ c.known ++ (x ∷ xs) → All (λ d. d < 10) (x ∷ xs)
+    → c.least ≤ length (x ∷ xs) → length (x ∷ xs) ≤ c.most → Any (λ part. IsMember part digits) (map (extended c) (range_with_len 0 10))
 in_extended c digits x xs e dec lo hi =
     let lt : x < 10 = All-head (λ d. d < 10) x xs dec in
     let member : IsMember (extended c x) digits =
@@ -100,8 +106,14 @@ in_extended c digits x xs e dec lo hi =
       decimal = All-tail (λ d. d < 10) x xs dec;
       least = omega (arith, lo);
       most = omega (arith, hi);
-    } in
-    (x, extended c x, omega (arith, length-map-range_with_len (extended c) 0 10), get_or-map-range_with_len (extended c) 0 10 x x (extended c x) lt (zero-add x), member)
+    } in (
+      x,
+      extended c x,
+      omega (arith, length-map-range_with_len (extended c) 0 10),
+      get_or-map-range_with_len (extended c) 0 10 x x
+          (extended c x) lt (zero-add x),
+      member,
+    )
 
 pub splits_open : (c : Titles) → IsClass c → 0 < c.most → 0 < c.least → Splits c (map (extended c) (range_with_len 0 10))
 splits_open c is more some =
@@ -111,40 +123,59 @@ splits_open c is more some =
       once = apart_extended c;
     }
   where
-    inside : (digits rest : List ℕ) → digits ≡ c.known ++ rest → All (λ d. d < 10) rest → c.least ≤ length rest → length rest ≤ c.most → Any (λ part. IsMember part digits) (map (extended c) (range_with_len 0 10))
+    inside : (digits rest : List ℕ) → digits ≡ c.known ++ rest → All (λ d. d < 10) rest → c.least ≤ length rest → length rest ≤ c.most
+        → Any (λ part. IsMember part digits) (map (extended c) (range_with_len 0 10))
     inside digits [] e dec lo hi = absurd (omega arith)
     inside digits (x ∷ xs) e dec lo hi = in_extended c digits x xs e dec lo hi
 
 pub splits_closed : (c : Titles) → IsClass c → 0 < c.most → c.least ≡ 0 → Splits c (closed c ∷ map (extended c) (range_with_len 0 10))
 splits_closed c is more zeros =
     record {
-      each = All-cons (IsPart c) (closed c) (map (extended c) (range_with_len 0 10)) (part_closed c is more zeros) (each_extended c is more);
+      each = All-cons (IsPart c) (closed c) (map (extended c) (range_with_len 0 10)) (part_closed c is more zeros)
+          (each_extended c is more);
       whole = λ digits m. inside digits m.rest m.whole m.decimal m.least m.most;
-      once = AllPairs-cons (λ p q. (digits : List ℕ) → IsMember p digits → IsMember q digits → ⊥) (closed c) (map (extended c) (range_with_len 0 10)) (apart_closed c) (apart_extended c);
+      once = AllPairs-cons (λ p q. (digits : List ℕ) → IsMember p digits → IsMember q digits
+          → ⊥) (closed c) (map (extended c) (range_with_len 0 10)) (apart_closed c) (apart_extended c);
     }
   where
-    inside : (digits rest : List ℕ) → digits ≡ c.known ++ rest → All (λ d. d < 10) rest → c.least ≤ length rest → length rest ≤ c.most → Any (λ part. IsMember part digits) (closed c ∷ map (extended c) (range_with_len 0 10))
-    inside digits [] e dec lo hi = (0, closed c, omega arith, refl, record { rest = []; whole = e; decimal = dec; least = omega arith; most = omega arith })
+    inside : (digits rest : List ℕ) → digits ≡ c.known ++ rest → All (λ d. d < 10) rest → c.least ≤ length rest → length rest ≤ c.most
+        → Any (λ part. IsMember part digits) (closed c ∷ map (extended c) (range_with_len 0 10))
+    inside digits [] e dec lo hi = (
+      0,
+      closed c,
+      omega arith,
+      refl,
+      record
+          { rest = []; whole = e; decimal = dec; least = omega arith; most = omega arith },
+    )
     inside digits (x ∷ xs) e dec lo hi =
         let a = in_extended c digits x xs e dec lo hi in
         (suc a.0, a.1, omega (arith, a.2), a.3, a.4)
 
 pub splits_parts : (c : Titles) → IsClass c → 0 < c.most → Splits c (parts_of c)
 splits_parts c is more =
-    elim (c.least == 0) as (λ b. (c.least == 0) ≡ b → Splits c ((if b then closed c ∷ [] else []) ++ map (extended c) (range_with_len 0 10))) [
+    elim (c.least == 0) as (λ b. (c.least == 0) ≡ b
+    → Splits c ((if b then closed c ∷ [] else []) ++ map (extended c) (range_with_len 0 10))) [
       | true ↦ λ e. splits_closed c is more (eqb-true c.least 0 e)
-      | false ↦ λ e. splits_open c is more (let ne : 0 < c.least = ⊎_elim (λ (z : 0 < c.least). z) (λ (z : c.least ≤ 0). absurd (let q : (c.least == 0) ≡ true = eq-eqb c.least 0 (omega arith) in cc)) (cases_lt 0 c.least) in ne)
+      | false ↦ λ e. splits_open c is more (let ne : 0 < c.least = ⊎_elim (λ (z : 0 < c.least). z)
+          (λ (z : c.least ≤ 0). absurd (let q : (c.least == 0) ≡ true = eq-eqb c.least 0 (omega arith) in cc)) (cases_lt 0 c.least) in ne)
     ] refl
 
 -- an element of the parts is a part of the class
-pub part_of : (c : Titles) (ps qs : List Titles) (i : ℕ) (p : Titles) → Splits c ps → qs ≡ ps → i < length qs → p ≡ get_or qs i p → IsPart c p
-part_of c ps qs i p splits same lt at = subst (IsPart c) (sym at) (subst (λ (xs : List Titles). IsPart c (get_or xs i p)) (sym same) (splits.each i p (omega (arith, ap length same))))
+pub part_of : (c : Titles) (ps qs : List Titles) (i : ℕ) (p : Titles) → Splits c ps → qs ≡ ps → i < length qs → p ≡ get_or qs i p
+    → IsPart c p
+part_of c ps qs i p splits same lt at = subst (IsPart c) (sym at)
+    (subst (λ (xs : List Titles). IsPart c (get_or xs i p)) (sym same) (splits.each i p (omega (arith, ap length same))))
 
-pub parts_more : (f : ℕ → Titles) (front ps qs : List Titles) (n : ℕ) (x : Titles) → qs ≡ ps ++ x ∷ [] → x ≡ f n → ps ≡ front ++ map f (range_with_len 0 n) → qs ≡ front ++ map f (range_with_len 0 (n + 1))
+pub parts_more : (f : ℕ → Titles) (front ps qs : List Titles) (n : ℕ) (x : Titles) → qs ≡ ps ++ x ∷ [] → x ≡ f n
+    → ps ≡ front ++ map f (range_with_len 0 n) → qs ≡ front ++ map f (range_with_len 0 (n + 1))
 parts_more f front ps qs n x e at h =
     e ∙ (ap (λ (ys : List Titles). ys ++ x ∷ []) h ∙ (append_assoc front (map f (range_with_len 0 n)) (x ∷ [])
-    ∙ ap (λ (ys : List Titles). front ++ ys) (ap (λ (y : Titles). map f (range_with_len 0 n) ++ y ∷ []) at ∙ sym (map-range_with_len_more f 0 n n (zero-add n)))))
+    ∙ ap (λ (ys : List Titles). front ++ ys) (ap (λ (y : Titles). map f (range_with_len 0 n) ++ y ∷ []) at
+    ∙ sym (map-range_with_len_more f 0 n n (zero-add n)))))
 
-pub splits_all : (c : Titles) (ps : List Titles) (n : ℕ) → IsClass c → 0 < c.most → n ≡ 10 → ps ≡ (if c.least == 0 then closed c ∷ [] else []) ++ map (extended c) (range_with_len 0 n) → Splits c ps
+pub splits_all : (c : Titles) (ps : List Titles) (n : ℕ) → IsClass c → 0 < c.most → n ≡ 10
+    → ps ≡ (if c.least == 0 then closed c ∷ [] else []) ++ map (extended c) (range_with_len 0 n) → Splits c ps
 splits_all c ps n is more ten e =
-    subst (Splits c) (sym (e ∙ ap (λ (k : ℕ). (if c.least == 0 then closed c ∷ [] else []) ++ map (extended c) (range_with_len 0 k)) ten)) (splits_parts c is more)
+    subst (Splits c) (sym (e ∙ ap (λ (k : ℕ). (if c.least == 0 then closed c ∷ [] else []) ++ map (extended c) (range_with_len 0 k)) ten))
+    (splits_parts c is more)

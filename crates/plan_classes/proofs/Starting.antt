@@ -25,7 +25,8 @@ start_member number cover spot h =
 pub start_spot : (number : ℕ) (cover : Cover) (spot : Spot) → Covers cover spot → spot_of (start_of number cover) spot.digits ≡ spot
 start_spot number cover spot h = λ i. record { node = h.node i; selector = h.selector i; ssn = h.ssn i; digits = spot.digits }
 
-pub member_covered : (nodes : List Node) (number : ℕ) (cover : Cover) (digits : List ℕ) → IsCover nodes cover → IsMember (start_of number cover) digits → Covers cover (spot_of (start_of number cover) digits)
+pub member_covered : (nodes : List Node) (number : ℕ) (cover : Cover) (digits : List ℕ) → IsCover nodes cover
+    → IsMember (start_of number cover) digits → Covers cover (spot_of (start_of number cover) digits)
 member_covered nodes number cover digits is m =
     record {
       node = refl;
@@ -37,7 +38,8 @@ member_covered nodes number cover digits is m =
       most = omega (arith, ap length m.whole, length-append cover.prefix m.rest, m.most, is.room);
     }
 
-pub start_exact : (nodes : List Node) (number : ℕ) (cover : Cover) (c : Titles) → IsCover nodes cover → c ≡ start_of number cover → (spot : Spot) → HasTitle c spot ↔ Covers cover spot
+pub start_exact : (nodes : List Node) (number : ℕ) (cover : Cover) (c : Titles) → IsCover nodes cover → c ≡ start_of number cover
+    → (spot : Spot) → HasTitle c spot ↔ Covers cover spot
 start_exact nodes number cover c is e spot =
     subst (λ (x : Titles). HasTitle x spot ↔ Covers cover spot) (sym e) (
       λ h. subst (Covers cover) (sym h.2) (member_covered nodes number cover h.0 is h.1),

@@ -14,12 +14,15 @@ use Rattle.plan_classes.specs.Classes.{class_targets, Opens, HasImage}
 -- what becomes of a title of the class when the target at this place is taken
 abbrev pub brought : Network → Titles → ℕ → List ℕ → Option Step
 brought plan c place digits =
-    option_and_then (λ node. option_map (λ t. led plan node (spot_of c digits) place t) (slice_get (class_targets plan c) place)) (slice_get plan.nodes c.node)
+    option_and_then (λ node. option_map (λ t. led plan node (spot_of c digits) place t) (slice_get (class_targets plan c) place))
+    (slice_get plan.nodes c.node)
 
 -- each title of the class is sent on as one of the next class, and each of the next class is made of one
 pub record GoesOnTo (plan : Network) (c : Titles) (place : ℕ) (next : Titles) : Type 0 where
-  pub each : (digits : List ℕ) → IsMember c digits → (on : List ℕ) × IsMember next on × (brought plan c place digits ≡ Some (Sent (spot_of next on) place))
-  pub every : (on : List ℕ) → IsMember next on → (digits : List ℕ) × IsMember c digits × (brought plan c place digits ≡ Some (Sent (spot_of next on) place))
+  pub each : (digits : List ℕ) → IsMember c digits → (on : List ℕ) × IsMember next on
+      × (brought plan c place digits ≡ Some (Sent (spot_of next on) place))
+  pub every : (on : List ℕ) → IsMember next on → (digits : List ℕ) × IsMember c digits
+      × (brought plan c place digits ≡ Some (Sent (spot_of next on) place))
 
 -- What an image says of the titles. They go on to the next class, or they all end there. Or the node does not have the subsystem
 -- for any of them, or the longest ones get too many digits.
@@ -39,4 +42,5 @@ OpensClass plan c place marking = IsSomeAnd (slice_get plan.nodes c.node) (λ no
 
 -- that target is what each title's step takes under the marking
 abbrev pub Takes : Network → Titles → ℕ → List Mark → Type 0
-Takes plan c place marking = (digits : List ℕ) → IsMember c digits → brought plan c place digits ≡ Some (step plan (spot_of c digits) marking)
+Takes plan c place marking = (digits : List ℕ) → IsMember c digits
+    → brought plan c place digits ≡ Some (step plan (spot_of c digits) marking)

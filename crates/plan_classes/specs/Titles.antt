@@ -16,7 +16,8 @@ pub record Titles : Type 0 where
 
 -- a class by its fields
 abbrev pub titles : ℕ → ℕ → Numbers → ℕ → List ℕ → ℕ → ℕ → Titles
-titles cover node selector ssn known least most = record { cover = cover; node = node; selector = selector; ssn = ssn; known = known; least = least; most = most }
+titles cover node selector ssn known least most = record
+    { cover = cover; node = node; selector = selector; ssn = ssn; known = known; least = least; most = most }
 
 -- what every class keeps: no title has more than 32 digits
 pub record IsClass (c : Titles) : Type 0 where

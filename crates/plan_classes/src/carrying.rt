@@ -49,8 +49,10 @@ pub fn carry_back(plan: &Plan, class: &Class, target: u8, digits: &Digits) -> Di
     requires decided { Decided plan.now class.now }
     requires next { IsInImage plan.now class.now target digits.now }
     ensures member { IsMember class.now result }
-    ensures leads { (next : Titles) → HasImage plan.now class.now target (Next next) → brought plan.now class.now target result ≡ Some (Sent (spot_of next digits.now) target) }
-    ensures only { (next : Titles) (other : List ℕ) → IsMember class.now other → brought plan.now class.now target other ≡ Some (Sent (spot_of next digits.now) target) → other ≡ result }
+    ensures leads { (next : Titles) → HasImage plan.now class.now target (Next next)
+        → brought plan.now class.now target result ≡ Some (Sent (spot_of next digits.now) target) }
+    ensures only { (next : Titles) (other : List ℕ) → IsMember class.now other
+        → brought plan.now class.now target other ≡ Some (Sent (spot_of next digits.now) target) → other ≡ result }
 {
     match class_target(plan, class, target) {
         Some(Target::Relay { strip, put, .. }) => {

@@ -28,7 +28,8 @@ impl Model for Class {
 
     ghost invariant = { λ c. IsClass (titles c.cover c.node c.selector c.ssn c.known c.least c.most) };
 
-    ghost inverse = { λ t. record { cover = t.cover; node = t.node; selector = t.selector; ssn = t.ssn; known = t.known; least = t.least; most = t.most } };
+    ghost inverse = { λ t. record
+        { cover = t.cover; node = t.node; selector = t.selector; ssn = t.ssn; known = t.known; least = t.least; most = t.most } };
 }
 
 impl Class {

@@ -39,4 +39,5 @@ new_of number = number % most_covers
 -- the titles that both covers have, under a number: the longer prefix, and as many further digits as suit both
 abbrev pub shared : ℕ → Cover → Cover → Titles
 shared number a b =
-    titles number a.node a.selector a.ssn (longer a.prefix b.prefix) (least_of_both a b - length (longer a.prefix b.prefix)) (most_of_both a b - length (longer a.prefix b.prefix))
+    titles number a.node a.selector a.ssn (longer a.prefix b.prefix) (least_of_both a b - length (longer a.prefix b.prefix))
+    (most_of_both a b - length (longer a.prefix b.prefix))

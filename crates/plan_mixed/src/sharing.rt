@@ -114,10 +114,15 @@ fn cover_at(plan: &Plan, place: u16) -> &Cover
 pub fn shared(old: &Plan, new: &Plan, i: u16, j: u16) -> Option<Class>
     requires old { i < length old.now.covers }
     requires new { j < length new.now.covers }
-    ensures some { IsSomeAnd (slice_get old.now.covers i) (λ a. IsSomeAnd (slice_get new.now.covers j) (λ b. IfSome result (λ c. Meet a b × (c ≡ shared (pair i j) a b)))) }
-    ensures exact { IsSomeAnd (slice_get old.now.covers i) (λ a. IsSomeAnd (slice_get new.now.covers j) (λ b. IfSome result (λ c. (spot : Spot) → HasTitle c spot ↔ (Covers a spot × Covers b spot)))) }
-    ensures none { IsSomeAnd (slice_get old.now.covers i) (λ a. IsSomeAnd (slice_get new.now.covers j) (λ b. result ≡ None → Meet a b → ⊥)) }
-    ensures apart { IsSomeAnd (slice_get old.now.covers i) (λ a. IsSomeAnd (slice_get new.now.covers j) (λ b. result ≡ None → (spot : Spot) → Covers a spot → Covers b spot → ⊥)) }
+    ensures some { IsSomeAnd (slice_get old.now.covers i)
+        (λ a. IsSomeAnd (slice_get new.now.covers j) (λ b. IfSome result (λ c. Meet a b × (c ≡ shared (pair i j) a b)))) }
+    ensures exact { IsSomeAnd (slice_get old.now.covers i)
+        (λ a. IsSomeAnd (slice_get new.now.covers j) (λ b. IfSome result (λ c. (spot : Spot) → HasTitle c spot
+        ↔ (Covers a spot × Covers b spot)))) }
+    ensures none { IsSomeAnd (slice_get old.now.covers i) (λ a. IsSomeAnd (slice_get new.now.covers j) (λ b. result ≡ None → Meet a b
+        → ⊥)) }
+    ensures apart { IsSomeAnd (slice_get old.now.covers i) (λ a. IsSomeAnd (slice_get new.now.covers j) (λ b. result ≡ None → (spot : Spot)
+        → Covers a spot → Covers b spot → ⊥)) }
     ensures node { IfSome result (λ c. c.node < length old.now.nodes) }
 {
     let a = cover_at(old, i);

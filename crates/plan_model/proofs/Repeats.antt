@@ -13,7 +13,8 @@ use Rattle.sccp_base.proofs.Among.{Among-get_or, list_any-none}
 pub any_default : (xs : List ℕ) (i : ℕ) → i < length xs → get_or xs i 0 ≡ get_or xs i (get_or xs i 0)
 any_default xs i lt = ap (λ (o : Option ℕ). unwrap_or o 0) (sym (slice_get-get_or xs i 0 lt) ∙ slice_get-get_or xs i (get_or xs i 0) lt)
 
-pub distinct_more : (xs : List ℕ) (i x : ℕ) → i < length xs → x ≡ get_or xs i x → list_any (λ y. y == x) (take i xs) ≡ false → AllPairs (λ a b. a ≢ b) (take i xs) → AllPairs (λ a b. a ≢ b) (take (i + 1) xs)
+pub distinct_more : (xs : List ℕ) (i x : ℕ) → i < length xs → x ≡ get_or xs i x → list_any (λ y. y == x) (take i xs) ≡ false
+    → AllPairs (λ a b. a ≢ b) (take i xs) → AllPairs (λ a b. a ≢ b) (take (i + 1) xs)
 distinct_more xs i x lt at none pairs =
     rw (take_more xs i x lt)
     (all_pairs_push (λ a b. a ≢ b) (take i xs) (get_or xs i x) pairs

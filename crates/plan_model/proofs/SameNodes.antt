@@ -9,7 +9,8 @@ use Rattle.plan_model.specs.Network.{Network}
 use Rattle.plan_model.specs.SameNodes.{without_rows, same_node, same_nodes}
 
 -- lists with the same images have the same image at each place
-pub one_by_one : {X Y : Type 0} (f : X → Y) (xs ys : List X) (i : ℕ) (x y : X) → i < length xs → x ≡ get_or xs i x → y ≡ get_or ys i y → map f xs ≡ map f ys → f x ≡ f y
+pub one_by_one : {X Y : Type 0} (f : X → Y) (xs ys : List X) (i : ℕ) (x y : X) → i < length xs → x ≡ get_or xs i x → y ≡ get_or ys i y
+    → map f xs ≡ map f ys → f x ≡ f y
 one_by_one f [] ys i x y lt at there same = absurd (omega arith)
 one_by_one f (u ∷ us) [] i x y lt at there same = absurd (cc)
 one_by_one f (u ∷ us) (v ∷ vs) zero x y lt at there same = ap f at ∙ (let h : f u ≡ f v = cc in h) ∙ sym (ap f there)
@@ -28,7 +29,8 @@ all_true a b c d h i j k = rw h (rw i (rw j k))
 -- relays that are the same pass the test of two relays
 alike_told : (a b : Node) → without_rows a ≡ without_rows b → same_node a b ≡ true
 alike_told a b e =
-    all_true (pointwise nat_eq a.name b.name) (a.pc == b.pc) (pointwise nat_eq a.subsystems b.subsystems) (pointwise nat_eq a.concerned b.concerned)
+    all_true (pointwise nat_eq a.name b.name) (a.pc == b.pc) (pointwise nat_eq a.subsystems b.subsystems)
+    (pointwise nat_eq a.concerned b.concerned)
     (same_list a.name b.name (ap (λ (w : List ℕ × ℕ × List ℕ × List ℕ). w.0) e))
     (eq-eqb a.pc b.pc (ap (λ (w : List ℕ × ℕ × List ℕ × List ℕ). w.1) e))
     (same_list a.subsystems b.subsystems (ap (λ (w : List ℕ × ℕ × List ℕ × List ℕ). w.2) e))
@@ -42,10 +44,12 @@ four_same p q m n s t u v h i j k = rw h (rw i (rw j (rw k refl)))
 
 told_alike : (a b : Node) → same_node a b ≡ true → without_rows a ≡ without_rows b
 told_alike a b h =
-    let name = and_parts (pointwise nat_eq a.name b.name) (a.pc == b.pc && (pointwise nat_eq a.subsystems b.subsystems && pointwise nat_eq a.concerned b.concerned)) h in
+    let name = and_parts (pointwise nat_eq a.name b.name) (a.pc == b.pc
+    && (pointwise nat_eq a.subsystems b.subsystems && pointwise nat_eq a.concerned b.concerned)) h in
     let point = and_parts (a.pc == b.pc) (pointwise nat_eq a.subsystems b.subsystems && pointwise nat_eq a.concerned b.concerned) name.1 in
     let lists = and_parts (pointwise nat_eq a.subsystems b.subsystems) (pointwise nat_eq a.concerned b.concerned) point.1 in
-    four_same a.name b.name a.pc b.pc a.subsystems b.subsystems a.concerned b.concerned (same_text a.name b.name (sym name.0)) (eqb-true a.pc b.pc point.0) (same_text a.subsystems b.subsystems (sym lists.0)) (same_text a.concerned b.concerned (sym lists.1))
+    four_same a.name b.name a.pc b.pc a.subsystems b.subsystems a.concerned b.concerned (same_text a.name b.name (sym name.0))
+    (eqb-true a.pc b.pc point.0) (same_text a.subsystems b.subsystems (sym lists.0)) (same_text a.concerned b.concerned (sym lists.1))
 
 -- lists of relays that are the same pass the test of all of them
 all_told : (xs ys : List Node) → map without_rows xs ≡ map without_rows ys → pointwise same_node xs ys ≡ true
@@ -53,7 +57,8 @@ all_told [] [] e = refl
 all_told [] (y ∷ ys) e = absurd (cc)
 all_told (x ∷ xs) [] e = absurd (cc)
 all_told (x ∷ xs) (y ∷ ys) e =
-    rw (alike_told x y (let h : without_rows x ≡ without_rows y = cc in h)) (all_told xs ys (let h : map without_rows xs ≡ map without_rows ys = cc in h))
+    rw (alike_told x y (let h : without_rows x ≡ without_rows y = cc in h))
+    (all_told xs ys (let h : map without_rows xs ≡ map without_rows ys = cc in h))
 
 told_all : (xs ys : List Node) → pointwise same_node xs ys ≡ true → map without_rows xs ≡ map without_rows ys
 told_all [] [] h = refl
@@ -65,7 +70,8 @@ told_all (x ∷ xs) (y ∷ ys) h =
     let rest : map without_rows xs ≡ map without_rows ys = told_all xs ys parts.1 in
     cc
 
-pub same_nodes_told : (old new : Network) (xs ys : List Node) (r : Bool) → xs ≡ old.nodes → ys ≡ new.nodes → (IsTrue r ↔ (map without_rows xs ≡ map without_rows ys)) → r ≡ same_nodes old new
+pub same_nodes_told : (old new : Network) (xs ys : List Node) (r : Bool) → xs ≡ old.nodes → ys ≡ new.nodes
+    → (IsTrue r ↔ (map without_rows xs ≡ map without_rows ys)) → r ≡ same_nodes old new
 same_nodes_told old new xs ys r e f h =
     subst (λ (zs : List Node). r ≡ pointwise same_node old.nodes zs) f (subst (λ (zs : List Node). r ≡ pointwise same_node zs ys) e
     (same_bool r (pointwise same_node xs ys) (λ t. all_told xs ys (h.0 t)) (λ t. h.1 (told_all xs ys t))))

@@ -18,7 +18,8 @@ pub record IsTargetOf (plan : Network) (node : Node) (r : Rule) (t : Target) : T
   pub even : target_makes_odd r.selector.kind t ≡ false
   pub leads : LeadsOn plan.nodes node t
 
-pub sound_target : (plan : Network) (node : Node) (r : Rule) (t : Target) → IsPlan plan → Among node plan.nodes → Among r node.table → Among t r.targets → IsTargetOf plan node r t
+pub sound_target : (plan : Network) (node : Node) (r : Rule) (t : Target) → IsPlan plan → Among node plan.nodes → Among r node.table
+    → Among t r.targets → IsTargetOf plan node r t
 sound_target plan node r t is at among target =
     let table : IsTable node.table = All-among (λ (n : Node). IsTable n.table) node plan.nodes is.tables at in
     let row : IsRule r = All-among IsRule r node.table table.rules among in
@@ -26,7 +27,10 @@ sound_target plan node r t is at among target =
     record {
       sound = All-among IsTarget t r.targets row.targets target;
       ssn = All-among (λ u. IfSome (ssn_of u) IsSubsystem) t r.targets named.targets target;
-      strips = list_any-none (strips_more (length r.prefix)) t r.targets (position-None strips_too_long r node.table table.strips among) target;
+      strips = list_any-none (strips_more (length r.prefix)) t r.targets
+          (position-None strips_too_long r node.table table.strips among) target;
       even = list_any-none (target_makes_odd r.selector.kind) t r.targets (position-None makes_odd r node.table table.even among) target;
-      leads = All-among (LeadsOn plan.nodes node) t r.targets (All-among (λ (q : Rule). All (LeadsOn plan.nodes node) q.targets) r node.table (All-among (λ (n : Node). All (λ q. All (LeadsOn plan.nodes n) q.targets) n.table) node plan.nodes is.relays at) among) target;
+      leads = All-among (LeadsOn plan.nodes node) t r.targets
+          (All-among (λ (q : Rule). All (LeadsOn plan.nodes node) q.targets) r node.table
+          (All-among (λ (n : Node). All (λ q. All (LeadsOn plan.nodes n) q.targets) n.table) node plan.nodes is.relays at) among) target;
     }

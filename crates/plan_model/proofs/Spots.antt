@@ -1,5 +1,6 @@
 -- the spots that covered titles reach
-use Rattle.std.specs.Prelude.{ℕ, ◌≡◌, ◌+◌, ◌-◌, ◌<◌, ◌≤◌, ◌%◌, ◌==◌, ◌&&◌, Bool, true, false, List, [], ◌∷◌, ◌++◌, length, drop, Option, Some, None, IfSome, slice_get, refl}
+use Rattle.std.specs.Prelude.{ℕ, ◌≡◌, ◌+◌, ◌-◌, ◌<◌, ◌≤◌, ◌%◌, ◌==◌, ◌&&◌, Bool, true, false, List, [], ◌∷◌, ◌++◌, length, drop, Option}
+use Rattle.std.specs.Prelude.{Some, None, IfSome, slice_get, refl}
 use Rattle.std.specs.List.{All}
 use Rattle.std.specs.Option.{unwrap_or}
 use Rattle.std.proofs.Common.{zero, suc, sym, ◌∙◌, ap, subst, arith, length-append, length-drop}
@@ -43,9 +44,11 @@ covered_by_one plan cover s is h = record {
 }
 
 -- a cover of a plan is sound
-pub cover_at : (plan : Network) (number : ℕ) (cover : Cover) → IsPlan plan → slice_get plan.covers number ≡ Some cover → IsCover plan.nodes cover
+pub cover_at : (plan : Network) (number : ℕ) (cover : Cover) → IsPlan plan → slice_get plan.covers number ≡ Some cover
+    → IsCover plan.nodes cover
 cover_at plan number cover is at =
-    subst (IsCover plan.nodes) (get_or_from_slice_get plan.covers number cover cover at) (is.sound_covers number cover (slice_get_within plan.covers number cover at))
+    subst (IsCover plan.nodes) (get_or_from_slice_get plan.covers number cover cover at)
+    (is.sound_covers number cover (slice_get_within plan.covers number cover at))
 
 pub covered_spot : (plan : Network) (s : Spot) → IsPlan plan → Covered plan s → IsSpotOf plan s
 covered_spot plan s is h =
@@ -74,18 +77,25 @@ true_false true e f = cc
 true_false false e f = cc
 
 -- with kind 2 the number of digits stays even
-pub stays_even : (o : Option Numbers) (s : Numbers) (kind strip : ℕ) (put digits : List ℕ) → kind ≡ s.kind → change_makes_odd kind (strip + length put) o ≡ false → strip ≤ length digits → (s.kind ≡ 2 → length digits % 2 ≡ 0) → (unwrap_or o s).kind ≡ 2 → length (put ++ drop strip digits) % 2 ≡ 0
-stays_even (Some t) s kind strip put digits same even le h two = absurd (true_false (t.kind == 2) even (let e : (t.kind == 2) ≡ true = rw two refl in e))
+pub stays_even : (o : Option Numbers) (s : Numbers) (kind strip : ℕ) (put digits : List ℕ) → kind ≡ s.kind
+    → change_makes_odd kind (strip + length put) o ≡ false → strip ≤ length digits → (s.kind ≡ 2 → length digits % 2 ≡ 0)
+    → (unwrap_or o s).kind ≡ 2 → length (put ++ drop strip digits) % 2 ≡ 0
+stays_even (Some t) s kind strip put digits same even le h two =
+    absurd (true_false (t.kind == 2) even (let e : (t.kind == 2) ≡ true = rw two refl in e))
 stays_even None s kind strip put digits same even le h two =
-    let size : length (put ++ drop strip digits) ≡ length put + (length digits - strip) = length-append put (drop strip digits) ∙ ap (λ n. length put + n) (length-drop strip digits) in
+    let size : length (put ++ drop strip digits) ≡ length put + (length digits - strip) = length-append put (drop strip digits)
+    ∙ ap (λ n. length put + n) (length-drop strip digits) in
     let old : length digits % 2 ≡ 0 = h two in
-    let change : (strip + length put) % 2 ≡ 0 = not_one ((strip + length put) % 2) (omega arith) (both_false (kind == 2) ((strip + length put) % 2 == 1) (rw (same ∙ two) refl) even) in
+    let change : (strip + length put) % 2 ≡ 0 = not_one ((strip + length put) % 2) (omega arith)
+    (both_false (kind == 2) ((strip + length put) % 2 == 1) (rw (same ∙ two) refl) even) in
     omega (arith, size, old, change, le)
 
 -- a title that is sent on is in range again
 sent_by : (plan : Network) (s next : Spot) → IsPlan plan → IsSpotOf plan s → IsSentBy plan s next → IsSpotOf plan next
 sent_by plan s next is h t =
-    let target : IsTargetOf plan t.node t.row (Relay t.pc t.strip t.put t.selector t.named) = sound_target plan t.node t.row (Relay t.pc t.strip t.put t.selector t.named) is (Among-slice_get plan.nodes s.node t.node t.at) t.among t.target in
+    let target : IsTargetOf plan t.node t.row (Relay t.pc t.strip t.put t.selector t.named) =
+    sound_target plan t.node t.row (Relay t.pc t.strip t.put t.selector t.named) is
+    (Among-slice_get plan.nodes s.node t.node t.at) t.among t.target in
     let parts = matching_parts s.selector s.ssn s.digits t.row t.matching in
     let short : t.strip ≤ length t.row.prefix = ltb-false (length t.row.prefix) t.strip target.strips in
     let inside : length t.row.prefix ≤ length s.digits = fits-starts_with s.digits t.row.prefix parts.2 in
@@ -95,26 +105,35 @@ sent_by plan s next is h t =
       selector = subst IsSelector (sym t.selected) (selector_fits t.selector s.selector target.sound.selector h.selector);
       ssn = subst (λ (n : ℕ). n < 256) (sym t.ssn) (ssn_fits t.named s.ssn target.ssn h.ssn);
       few = t.few;
-      halves = subst (All (λ d. d < 16)) (sym t.digits) (All-append (λ d. d < 16) t.put (drop t.strip s.digits) target.sound.halves (All-drop (λ d. d < 16) t.strip s.digits h.halves));
-      even = λ two. subst (λ (ds : List ℕ). length ds % 2 ≡ 0) (sym t.digits) (stays_even t.selector s.selector t.row.selector.kind t.strip t.put s.digits (ap (λ (n : Numbers). n.kind) parts.0) target.even le h.even (sym (ap (λ (n : Numbers). n.kind) t.selected) ∙ two));
+      halves = subst (All (λ d. d < 16)) (sym t.digits) (All-append (λ d. d < 16) t.put (drop t.strip s.digits) target.sound.halves
+          (All-drop (λ d. d < 16) t.strip s.digits h.halves));
+      even = λ two. subst (λ (ds : List ℕ). length ds % 2 ≡ 0) (sym t.digits)
+          (stays_even t.selector s.selector t.row.selector.kind t.strip t.put s.digits
+          (ap (λ (n : Numbers). n.kind) parts.0) target.even le h.even (sym (ap (λ (n : Numbers). n.kind) t.selected) ∙ two));
     }
 
-next_spot : (plan : Network) (s next : Spot) (m : List Mark) (x : Step) → IsPlan plan → IsSpotOf plan s → Facts plan s m x → next_of x ≡ Some next → IsSpotOf plan next
-next_spot plan s next m (Sent there place) is h facts e = let same : there ≡ next = cc in subst (IsSpotOf plan) same (sent_by plan s there is h facts)
+next_spot : (plan : Network) (s next : Spot) (m : List Mark) (x : Step) → IsPlan plan → IsSpotOf plan s → Facts plan s m x
+    → next_of x ≡ Some next → IsSpotOf plan next
+next_spot plan s next m (Sent there place) is h facts e = let same : there ≡ next =
+    cc in subst (IsSpotOf plan) same (sent_by plan s there is h facts)
 next_spot plan s next m (Ended pc ssn place) is h facts e = absurd (cc)
 next_spot plan s next m (Blocked cause marks) is h facts e = absurd (cc)
 next_spot plan s next m (NoRow cause) is h facts e = absurd (cc)
 next_spot plan s next m Overgrown is h facts e = absurd (cc)
 
-pub sent_spot : (plan : Network) (s next : Spot) (m : List Mark) → IsPlan plan → IsSpotOf plan s → next_of (step plan s m) ≡ Some next → IsSpotOf plan next
+pub sent_spot : (plan : Network) (s next : Spot) (m : List Mark) → IsPlan plan → IsSpotOf plan s → next_of (step plan s m) ≡ Some next
+    → IsSpotOf plan next
 sent_spot plan s next m is h e = next_spot plan s next m (step plan s m) is h (step_facts plan is s m) e
 
 -- each spot of a route from a spot in range is in range
-pub route_spots : (plan : Network) (s : Spot) (ms : List (List Mark)) → IsPlan plan → IsSpotOf plan s → All (λ (hop : Hop). IsSpotOf plan hop.spot) (route plan s ms)
+pub route_spots : (plan : Network) (s : Spot) (ms : List (List Mark)) → IsPlan plan → IsSpotOf plan s
+    → All (λ (hop : Hop). IsSpotOf plan hop.spot) (route plan s ms)
 route_spots plan s [] is h = All-nil (λ (hop : Hop). IsSpotOf plan hop.spot)
 route_spots plan s (m ∷ ms) is h =
-    All-cons (λ (hop : Hop). IsSpotOf plan hop.spot) (record { spot = s; step = step plan s m }) (onward (next_of (step plan s m)) (λ next. route plan next ms)) h
-    (elim (next_of (step plan s m)) as (λ o. next_of (step plan s m) ≡ o → All (λ (hop : Hop). IsSpotOf plan hop.spot) (onward o (λ next. route plan next ms))) [
+    All-cons (λ (hop : Hop). IsSpotOf plan hop.spot) (record { spot = s; step = step plan s m })
+    (onward (next_of (step plan s m)) (λ next. route plan next ms)) h
+    (elim (next_of (step plan s m)) as (λ o. next_of (step plan s m) ≡ o
+    → All (λ (hop : Hop). IsSpotOf plan hop.spot) (onward o (λ next. route plan next ms))) [
       | None ↦ λ e. All-nil (λ (hop : Hop). IsSpotOf plan hop.spot)
       | Some next ↦ λ e. route_spots plan next ms is (sent_spot plan s next m is h e)
     ] refl)

@@ -1,7 +1,8 @@
 -- The keys of a plan text, as reports of faults name them.
 use Rattle.std.specs.Prelude.{List, ℕ, codes}
 use Rattle.plan_model.specs.declared.key.Key.{Key}
-use Rattle.plan_model.specs.declared.key.Key.TheVariants.{Version, Node, Cover, Name, Point, Subsystems, Concerned, Row, Selector, Prefix, First, Backup, Targets, Ssn, Least, Most, Allowed, Unknown}
+use Rattle.plan_model.specs.declared.key.Key.TheVariants.{Version, Node, Cover, Name, Point, Subsystems, Concerned, Row, Selector, Prefix}
+use Rattle.plan_model.specs.declared.key.Key.TheVariants.{First, Backup, Targets, Ssn, Least, Most, Allowed, Unknown}
 
 abbrev pub word_of : Key → List ℕ
 word_of Version = codes "version"

@@ -14,7 +14,8 @@ SameNodes old new = map without_rows old.nodes ≡ map without_rows new.nodes
 
 -- the same, as a test
 abbrev pub same_node : Node → Node → Bool
-same_node a b = pointwise nat_eq a.name b.name && (a.pc == b.pc && (pointwise nat_eq a.subsystems b.subsystems && pointwise nat_eq a.concerned b.concerned))
+same_node a b = pointwise nat_eq a.name b.name && (a.pc == b.pc
+    && (pointwise nat_eq a.subsystems b.subsystems && pointwise nat_eq a.concerned b.concerned))
 
 abbrev pub same_nodes : Network → Network → Bool
 same_nodes old new = pointwise same_node old.nodes new.nodes

@@ -44,9 +44,11 @@ HasSpot plan cover spot = IsSomeAnd (slice_get plan.covers cover) (λ c. Covers 
 
 -- what the kind says of the last hop
 abbrev pub EndsBadly : Network → ℕ → List Hop → Kind → Type 0
-EndsBadly plan cover hops (Loop from) = (hop : Hop) × (target : ℕ) × (slice_get hops from ≡ Some hop) × (last hops ≡ Some (Sent hop.spot target))
+EndsBadly plan cover hops (Loop from) = (hop : Hop) × (target : ℕ) × (slice_get hops from ≡ Some hop)
+    × (last hops ≡ Some (Sent hop.spot target))
 EndsBadly plan cover hops Long = (length hops ≡ 15) × AllPairs (λ a b. a.spot ≢ b.spot) hops
-EndsBadly plan cover hops (Forbidden pc ssn) = (target : ℕ) × (last hops ≡ Some (Ended pc ssn target)) × IsSomeAnd (slice_get plan.covers cover) (λ c. Contains c.allowed (pc, ssn) → ⊥)
+EndsBadly plan cover hops (Forbidden pc ssn) = (target : ℕ) × (last hops ≡ Some (Ended pc ssn target))
+    × IsSomeAnd (slice_get plan.covers cover) (λ c. Contains c.allowed (pc, ssn) → ⊥)
 EndsBadly plan cover hops (Rowless cause) = last hops ≡ Some (NoRow cause)
 EndsBadly plan cover hops Swollen = last hops ≡ Some Overgrown
 

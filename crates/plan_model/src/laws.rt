@@ -9,5 +9,6 @@ ghost use Rattle.plan_model.specs.Verdicts.{Safe, Bad};
 
 /// No plan that is safe for some bound up to 14 has a bad route.
 pub fn safe_plans_have_no_bad_route()
-    ensures { (plan : Network) (bound : ℕ) (cover : ℕ) (spot : Spot) (markings : List (List Mark)) (hops : List Hop) (kind : Kind) → bound ≤ 14 → Safe plan bound → Bad plan cover spot markings hops kind → ⊥ }
+    ensures { (plan : Network) (bound : ℕ) (cover : ℕ) (spot : Spot) (markings : List (List Mark)) (hops : List Hop) (kind : Kind)
+        → bound ≤ 14 → Safe plan bound → Bad plan cover spot markings hops kind → ⊥ }
 {}

@@ -34,10 +34,12 @@ each_element test d vs xs answer same e all =
     rw (is_the_array d (items_view vs) e, list_of-view vs) (all ∙ ap (list_all (λ v. test (view v))) same ∙ sym (list_all-map test view vs))
 
 -- the shape of each of them
-pub each_table : (shape : ℕ → Members → Shape) (at : Place) (d : Data) (vs xs : List Value) (answer : Shape) → xs ≡ vs → Some (items_view vs) ≡ as_array d
+pub each_table : (shape : ℕ → Members → Shape) (at : Place) (d : Data) (vs xs : List Value) (answer : Shape) → xs ≡ vs
+    → Some (items_view vs) ≡ as_array d
     → answer ≡ elements_shape shape at 0 (map view xs) → answer ≡ tables_shape shape at d
 each_table shape at d vs xs answer same e told =
-    rw (is_the_array d (items_view vs) e, list_of-view vs) (told ∙ ap (λ (values : List Value). elements_shape shape at 0 (map view values)) same)
+    rw (is_the_array d (items_view vs) e, list_of-view vs) (told
+    ∙ ap (λ (values : List Value). elements_shape shape at 0 (map view values)) same)
 
 -- a value that was found to be a table is the table of these keys
 is_the_table : (d : Data) (keys : Members) → Some keys ≡ as_table d → d ≡ table keys
@@ -49,5 +51,6 @@ is_the_table (datetime x) keys e = absurd cc
 is_the_table (array x) keys e = absurd cc
 is_the_table (table x) keys e = cc
 
-pub of_table : (shape : Members → Shape) (at : Place) (d : Data) (keys : Members) (answer : Shape) → Some keys ≡ as_table d → answer ≡ shape keys → answer ≡ element_shape shape at d
+pub of_table : (shape : Members → Shape) (at : Place) (d : Data) (keys : Members) (answer : Shape) → Some keys ≡ as_table d
+    → answer ≡ shape keys → answer ≡ element_shape shape at d
 of_table shape at d keys answer e told = rw (is_the_table d keys e) told

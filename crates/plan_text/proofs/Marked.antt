@@ -15,19 +15,23 @@ or_false : (a : Bool) → (a || false) ≡ a
 or_false true = refl
 or_false false = refl
 
-pub marked : (seen : List Bool) (xs : List ℕ) (i x : ℕ) → i < length xs → get_or xs i 0 ≡ x → x < length seen → Marks seen (take i xs) → Marks (set seen x true) (take (i + 1) xs)
+pub marked : (seen : List Bool) (xs : List ℕ) (i x : ℕ) → i < length xs → get_or xs i 0 ≡ x → x < length seen → Marks seen (take i xs)
+    → Marks (set seen x true) (take (i + 1) xs)
 marked seen xs i x lt at inside marks = λ k below.
     elim (cases_Bool (x == k)) [
       | inl same ↦
           let e : x ≡ k = eqb-true x k same in
-          let left : get_or (set seen x true) k false ≡ true = subst (λ (n : ℕ). get_or (set seen x true) n false ≡ true) e (get_or-set_same seen x true false inside) in
-          let right : list_any (λ y. y == k) (take (i + 1) xs) ≡ true = list_any_more (λ y. y == k) xs i 0 lt ∙ or_right (list_any (λ y. y == k) (take i xs)) (get_or xs i 0 == k) (ap (λ n. n == k) at ∙ same) in
+          let left : get_or (set seen x true) k false ≡ true = subst (λ (n : ℕ). get_or (set seen x true) n false ≡ true) e
+          (get_or-set_same seen x true false inside) in
+          let right : list_any (λ y. y == k) (take (i + 1) xs) ≡ true = list_any_more (λ y. y == k) xs i 0 lt
+          ∙ or_right (list_any (λ y. y == k) (take i xs)) (get_or xs i 0 == k) (ap (λ n. n == k) at ∙ same) in
           left ∙ sym right
       | inr other ↦
           let ne : k ≢ x = λ e. eqb-false x k other (sym e) in
           let room : k < length seen = omega (arith, below, length-set seen x true) in
           let right : list_any (λ y. y == k) (take (i + 1) xs) ≡ list_any (λ y. y == k) (take i xs) =
-          list_any_more (λ y. y == k) xs i 0 lt ∙ ap (λ b. list_any (λ y. y == k) (take i xs) || b) (ap (λ n. n == k) at ∙ other) ∙ or_false (list_any (λ y. y == k) (take i xs)) in
+          list_any_more (λ y. y == k) xs i 0 lt ∙ ap (λ b. list_any (λ y. y == k) (take i xs) || b) (ap (λ n. n == k) at ∙ other)
+          ∙ or_false (list_any (λ y. y == k) (take i xs)) in
           get_or-set_other seen x k true false ne ∙ marks k room ∙ sym right
     ]
 

@@ -37,7 +37,15 @@ cover_of nodes i d = do
   least ← ok_or (number_at 32 (codes "least") d) (BadValue (AtCover i Least))
   most ← ok_or (number_at 32 (codes "most") d) (BadValue (AtCover i Most))
   allowed ← each_ok (allowed_at i) 0 (elements_at (codes "allowed") d)
-  Ok (record { node = node_place nodes node; selector = selector; ssn = ssn; prefix = prefix; least = least; most = most; allowed = allowed })
+  Ok (record {
+    node = node_place nodes node;
+    selector = selector;
+    ssn = ssn;
+    prefix = prefix;
+    least = least;
+    most = most;
+    allowed = allowed;
+  })
 
 -- all covers in their order
 abbrev pub covers_of : List Data → List Data → Result (List Cover) PlanFault

@@ -1,7 +1,8 @@
 -- Which fault of a plan text says that memory ran out.
 use Rattle.std.specs.Prelude.{Bool, true, false}
 use Rattle.plan_model.specs.declared.plan_fault.PlanFault.{PlanFault}
-use Rattle.plan_model.specs.declared.plan_fault.PlanFault.TheVariants.{NotToml, WrongShape, BadValue, Repeated, UnknownNode, RelayToSelf, Rule, NoCover, Limit, BadCover, OutOfMemory}
+use Rattle.plan_model.specs.declared.plan_fault.PlanFault.TheVariants.{NotToml, WrongShape, BadValue, Repeated, UnknownNode, RelayToSelf}
+use Rattle.plan_model.specs.declared.plan_fault.PlanFault.TheVariants.{Rule, NoCover, Limit, BadCover, OutOfMemory}
 
 abbrev pub is_memory : PlanFault → Bool
 is_memory OutOfMemory = true

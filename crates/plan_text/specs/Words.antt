@@ -16,4 +16,5 @@ digits_up_to most text = option_and_then (λ digits. if nat_le (length digits) m
 -- a point code, a slash (47) and a subsystem number
 unfoldable pub place_of : List ℕ → Option (ℕ × ℕ)
 place_of text =
-    option_and_then (λ parts. option_and_then (λ pc. option_map (λ ssn. (pc, ssn)) (byte_of parts.1)) (point_code_of parts.0)) (cut_at 47 text)
+    option_and_then (λ parts. option_and_then (λ pc. option_map (λ ssn. (pc, ssn)) (byte_of parts.1)) (point_code_of parts.0))
+    (cut_at 47 text)

@@ -32,7 +32,8 @@ pub nothing_held : (old : Bool) → old ≡ (old || false)
 nothing_held old = sym (or_none old)
 
 -- one more mark is prohibited
-pub held_more : (marks : List Mark) (i : ℕ) (x m : Mark) (old : Bool) → i < length marks → x ≡ get_or marks i x → (same_mark x m || (old || holds (take i marks) m)) ≡ (old || holds (take (i + 1) marks) m)
+pub held_more : (marks : List Mark) (i : ℕ) (x m : Mark) (old : Bool) → i < length marks → x ≡ get_or marks i x
+    → (same_mark x m || (old || holds (take i marks) m)) ≡ (old || holds (take (i + 1) marks) m)
 held_more marks i x m old lt at =
     or_turn (same_mark x m) old (holds (take i marks) m)
     ∙ ap (λ (b : Bool). old || b) (sym (list_any-append (λ held. same_mark held m) (take i marks) (x ∷ [])))
@@ -51,7 +52,8 @@ pub own_marks : (xs : List Mark) → pointwise same_mark xs xs ≡ true
 own_marks xs = (lists_equiv same_mark_equiv).refl xs
 
 -- two blocked steps are the same if their causes and marks are
-pub same_blocked : (cause code : ℕ) (xs ys : List Mark) (x y : Step) (found : Bool) → x ≡ Blocked cause xs → y ≡ Blocked code ys → cause ≡ code → found ≡ pointwise same_mark xs ys → IsTrue found ↔ (x ≡ y)
+pub same_blocked : (cause code : ℕ) (xs ys : List Mark) (x y : Step) (found : Bool) → x ≡ Blocked cause xs → y ≡ Blocked code ys
+    → cause ≡ code → found ≡ pointwise same_mark xs ys → IsTrue found ↔ (x ≡ y)
 same_blocked cause code xs ys x y found ex ey same told = (
   λ t. ex ∙ ((λ i. Blocked (same i) (same_marks xs ys (sym told ∙ t) i)) ∙ sym ey),
   λ e.

@@ -25,7 +25,8 @@ pub record IsSafeFor (plan : Network) (bound : ℕ) : Type 0 where
 -- plan has the bad route that is shown. A plan that is too wide reaches at least 262,144 classes of titles.
 abbrev pub IsLawful : Network → Verdict → Type 0
 IsLawful plan (Accepted accepted) =
-    IsSafeFor plan accepted.bound × Tight plan accepted.bound accepted.longest.spot accepted.longest.markings × IsInRange plan accepted.longest.spot accepted.longest.markings
+    IsSafeFor plan accepted.bound × Tight plan accepted.bound accepted.longest.spot accepted.longest.markings
+    × IsInRange plan accepted.longest.spot accepted.longest.markings
 IsLawful plan (Refused same witness) = IsWitness plan witness
 IsLawful plan (TooWide same) = ReachesAtLeast plan most_classes
 

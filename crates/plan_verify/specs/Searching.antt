@@ -65,10 +65,12 @@ IsLed plan c depth place ranks Wide = ReachesAtLeast plan most_classes
 
 -- the start of this cover has this rank
 abbrev pub HasStart : Network → List (Titles × ℕ) → Greatest → Type 0
-HasStart plan ranks greatest = IsSomeAnd (slice_get plan.covers greatest.cover) (λ cover. rank_in ranks (start_of greatest.cover cover) ≡ Some greatest.rank)
+HasStart plan ranks greatest = IsSomeAnd (slice_get plan.covers greatest.cover) (λ cover. rank_in ranks (start_of greatest.cover cover)
+    ≡ Some greatest.rank)
 
 -- what is found of all starts: ranks, of which this one is the greatest, a bad route from a cover's start, or too many classes
 abbrev pub IsOutcome : Network → List (Titles × ℕ) → Outcome → Type 0
 IsOutcome plan ranks (Ranked greatest) = StartsBelow plan (rank_in ranks) greatest.rank × HasStart plan ranks greatest
-IsOutcome plan ranks (Refuted number trace) = IsSomeAnd (slice_get plan.covers number) (λ cover. IsTrace plan (start_of number cover) 0 trace)
+IsOutcome plan ranks (Refuted number trace) = IsSomeAnd (slice_get plan.covers number)
+    (λ cover. IsTrace plan (start_of number cover) 0 trace)
 IsOutcome plan ranks TooMany = ReachesAtLeast plan most_classes

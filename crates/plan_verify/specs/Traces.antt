@@ -24,4 +24,5 @@ pub record IsWay (plan : Network) (c : Titles) (hops : ℕ) (t : Trace) : Type 0
 pub record GoesBefore (plan : Network) (c : Titles) (place : ℕ) (behind t : Trace) : Type 0 where
   pub member : IsMember c t.digits
   pub more : length t.markings ≡ length behind.markings + 1
-  pub follows : (next : Titles) → HasImage plan c place (Next next) → (hop : Hop) × (route plan (spot_of c t.digits) t.markings ≡ hop ∷ route plan (spot_of next behind.digits) behind.markings)
+  pub follows : (next : Titles) → HasImage plan c place (Next next)
+      → (hop : Hop) × (route plan (spot_of c t.digits) t.markings ≡ hop ∷ route plan (spot_of next behind.digits) behind.markings)

@@ -25,23 +25,31 @@ use Rattle.relay_net.specs.Riding.{GoesOn, Rests}
 use Rattle.relay_net.proofs.Turns.{relayed_turn, last_turn}
 
 -- what becomes of octets is what becomes of the message that they are
-of_octets : (plan : Network) (node : ℕ) (marking : List Mark) (origin : ℕ) (m : Message) → ReadsAgain m → arrival plan node marking origin (message_octets m) ≡ by_called plan node marking origin m (called_of m)
+of_octets : (plan : Network) (node : ℕ) (marking : List Mark) (origin : ℕ) (m : Message) → ReadsAgain m
+    → arrival plan node marking origin (message_octets m) ≡ by_called plan node marking origin m (called_of m)
 of_octets plan node marking origin m again = ap (of_message plan node marking origin) (reads_again m again.message again.sound)
 
-pub arrived : {E : Type 0} (r : Result Arrival E) (plan : Network) (node : ℕ) (marking held : List Mark) (origin : ℕ) (m : Message) → ReadsAgain m → marking ≡ held →
-    IfOk r (λ a. a ≡ by_called plan node marking origin m (called_of m)) → IfOk r (λ a. a ≡ arrival plan node held origin (message_octets m))
+pub arrived : {E : Type 0} (r : Result Arrival E) (plan : Network) (node : ℕ) (marking held : List Mark) (origin : ℕ) (m : Message)
+    → ReadsAgain m → marking ≡ held →
+    IfOk r (λ a. a ≡ by_called plan node marking origin m (called_of m))
+    → IfOk r (λ a. a ≡ arrival plan node held origin (message_octets m))
 arrived r plan node marking held origin m again e h =
-    subst (λ (y : Arrival). IfOk r (λ a. a ≡ y)) (sym (of_octets plan node marking origin m again) ∙ ap (λ (x : List Mark). arrival plan node x origin (message_octets m)) e) h
+    subst (λ (y : Arrival). IfOk r (λ a. a ≡ y)) (sym (of_octets plan node marking origin m again)
+    ∙ ap (λ (x : List Mark). arrival plan node x origin (message_octets m)) e) h
 
-pub passed_at : {E : Type 0} (r : Result Passed E) (plan : Network) (node : ℕ) (marking held : List Mark) (m new : Message) → marking ≡ held →
+pub passed_at : {E : Type 0} (r : Result Passed E) (plan : Network) (node : ℕ) (marking held : List Mark) (m new : Message)
+    → marking ≡ held →
     IfOk r (IsPassed plan node marking (λ origin. by_called plan node marking origin m (called_of m)) (sent_on plan node marking m) m new) →
     IfOk r (IsPassed plan node held (λ origin. by_called plan node held origin m (called_of m)) (sent_on plan node held m) m new)
 passed_at r plan node marking held m new e h =
-    subst (λ (x : List Mark). IfOk r (IsPassed plan node x (λ origin. by_called plan node x origin m (called_of m)) (sent_on plan node x m) m new)) e h
+    subst (λ (x : List Mark). IfOk r (IsPassed plan node x (λ origin. by_called plan node x origin m (called_of m))
+    (sent_on plan node x m) m new)) e h
 
 -- a message that is passed on, or stays, reads again
-pub passed_again : {E : Type 0} (r : Result Passed E) (plan : Network) (node : ℕ) (marking : List Mark) (m new : Message) → IsPlan plan → ReadsAgain m →
-    IfOk r (IsPassed plan node marking (λ origin. by_called plan node marking origin m (called_of m)) (sent_on plan node marking m) m new) → IfOk r (λ p. ReadsAgain new)
+pub passed_again : {E : Type 0} (r : Result Passed E) (plan : Network) (node : ℕ) (marking : List Mark) (m new : Message) → IsPlan plan
+    → ReadsAgain m →
+    IfOk r (IsPassed plan node marking (λ origin. by_called plan node marking origin m (called_of m)) (sent_on plan node marking m) m new)
+    → IfOk r (λ p. ReadsAgain new)
 passed_again (Err e) plan node marking m new is again h = tt
 passed_again (Ok (passes.On next)) plan node marking m new is again h = sent_reads plan node marking m new is again h.2
 passed_again (Ok (passes.Stays hop)) plan node marking m new is again h = subst ReadsAgain (sym h.0) again
@@ -51,42 +59,54 @@ passed_again (Ok (passes.Stays hop)) plan node marking m new is again h = subst 
 -- what `pass` says of a message at a node
 abbrev Passing : Network → List (List Mark) → ℕ → Message → Message → Passed → Type 0
 Passing plan states node m new =
-    IsPassed plan node (held_at states node) (λ origin. by_called plan node (held_at states node) origin m (called_of m)) (sent_on plan node (held_at states node) m) m new
+    IsPassed plan node (held_at states node) (λ origin. by_called plan node (held_at states node) origin m (called_of m))
+    (sent_on plan node (held_at states node) m) m new
 
 -- the next node is one of the plan
-pub next_within : (plan : Network) (states : List (List Mark)) (node : ℕ) (m new : Message) (p : Passed) (next : ℕ) → Passing plan states node m new p → p ≡ passes.On next → next < length plan.nodes
+pub next_within : (plan : Network) (states : List (List Mark)) (node : ℕ) (m new : Message) (p : Passed) (next : ℕ)
+    → Passing plan states node m new p → p ≡ passes.On next → next < length plan.nodes
 next_within plan states node m new p next h is = (subst (Passing plan states node m new) is h).0
 
-on_turn : (plan : Network) (states : List (List Mark)) (left node origin : ℕ) (m new : Message) (next from : ℕ) → IsPlan plan → 0 < left → ReadsAgain m → Passing plan states node m new (passes.On next) → from ≡ point_of plan node →
+on_turn : (plan : Network) (states : List (List Mark)) (left node origin : ℕ) (m new : Message) (next from : ℕ) → IsPlan plan → 0 < left
+    → ReadsAgain m → Passing plan states node m new (passes.On next) → from ≡ point_of plan node →
     travel plan states left node origin (message_octets m) ≡ after node (travel plan states (left - 1) next from (message_octets new))
 on_turn plan states left node origin m new next from is lt again h f =
-    relayed_turn plan states left node origin (message_octets m) (arrival plan node (held_at states node) origin (message_octets m)) (point_of plan next) (message_octets new) next from (message_octets new) lt refl
+    relayed_turn plan states left node origin (message_octets m) (arrival plan node (held_at states node) origin (message_octets m))
+    (point_of plan next) (message_octets new) next from (message_octets new) lt refl
     (of_octets plan node (held_at states node) origin m again ∙ h.1 origin) (sym (node_again plan next is h.0)) f refl
 
-longer : (old pushed new : List ℕ) (before t rest : Trip) (node : ℕ) → pushed ≡ old ++ node ∷ [] → before ≡ after node t → GoesOn pushed t new rest → GoesOn old before new rest
+longer : (old pushed new : List ℕ) (before t rest : Trip) (node : ℕ) → pushed ≡ old ++ node ∷ [] → before ≡ after node t
+    → GoesOn pushed t new rest → GoesOn old before new rest
 longer old pushed new before t rest node a e h = record {
   last = ap (λ (x : Trip). x.last) e ∙ h.last;
-  nodes = ap (λ (x : Trip). old ++ x.path) e ∙ (sym (append_assoc old (node ∷ []) t.path) ∙ (ap (λ (xs : List ℕ). xs ++ t.path) (sym a) ∙ h.nodes));
+  nodes = ap (λ (x : Trip). old ++ x.path) e ∙ (sym (append_assoc old (node ∷ []) t.path)
+      ∙ (ap (λ (xs : List ℕ). xs ++ t.path) (sym a) ∙ h.nodes));
 }
 
 -- if it is passed on
-pub rides : {E : Type 0} (r : Result Rest E) (plan : Network) (states : List (List Mark)) (left node origin : ℕ) (m new final : Message) (p : Passed) (next from : ℕ) (old pushed path : List ℕ) → IsPlan plan → 0 < left → ReadsAgain m →
+pub rides : {E : Type 0} (r : Result Rest E) (plan : Network) (states : List (List Mark)) (left node origin : ℕ) (m new final : Message)
+    (p : Passed) (next from : ℕ) (old pushed path : List ℕ) → IsPlan plan → 0 < left → ReadsAgain m →
     Passing plan states node m new p → p ≡ passes.On next → from ≡ point_of plan node → pushed ≡ old ++ node ∷ [] →
-    IfOk r (λ rest. GoesOn pushed (travel plan states (left - 1) next from (message_octets new)) path (travel plan states rest.left rest.node rest.origin (message_octets final))) →
-    IfOk r (λ rest. GoesOn old (travel plan states left node origin (message_octets m)) path (travel plan states rest.left rest.node rest.origin (message_octets final)))
+    IfOk r (λ rest. GoesOn pushed (travel plan states (left - 1) next from (message_octets new)) path
+    (travel plan states rest.left rest.node rest.origin (message_octets final))) →
+    IfOk r (λ rest. GoesOn old (travel plan states left node origin (message_octets m)) path
+    (travel plan states rest.left rest.node rest.origin (message_octets final)))
 rides (Err e) plan states left node origin m new final p next from old pushed path is_plan lt again h is f a goes = tt
 rides (Ok rest) plan states left node origin m new final p next from old pushed path is_plan lt again h is f a goes =
-    longer old pushed path _ _ _ node a (on_turn plan states left node origin m new next from is_plan lt again (subst (Passing plan states node m new) is h) f) goes
+    longer old pushed path _ _ _ node a (on_turn plan states left node origin m new next from is_plan lt again
+    (subst (Passing plan states node m new) is h) f) goes
 
 -- if it stays
-pub halts : (plan : Network) (states : List (List Mark)) (left node origin : ℕ) (m new : Message) (p : Passed) (hop : Option Hop) (path : List ℕ) → Passing plan states node m new p → p ≡ passes.Stays hop →
+pub halts : (plan : Network) (states : List (List Mark)) (left node origin : ℕ) (m new : Message) (p : Passed) (hop : Option Hop)
+    (path : List ℕ) → Passing plan states node m new p → p ≡ passes.Stays hop →
     GoesOn path (travel plan states left node origin (message_octets m)) path (travel plan states left node origin (message_octets new))
 halts plan states left node origin m new p hop path h is =
     let same : new ≡ m = (subst (Passing plan states node m new) is h).0.0 in
     let e = ap (λ (x : Message). travel plan states left node origin (message_octets x)) (sym same) in
     record { last = ap (λ (x : Trip). x.last) e; nodes = ap (λ (x : Trip). path ++ x.path) e }
 
-pub rests : (plan : Network) (states : List (List Mark)) (node : ℕ) (m new : Message) (p : Passed) (hop : Option Hop) → Passing plan states node m new p → p ≡ passes.Stays hop → Rests plan node (held_at states node) new hop
+pub rests : (plan : Network) (states : List (List Mark)) (node : ℕ) (m new : Message) (p : Passed) (hop : Option Hop)
+    → Passing plan states node m new p → p ≡ passes.Stays hop → Rests plan node (held_at states node) new hop
 rests plan states node m new p hop h is =
     let k = subst (Passing plan states node m new) is h in
     subst (λ (x : Message). Rests plan node (held_at states node) x hop) (sym k.0.0) (record { unrelayed = k.0.1; hop = k.1 })
@@ -97,29 +117,38 @@ rests plan states node m new p hop h is =
 apart : (x : Arrival) (pc : ℕ) (octets : List ℕ) → is_relayed x ≡ false → x ≡ Relayed pc octets → ⊥
 apart x pc octets e is = false≢true (sym e ∙ ap is_relayed is)
 
-pub unrelayed : {E : Type 0} (r : Result Arrival E) (plan : Network) (node : ℕ) (marking : List Mark) (origin : ℕ) (m : Message) → ((from : ℕ) → is_relayed (by_called plan node marking from m (called_of m)) ≡ false) →
+pub unrelayed : {E : Type 0} (r : Result Arrival E) (plan : Network) (node : ℕ) (marking : List Mark) (origin : ℕ) (m : Message)
+    → ((from : ℕ) → is_relayed (by_called plan node marking from m (called_of m)) ≡ false) →
     IfOk r (λ a. a ≡ by_called plan node marking origin m (called_of m)) → IfOk r (λ a. is_relayed a ≡ false)
 unrelayed (Err e) plan node marking origin m never h = tt
 unrelayed (Ok a) plan node marking origin m never h = ap is_relayed h ∙ never origin
 
-pub ended_last : {E : Type 0} (r : Result Arrival E) (plan : Network) (states : List (List Mark)) (left node origin : ℕ) (b : List ℕ) → 0 < left → IfOk r (λ a. a ≡ arrival plan node (held_at states node) origin b) → IfOk r (λ a. is_relayed a ≡ false) →
+pub ended_last : {E : Type 0} (r : Result Arrival E) (plan : Network) (states : List (List Mark)) (left node origin : ℕ) (b : List ℕ)
+    → 0 < left → IfOk r (λ a. a ≡ arrival plan node (held_at states node) origin b) → IfOk r (λ a. is_relayed a ≡ false) →
     IfOk r (λ a. travel plan states left node origin b ≡ trip (node ∷ []) (Some a))
 ended_last (Err e) plan states left node origin b lt h never = tt
-ended_last (Ok a) plan states left node origin b lt h never = last_turn plan states left node origin b a lt h (λ pc octets is. apart a pc octets never is)
+ended_last (Ok a) plan states left node origin b lt h never = last_turn plan states left node origin b a lt h
+    (λ pc octets is. apart a pc octets never is)
 
 -- ---- the first arrival
 
 -- trips of octets that read alike are the same
-same_trip : (plan : Network) (states : List (List Mark)) (left node origin : ℕ) (a b : List ℕ) → reading a ≡ reading b → travel plan states left node origin a ≡ travel plan states left node origin b
+same_trip : (plan : Network) (states : List (List Mark)) (left node origin : ℕ) (a b : List ℕ) → reading a ≡ reading b
+    → travel plan states left node origin a ≡ travel plan states left node origin b
 same_trip plan states zero node origin a b e = refl
-same_trip plan states (suc left) node origin a b e = ap (λ r. onward plan node (of_message plan node (held_at states node) origin r) (λ next from octets. travel plan states left next from octets)) e
+same_trip plan states (suc left) node origin a b e = ap (λ r. onward plan node (of_message plan node (held_at states node) origin r)
+    (λ next from octets. travel plan states left next from octets)) e
 
-pub read_trip : (plan : Network) (states : List (List Mark)) (left entry origin : ℕ) (b : List ℕ) (m : Message) → ReadsAgain m → reading b ≡ Ok m → left ≡ most_arrivals (Ok m) → travel plan states left entry origin (message_octets m) ≡ trip_of plan states entry origin b
+pub read_trip : (plan : Network) (states : List (List Mark)) (left entry origin : ℕ) (b : List ℕ) (m : Message) → ReadsAgain m
+    → reading b ≡ Ok m → left ≡ most_arrivals (Ok m) → travel plan states left entry origin (message_octets m)
+    ≡ trip_of plan states entry origin b
 read_trip plan states left entry origin b m again reads count =
     same_trip plan states left entry origin (message_octets m) b (reads_again m again.message again.sound ∙ sym reads)
     ∙ ap (λ n. travel plan states n entry origin b) (count ∙ ap most_arrivals (sym reads))
 
-pub unread_trip : (plan : Network) (states : List (List Mark)) (entry origin : ℕ) (b : List ℕ) (f : DecodeFault) → reading b ≡ Err f → trip_of plan states entry origin b ≡ trip (entry ∷ []) (Some (arrivals.Undecodable f))
+pub unread_trip : (plan : Network) (states : List (List Mark)) (entry origin : ℕ) (b : List ℕ) (f : DecodeFault) → reading b ≡ Err f
+    → trip_of plan states entry origin b ≡ trip (entry ∷ []) (Some (arrivals.Undecodable f))
 unread_trip plan states entry origin b f reads =
     ap (λ r. travel plan states (most_arrivals r) entry origin b) reads
-    ∙ ap (λ r. onward plan entry (of_message plan entry (held_at states entry) origin r) (λ next from octets. travel plan states 13 next from octets)) reads
+    ∙ ap (λ r. onward plan entry (of_message plan entry (held_at states entry) origin r)
+    (λ next from octets. travel plan states 13 next from octets)) reads

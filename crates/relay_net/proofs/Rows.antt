@@ -14,7 +14,8 @@ use Rattle.relay_net.specs.States.{State, happened, applied}
 use Rattle.relay_net.specs.Batches.{due, due_after, incoming}
 
 -- what happens at one node leaves the others, and at a place that no node has nothing happens
-at_the_second : (plan : Network) (a b c : State) (what : Happening) → (applied plan (a ∷ b ∷ c ∷ []) 1 what).states ≡ a ∷ (happened plan 1 b what).state ∷ c ∷ []
+at_the_second : (plan : Network) (a b c : State) (what : Happening)
+    → (applied plan (a ∷ b ∷ c ∷ []) 1 what).states ≡ a ∷ (happened plan 1 b what).state ∷ c ∷ []
 at_the_second plan a b c what = refl
 
 at_none : (plan : Network) (a b : State) (what : Happening) → (applied plan (a ∷ b ∷ []) 2 what).states ≡ a ∷ b ∷ []

@@ -37,7 +37,8 @@ few_tests own marking (marks.Subsystem pc ssn) = chosen (pc == own)
     chosen false = few_reached marking pc (status kinds.Test ssn pc)
 
 few_told : (m : Management) (kind : StatusKind) (ssn : ℕ) → length (told m kind ssn) ≤ length m.concerned
-few_told m kind ssn = few (λ point. sent_if_reached m.marking point (status kind ssn m.own)) (λ point. few_reached m.marking point (status kind ssn m.own)) m.concerned
+few_told m kind ssn = few (λ point. sent_if_reached m.marking point (status kind ssn m.own))
+    (λ point. few_reached m.marking point (status kind ssn m.own)) m.concerned
 
 -- one at most about each mark, and one at most to each concerned point
 pub few_at_tick : (m : Management) → length (row m events.Tick).sends ≤ length m.marking
@@ -46,13 +47,15 @@ few_at_tick m = few (test_of m.own m.marking) (few_tests m.own m.marking) m.mark
 pub few_at_up : (m : Management) (ssn : ℕ) → length (row m (events.Up ssn)).sends ≤ length m.concerned
 few_at_up m ssn = chosen (is_own m ssn && is_down m ssn)
   where
-    chosen : (b : Bool) → length (if b then row_of [] (same_mark (marks.Subsystem m.own ssn)) (told m kinds.Allowed ssn) else as_before).sends ≤ length m.concerned
+    chosen : (b : Bool) → length (if b then row_of [] (same_mark (marks.Subsystem m.own ssn)) (told m kinds.Allowed ssn)
+        else as_before).sends ≤ length m.concerned
     chosen true = few_told m kinds.Allowed ssn
     chosen false = omega arith
 
 pub few_at_down : (m : Management) (ssn : ℕ) → length (row m (events.Down ssn)).sends ≤ length m.concerned
 few_at_down m ssn = chosen (is_own m ssn && not (is_down m ssn))
   where
-    chosen : (b : Bool) → length (if b then row_of (marks.Subsystem m.own ssn ∷ []) no_mark (told m kinds.Prohibited ssn) else as_before).sends ≤ length m.concerned
+    chosen : (b : Bool) → length (if b then row_of (marks.Subsystem m.own ssn ∷ []) no_mark (told m kinds.Prohibited ssn)
+        else as_before).sends ≤ length m.concerned
     chosen true = few_told m kinds.Prohibited ssn
     chosen false = omega arith

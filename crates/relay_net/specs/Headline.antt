@@ -56,7 +56,8 @@ IsGoodEnd plan allowed m z marking (Undecodable fault) = ⊥
 IsGoodEnd plan allowed m z marking Cut = ⊥
 
 -- the path has at most `bound` nodes, and follows the title's way to an end that is good
-pub record GoesWell (plan : Network) (states : List (List Mark)) (bound : ℕ) (m : Message) (s : Spot) (path : List ℕ) (end : End) : Type 0 where
+pub record GoesWell (plan : Network) (states : List (List Mark)) (bound : ℕ) (m : Message) (s : Spot) (path : List ℕ)
+    (end : End) : Type 0 where
   pub few : length path ≤ bound
   pub stop : Spot
   pub way : Follows plan states s path stop

@@ -1,5 +1,6 @@
 -- The journey of a message from relay to relay.
-use Rattle.std.specs.Prelude.{ℕ, zero, suc, List, [], ◌∷◌, Option, Some, None, is_some, if◌then◌else◌, unwrap_or, slice_get, Result, Ok, Err, option_map}
+use Rattle.std.specs.Prelude.{ℕ, zero, suc, List, [], ◌∷◌, Option, Some, None, is_some, if◌then◌else◌, unwrap_or, slice_get, Result, Ok}
+use Rattle.std.specs.Prelude.{Err, option_map}
 use Rattle.sccp_base.specs.declared.mark.Mark.{Mark}
 use Rattle.sccp_message.specs.declared.message.Message.{Message}
 use Rattle.sccp_message.specs.declared.fault.DecodeFault.{DecodeFault}
@@ -93,7 +94,12 @@ back_of plan states node service = option_map (λ s. back_by plan states node s.
 
 -- the journey of a trip, with the way back of its service message
 abbrev pub journey_of : Network → List (List Mark) → Trip → Journey
-journey_of plan states t = record { path = t.path; end = end_of t.last; back = back_of plan states (last_node 0 t.path) (service_in t.last) }
+journey_of plan states t = record {
+  path = t.path;
+  end = end_of t.last;
+  back = back_of plan states (last_node 0 t.path)
+      (service_in t.last);
+}
 
 -- the journey of octets that arrive from an origin at the entry node
 abbrev pub journey : Network → List (List Mark) → ℕ → ℕ → List ℕ → Journey

@@ -34,7 +34,13 @@ pub record State : Type 0 where
 -- at the start nothing is prohibited, connected or under way
 abbrev pub first_state : ℕ → Node → State
 first_state place node =
-    record { node = place; manager = record { own = node.pc; subsystems = node.subsystems; concerned = node.concerned; marking = [] }; sections = []; runs = [] }
+    record {
+      node = place;
+      manager = record
+          { own = node.pc; subsystems = node.subsystems; concerned = node.concerned; marking = [] };
+      sections = [];
+      runs = [];
+    }
 
 abbrev pub first_states_from : ℕ → List Node → List State
 first_states_from place [] = []
@@ -69,7 +75,11 @@ pub record Happened : Type 0 where
 
 -- only management changes, by the row of the event
 abbrev pub after_managed : State → Event → Happened
-after_managed s event = record { state = record s { manager = managed s.manager event }; outcomes = map outcomes.Sent (row s.manager event).sends }
+after_managed s event = record {
+  state = record s { manager = managed s.manager event };
+  outcomes = map outcomes.Sent
+      (row s.manager event).sends;
+}
 
 -- only the sections change
 abbrev pub after_coupled : State → coupling.Outcome → Happened
@@ -91,7 +101,8 @@ after_delivered s (Some a) = after_pooled s (pooling.took s.runs a.key a.segment
 -- what happens at a node at a place of the plan
 abbrev pub happened : Network → ℕ → State → Happening → Happened
 happened plan node s (happenings.Managed event) = after_managed s event
-happened plan node s (happenings.Connected origin message) = after_coupled s (coupled s.sections (event_of plan node (marking_of s) origin message))
+happened plan node s (happenings.Connected origin message) =
+    after_coupled s (coupled s.sections (event_of plan node (marking_of s) origin message))
 happened plan node s (happenings.Delivered message) = after_delivered s (arrival_of message)
 
 -- ---- all nodes afterwards

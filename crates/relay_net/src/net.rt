@@ -98,7 +98,8 @@ impl Net {
         requires nodes { length plan.now.nodes ≡ length self.old }
         requires due { CanBeDone (length self.old) (due_after (incoming entry origin octets.now) journey.now.path journey.now.end) }
         ensures states { OnOk result (self.new ≡ (applied_after plan.now self.old (incoming entry origin octets.now) journey.now).states) }
-        ensures outcomes { IfOk result (λ outcomes. outcomes ≡ (applied_after plan.now self.old (incoming entry origin octets.now) journey.now).outcomes) }
+        ensures outcomes { IfOk result (λ outcomes. outcomes
+            ≡ (applied_after plan.now self.old (incoming entry origin octets.now) journey.now).outcomes) }
         ensures err { OnErr result (self.new ≡ self.old) }
     {
         match &journey.end {
@@ -115,8 +116,10 @@ impl Net {
     fn deliver(&mut self, node: u8, message: &Message) -> Result<List<Outcome>, OutOfMemory>
         requires node { node < length self.old }
         requires message { Sound message.now }
-        ensures states { (plan : Network) → OnOk result (self.new ≡ (applied plan self.old node (happenings.Delivered message.now)).states) }
-        ensures outcomes { (plan : Network) → IfOk result (λ outcomes. outcomes ≡ (applied plan self.old node (happenings.Delivered message.now)).outcomes) }
+        ensures states { (plan : Network)
+            → OnOk result (self.new ≡ (applied plan self.old node (happenings.Delivered message.now)).states) }
+        ensures outcomes { (plan : Network)
+            → IfOk result (λ outcomes. outcomes ≡ (applied plan self.old node (happenings.Delivered message.now)).outcomes) }
         ensures err { OnErr result (self.new ≡ self.old) }
     {
         let alloc = self.alloc;
@@ -132,9 +135,14 @@ impl Net {
         octets: &[u8],
     ) -> Result<List<Outcome>, OutOfMemory>
         requires nodes { length plan.now.nodes ≡ length self.old }
-        requires due { CanBeDone (length self.old) (option_map (λ ssn. due entry (happenings.Managed (Knock origin ssn))) (ssn_in (reading octets.now))) }
-        ensures states { OnOk result (self.new ≡ (applied_if_due plan.now self.old (option_map (λ ssn. due entry (happenings.Managed (Knock origin ssn))) (ssn_in (reading octets.now)))).states) }
-        ensures outcomes { IfOk result (λ outcomes. outcomes ≡ (applied_if_due plan.now self.old (option_map (λ ssn. due entry (happenings.Managed (Knock origin ssn))) (ssn_in (reading octets.now)))).outcomes) }
+        requires due { CanBeDone (length self.old) (option_map (λ ssn. due entry (happenings.Managed (Knock origin ssn)))
+            (ssn_in (reading octets.now))) }
+        ensures states { OnOk result
+            (self.new ≡ (applied_if_due plan.now self.old (option_map (λ ssn. due entry (happenings.Managed (Knock origin ssn)))
+            (ssn_in (reading octets.now)))).states) }
+        ensures outcomes { IfOk result (λ outcomes. outcomes
+            ≡ (applied_if_due plan.now self.old (option_map (λ ssn. due entry (happenings.Managed (Knock origin ssn)))
+            (ssn_in (reading octets.now)))).outcomes) }
         ensures err { OnErr result (self.new ≡ self.old) }
     {
         match ssn_in(self.alloc, octets)? {

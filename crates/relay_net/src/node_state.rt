@@ -7,7 +7,8 @@ ghost use Rattle.sccp_segment.specs.Segments.{arrival_of};
 ghost use Rattle.sccp_couple.specs.Coupling.{coupled};
 ghost use Rattle.sccp_couple.specs.Sending.{HasShortParts};
 ghost use Rattle.sccp_couple.specs.Ways.{event_of};
-ghost use Rattle.relay_net.specs.States.{CanHappen, after_coupled, after_delivered, after_managed, after_pooled, first_state, happened, marking_of};
+ghost use Rattle.relay_net.specs.States.{CanHappen, after_coupled, after_delivered, after_managed, after_pooled, first_state, happened};
+ghost use Rattle.relay_net.specs.States.{marking_of};
 
 use crate::happening::Happening;
 use crate::holds_marking::HoldsMarking;
@@ -128,8 +129,12 @@ impl NodeState {
     ) -> Result<List<Outcome>, OutOfMemory>
         requires node { self.old.node < length plan.now.nodes }
         requires short { HasShortParts message.now }
-        ensures state { OnOk result (self.new ≡ (after_coupled self.old (coupled self.old.sections (event_of plan.now self.old.node (marking_of self.old) origin message.now))).state) }
-        ensures outcomes { IfOk result (λ outcomes. outcomes ≡ (after_coupled self.old (coupled self.old.sections (event_of plan.now self.old.node (marking_of self.old) origin message.now))).outcomes) }
+        ensures state { OnOk result
+            (self.new ≡ (after_coupled self.old (coupled self.old.sections
+            (event_of plan.now self.old.node (marking_of self.old) origin message.now))).state) }
+        ensures outcomes { IfOk result (λ outcomes. outcomes
+            ≡ (after_coupled self.old (coupled self.old.sections
+            (event_of plan.now self.old.node (marking_of self.old) origin message.now))).outcomes) }
         ensures err { OnErr result (self.new ≡ self.old) }
     {
         // At most two messages answer a message.

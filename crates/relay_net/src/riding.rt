@@ -46,7 +46,8 @@ fn pass<S: HoldsMarking>(
     requires states { length states.now ≡ length plan.now.nodes }
     requires again { ReadsAgain message.old }
     ensures value { let held = held_at (map S.held states.now) node in
-        IfOk result (IsPassed plan.now node held (λ origin. by_called plan.now node held origin message.old (called_of message.old)) (sent_on plan.now node held message.old) message.old message.new) }
+        IfOk result (IsPassed plan.now node held (λ origin. by_called plan.now node held origin message.old (called_of message.old))
+        (sent_on plan.now node held message.old) message.old message.new) }
     ensures again { IfOk result (λ passed. ReadsAgain message.new) }
     ensures plan { IsPlan plan.now }
 {
@@ -72,8 +73,10 @@ fn ride<S: HoldsMarking>(
     ensures node { IfOk result (λ rest. rest.node < length plan.now.nodes) }
     ensures again { IfOk result (λ rest. ReadsAgain message.new) }
     ensures goes { let held = map S.held states.now in
-        IfOk result (λ rest. GoesOn path.old (travel plan.now held left node origin (message_octets message.old)) path.new (travel plan.now held rest.left rest.node rest.origin (message_octets message.new))) }
-    ensures rests { IfOk result (λ rest. 0 < rest.left → Rests plan.now rest.node (held_at (map S.held states.now) rest.node) message.new rest.hop) }
+        IfOk result (λ rest. GoesOn path.old (travel plan.now held left node origin (message_octets message.old)) path.new
+        (travel plan.now held rest.left rest.node rest.origin (message_octets message.new))) }
+    ensures rests { IfOk result (λ rest. 0 < rest.left
+        → Rests plan.now rest.node (held_at (map S.held states.now) rest.node) message.new rest.hop) }
 {
     if left == 0 {
         return Ok(Rest {
@@ -110,11 +113,15 @@ fn stop<S: HoldsMarking>(
     requires states { length states.now ≡ length plan.now.nodes }
     requires again { ReadsAgain message }
     requires rests { Rests plan.now rest.node (held_at (map S.held states.now) rest.node) message rest.hop }
-    ensures value { IfOk result (λ a. a ≡ arrival plan.now rest.node (held_at (map S.held states.now) rest.node) rest.origin (message_octets message)) }
+    ensures value { IfOk result (λ a. a ≡ arrival plan.now rest.node (held_at (map S.held states.now) rest.node) rest.origin
+        (message_octets message)) }
     ensures unrelayed { IfOk result (λ a. is_relayed a ≡ false) }
 {
     let Rest {
-        node, origin, hop, ..
+        node,
+        origin,
+        hop,
+        ..
     } = rest;
     let marking = marking_at(states, node);
     match hop {
@@ -136,8 +143,10 @@ fn end_ride<S: HoldsMarking>(
     requires states { length states.now ≡ length plan.now.nodes }
     requires again { ReadsAgain message }
     requires rests { 0 < rest.left → Rests plan.now rest.node (held_at (map S.held states.now) rest.node) message rest.hop }
-    ensures last { IfOk result (λ last. last ≡ (travel plan.now (map S.held states.now) rest.left rest.node rest.origin (message_octets message)).last) }
-    ensures path { IfOk result (λ last. path.new ≡ path.old ++ (travel plan.now (map S.held states.now) rest.left rest.node rest.origin (message_octets message)).path) }
+    ensures last { IfOk result (λ last. last ≡ (travel plan.now (map S.held states.now) rest.left rest.node rest.origin
+        (message_octets message)).last) }
+    ensures path { IfOk result (λ last. path.new ≡ path.old
+        ++ (travel plan.now (map S.held states.now) rest.left rest.node rest.origin (message_octets message)).path) }
 {
     if rest.left == 0 {
         drop(rest);
@@ -172,7 +181,8 @@ pub(crate) fn travel<S: HoldsMarking>(
     requires states { length states.now ≡ length plan.now.nodes }
     requires again { ReadsAgain message }
     ensures last { IfOk result (λ last. last ≡ (travel plan.now (map S.held states.now) left node origin (message_octets message)).last) }
-    ensures path { IfOk result (λ last. path.new ≡ path.old ++ (travel plan.now (map S.held states.now) left node origin (message_octets message)).path) }
+    ensures path { IfOk result (λ last. path.new ≡ path.old
+        ++ (travel plan.now (map S.held states.now) left node origin (message_octets message)).path) }
 {
     let mut ridden = message;
     match ride(alloc, plan, states, left, node, origin, &mut ridden, path) {

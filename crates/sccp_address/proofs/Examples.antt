@@ -24,7 +24,8 @@ unfolding address_of
 odd_without_digits = refl
 
 -- another encoding scheme, and more than 32 digits
-other_scheme : address_of (0x12 ∷ 0x06 ∷ 0x00 ∷ 0x13 ∷ 0x04 ∷ 0x49 ∷ 0x41 ∷ []) ≡ Ok (record { national = false; by_ssn = false; pc = None; ssn = Some 6; title = Raw 4 (0x00 ∷ 0x13 ∷ 0x04 ∷ 0x49 ∷ 0x41 ∷ []) })
+other_scheme : address_of (0x12 ∷ 0x06 ∷ 0x00 ∷ 0x13 ∷ 0x04 ∷ 0x49 ∷ 0x41 ∷ [])
+    ≡ Ok (record { national = false; by_ssn = false; pc = None; ssn = Some 6; title = Raw 4 (0x00 ∷ 0x13 ∷ 0x04 ∷ 0x49 ∷ 0x41 ∷ []) })
 unfolding address_of
 other_scheme = refl
 

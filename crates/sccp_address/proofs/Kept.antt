@@ -1,5 +1,6 @@
 -- The numbers of an address that octets give are in their ranges.
-use Rattle.std.proofs.Common.{◌≡◌, ℕ, zero, suc, ◌-◌, ◌*◌, ◌%◌, ◌<◌, ◌^◌, Bool, false, cond, List, [], ◌∷◌, ◌++◌, length, get_or, take, drop, refl, sym, subst, arith, inl, inr}
+use Rattle.std.proofs.Common.{◌≡◌, ℕ, zero, suc, ◌-◌, ◌*◌, ◌%◌, ◌<◌, ◌^◌, Bool, false, cond, List, [], ◌∷◌, ◌++◌, length, get_or, take}
+use Rattle.std.proofs.Common.{drop, refl, sym, subst, arith, inl, inr}
 use Rattle.std.specs.Prelude.{IfSome, IfOk, Result, Ok, Err}
 use Rattle.std.specs.List.{AllByRecursion}
 use Rattle.std.proofs.lemmas.List.{length-take}
@@ -51,16 +52,25 @@ digits_kept [] (suc n) h = tt
 digits_kept (o ∷ octets) (suc zero) h = (omega arith, tt)
 digits_kept (o ∷ octets) (suc (suc n)) h = let lt = h.0 in (omega arith, (omega arith, digits_kept octets n h.1))
 
-heading_kept : (heading : List ℕ) (s : Numbers) (odd : Bool) → AreOctets heading → IsHeading heading s odd → IsSelector s × (s.kind ≡ 2 → odd ≡ false)
+heading_kept : (heading : List ℕ) (s : Numbers) (odd : Bool) → AreOctets heading → IsHeading heading s odd
+    → IsSelector s × (s.kind ≡ 2 → odd ≡ false)
 heading_kept [] s odd h says = absurd says
-heading_kept (n ∷ []) s odd h (inl w) = subst (λ (x : Numbers). IsSelector x × (x.kind ≡ 2 → odd ≡ false)) (sym w.0) (record { used = inl (refl, refl, refl); translation = omega arith; plan = omega arith; nature = omega arith }, λ e. absurd (omega arith))
-heading_kept (n ∷ []) s odd h (inr w) = subst (λ (x : Numbers). IsSelector x × (x.kind ≡ 2 → odd ≡ false)) (sym w.0) (record { used = inr (inl (refl, refl, refl)); translation = h.0; plan = omega arith; nature = omega arith }, λ e. w.1)
-heading_kept (t ∷ p ∷ []) s odd h w = subst (λ (x : Numbers). IsSelector x × (x.kind ≡ 2 → odd ≡ false)) (sym w.0) (record { used = inr (inr (inl (refl, refl))); translation = h.0; plan = omega arith; nature = omega arith }, λ e. absurd (omega arith))
-heading_kept (t ∷ p ∷ n ∷ []) s odd h w = subst (λ (x : Numbers). IsSelector x × (x.kind ≡ 2 → odd ≡ false)) (sym w.0) (record { used = inr (inr (inr refl)); translation = h.0; plan = omega arith; nature = omega arith }, λ e. absurd (omega arith))
+heading_kept (n ∷ []) s odd h (inl w) = subst (λ (x : Numbers). IsSelector x × (x.kind ≡ 2 → odd ≡ false)) (sym w.0) (
+  record { used = inl (refl, refl, refl); translation = omega arith; plan = omega arith; nature = omega arith },
+  λ e. absurd
+      (omega arith),
+)
+heading_kept (n ∷ []) s odd h (inr w) = subst (λ (x : Numbers). IsSelector x × (x.kind ≡ 2 → odd ≡ false)) (sym w.0)
+    (record { used = inr (inl (refl, refl, refl)); translation = h.0; plan = omega arith; nature = omega arith }, λ e. w.1)
+heading_kept (t ∷ p ∷ []) s odd h w = subst (λ (x : Numbers). IsSelector x × (x.kind ≡ 2 → odd ≡ false)) (sym w.0)
+    (record { used = inr (inr (inl (refl, refl))); translation = h.0; plan = omega arith; nature = omega arith }, λ e. absurd (omega arith))
+heading_kept (t ∷ p ∷ n ∷ []) s odd h w = subst (λ (x : Numbers). IsSelector x × (x.kind ≡ 2 → odd ≡ false)) (sym w.0)
+    (record { used = inr (inr (inr refl)); translation = h.0; plan = omega arith; nature = omega arith }, λ e. absurd (omega arith))
 heading_kept (t ∷ p ∷ n ∷ o ∷ others) s odd h says = absurd says
 
 even_length : (octets : List ℕ) (odd : Bool) → odd ≡ false → length (unpacked octets odd) % 2 ≡ 0
-even_length octets odd e = rw e (let n : length (take (2 * length octets - 0) (halves octets)) ≡ 2 * length octets = omega (arith, length-take (2 * length octets - 0) (halves octets), length-halves octets) in omega arith)
+even_length octets odd e = rw e (let n : length (take (2 * length octets - 0) (halves octets))
+    ≡ 2 * length octets = omega (arith, length-take (2 * length octets - 0) (halves octets), length-halves octets) in omega arith)
 
 title_kept : (kind : ℕ) (octets : List ℕ) (t : Title) → kind < 16 → AreOctets octets → TitleIs kind octets t → IsTitle t
 title_kept kind octets Absent lt h is = tt
@@ -69,7 +79,8 @@ title_kept kind octets (Global s digits) lt h (same, has, few) =
     let kept = heading_kept has.heading s has.odd (octets_front has.heading has.packed whole) has.says in (
       kept.0,
       few,
-      subst (λ (x : List ℕ). AllByRecursion (λ d. d < 16) x) (sym has.are) (digits_kept has.packed (2 * length has.packed - cond has.odd 1 0) (octets_back has.heading has.packed whole)),
+      subst (λ (x : List ℕ). AllByRecursion (λ d. d < 16) x) (sym has.are)
+          (digits_kept has.packed (2 * length has.packed - cond has.odd 1 0) (octets_back has.heading has.packed whole)),
       λ two. rw has.are (even_length has.packed has.odd (kept.1 two)),
     )
 title_kept kind octets (Raw k kept) lt h (same, whole, is) = (rw same lt, rw (same, whole) is)
@@ -88,6 +99,7 @@ pub are_octets : (octets : List ℕ) → ((i : ℕ) → get_or octets i 0 < 256)
 are_octets [] h = tt
 are_octets (o ∷ octets) h = (h 0, are_octets octets (λ i. h (suc i)))
 
-pub answer_kept : (octets : List ℕ) (r : Result Address AddressFault) → AreOctets octets → IfOk r (λ a. AddressIs octets a) → IfOk r (λ a. IsAddress a)
+pub answer_kept : (octets : List ℕ) (r : Result Address AddressFault) → AreOctets octets → IfOk r (λ a. AddressIs octets a)
+    → IfOk r (λ a. IsAddress a)
 answer_kept octets (Ok a) h is = address_kept octets a h is
 answer_kept octets (Err e) h is = tt

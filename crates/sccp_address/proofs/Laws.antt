@@ -1,5 +1,6 @@
 -- What is read as an address is one, and octets that are an address are read as it.
-use Rattle.std.proofs.Common.{◌≡◌, ℕ, ◌≤◌, false, cond, ltb, List, [], ◌∷◌, ◌++◌, length, take, drop, Result, Ok, Err, refl, sym, ap, subst, ◌∙◌, arith}
+use Rattle.std.proofs.Common.{◌≡◌, ℕ, ◌≤◌, false, cond, ltb, List, [], ◌∷◌, ◌++◌, length, take, drop, Result, Ok, Err, refl, sym, ap, subst}
+use Rattle.std.proofs.Common.{◌∙◌, arith}
 use Rattle.std.specs.Prelude.{IfOk}
 use Rattle.std.proofs.lemmas.Bool.{ltb-false, le-ltb}
 use Rattle.std.proofs.lemmas.List.{take_at, drop_at, take-append-drop, length-take, length-append}
@@ -46,7 +47,8 @@ address_takes [] a e = absurd cc
 address_takes (i ∷ octets) a e =
     let w1 : ℕ = cond (bit i 1) 2 0 in
     let w2 : ℕ = cond (bit i 2) 1 0 in
-    let p = bind_ok (field_at w1 octets) (λ pc. field_at w2 pc.1 >>= λ ssn. title_at (bits i 3 6) ssn.1 >>= λ title. Ok (made i pc.0 ssn.0 title)) a e in
+    let p = bind_ok (field_at w1 octets) (λ pc. field_at w2 pc.1 >>= λ ssn. title_at (bits i 3 6) ssn.1 >>= λ title. Ok
+    (made i pc.0 ssn.0 title)) a e in
     let s = bind_ok (field_at w2 p.0.1) (λ ssn. title_at (bits i 3 6) ssn.1 >>= λ title. Ok (made i p.0.0 ssn.0 title)) a p.2 in
     let t = bind_ok (title_at (bits i 3 6) s.0.1) (λ title. Ok (made i p.0.0 s.0.0 title)) a s.2 in
     let fp = field_takes w1 octets p.0 p.1 in
@@ -70,7 +72,12 @@ pub address_again : (octets : List ℕ) (a : Address) → AddressIs octets a →
 unfolding address_of
 address_again octets a h =
     let whole : address_of octets ≡ done (made h.indicator h.pc h.ssn a.title) =
-    ap address_of h.parts ∙ rw (field_again (cond (bit h.indicator 1) 2 0) h.pc (h.ssn ++ h.title) h.pc_there, field_again (cond (bit h.indicator 2) 1 0) h.ssn h.title h.ssn_there, title_again (bits h.indicator 3 6) h.title a.title h.title_is) refl in
+    ap address_of h.parts ∙ rw (
+      field_again (cond (bit h.indicator 1) 2 0) h.pc (h.ssn ++ h.title) h.pc_there,
+      field_again
+          (cond (bit h.indicator 2) 1 0) h.ssn h.title h.ssn_there,
+      title_again (bits h.indicator 3 6) h.title a.title h.title_is,
+    ) refl in
     whole ∙ rw (← h.national, ← h.by_ssn, ← h.pc_is, ← h.ssn_is) refl
 
 pub is_found : (octets : List ℕ) (r : Result Address AddressFault) → Gives (λ a. a) r (address_of octets) → IfOk r (λ a. AddressIs octets a)

@@ -1,5 +1,6 @@
 -- What is written for an address is read as that address.
-use Rattle.std.proofs.Common.{◌≡◌, ℕ, ◌+◌, ◌-◌, ◌*◌, ◌/◌, ◌%◌, ◌^◌, ◌<◌, ◌≤◌, Bool, true, false, cond, eqb, List, [], ◌∷◌, ◌++◌, length, Option, Some, None, Ok, refl, sym, ap, subst, arith, inl, inr}
+use Rattle.std.proofs.Common.{◌≡◌, ℕ, ◌+◌, ◌-◌, ◌*◌, ◌/◌, ◌%◌, ◌^◌, ◌<◌, ◌≤◌, Bool, true, false, cond, eqb, List, [], ◌∷◌, ◌++◌, length}
+use Rattle.std.proofs.Common.{Option, Some, None, Ok, refl, sym, ap, subst, arith, inl, inr}
 use Rattle.std.specs.Prelude.{is_some, IfSome}
 use Rattle.std.specs.List.{AllByRecursion}
 use Rattle.std.specs.Option.{option_to_list}
@@ -14,7 +15,8 @@ use Rattle.sccp_address.specs.declared.address.Title.TheVariants.{Absent, Global
 use Rattle.sccp_address.specs.Reading.{point_code, first_of, address_of}
 use Rattle.sccp_address.specs.Addresses.{IsHeading, TitleIs, AddressIs}
 use Rattle.sccp_address.proofs.Laws.{address_again}
-use Rattle.sccp_address.specs.Written.{flag, point_code_octets, heading, title_octets, title_kind, indicator_of, written, IsTitle, IsAddress}
+use Rattle.sccp_address.specs.Written.{flag, point_code_octets, heading, title_octets, title_kind, indicator_of, written, IsTitle}
+use Rattle.sccp_address.specs.Written.{IsAddress}
 
 -- The indicator.
 
@@ -34,7 +36,8 @@ record Parts (i p s k r n : ℕ) : Type 0 where
   national : bits i 8 8 ≡ n
 
 indicator_parts : (p s k r n : ℕ) → p ≤ 1 → s ≤ 1 → k < 16 → r ≤ 1 → n ≤ 1 → Parts (p + 2 * s + 4 * (k % 16) + 64 * r + 128 * n) p s k r n
-indicator_parts p s k r n hp hs hk hr hn = record { pc = omega arith; ssn = omega arith; kind = omega arith; route = omega arith; national = omega arith }
+indicator_parts p s k r n hp hs hk hr hn =
+    record { pc = omega arith; ssn = omega arith; kind = omega arith; route = omega arith; national = omega arith }
 
 -- Digits.
 
@@ -42,7 +45,8 @@ unpacked_pair : (d e : ℕ) → d < 16 → ((d + 16 * e) % 16 ≡ d) × ((d + 16
 unpacked_pair d e lt = (omega arith, omega arith)
 
 -- two at a time, the digits and what follows them
-pub front_of : (ds : List ℕ) → AllByRecursion (λ d. d < 16) ds → (rest : List ℕ) × (halves (packed ds) ≡ ds ++ rest) × (2 * length (packed ds) ≡ length ds + cond (eqb (length ds % 2) 1) 1 0)
+pub front_of : (ds : List ℕ) → AllByRecursion (λ d. d < 16) ds → (rest : List ℕ) × (halves (packed ds) ≡ ds ++ rest)
+    × (2 * length (packed ds) ≡ length ds + cond (eqb (length ds % 2) 1) 1 0)
 front_of [] h = ([], refl, refl)
 front_of (d ∷ []) h = (d / 16 ∷ [], ap (λ (x : ℕ). x ∷ (d / 16 ∷ [])) (omega (arith, h.0)), refl)
 front_of (d ∷ e ∷ ds) h =
@@ -68,14 +72,16 @@ some_octet (d ∷ e ∷ ds) h = omega arith
 selector_is : (s : Numbers) (k t p n : ℕ) → s.kind ≡ k → s.translation ≡ t → s.plan ≡ p → s.nature ≡ n → s ≡ numbers k t p n
 selector_is s k t p n e1 e2 e3 e4 = rw (← e1, ← e2, ← e3, ← e4) refl
 
-scheme_bits : (plan scheme : ℕ) → scheme < 16 → (bits (16 * plan + scheme) 1 4 ≡ scheme) × (plan < 16 → bits (16 * plan + scheme) 5 8 ≡ plan)
+scheme_bits : (plan scheme : ℕ) → scheme < 16 → (bits (16 * plan + scheme) 1 4 ≡ scheme)
+    × (plan < 16 → bits (16 * plan + scheme) 5 8 ≡ plan)
 scheme_bits plan scheme lt = (omega arith, λ h. omega arith)
 
 scheme_of : (odd : Bool) → cond odd 1 2 < 16
 scheme_of true = omega arith
 scheme_of false = omega arith
 
-nature_bits : (nature : ℕ) (odd : Bool) → nature < 128 → (nature ≡ bits (nature + 128 * flag odd) 1 7) × (odd ≡ bit (nature + 128 * flag odd) 8)
+nature_bits : (nature : ℕ) (odd : Bool) → nature < 128 → (nature ≡ bits (nature + 128 * flag odd) 1 7)
+    × (odd ≡ bit (nature + 128 * flag odd) 8)
 nature_bits nature true lt = (omega arith, (let e : (nature + 128) / 128 % 2 ≡ 1 = omega arith in rw e refl))
 nature_bits nature false lt = (omega arith, (let e : (nature + 0) / 128 % 2 ≡ 0 = omega arith in rw e refl))
 
@@ -96,16 +102,28 @@ heading_says s odd h even =
     let says : List ℕ → Type 0 = λ (l : List ℕ). IsHeading l s odd in
     let p = scheme_bits s.plan (cond odd 1 2) (scheme_of odd) in
     elim h.used [
-      | inl w ↦ let n = nature_bits s.nature odd h.nature in subst says (sym (nature_heading s odd w.0)) (inl (selector_is s 1 0 0 (bits (s.nature + 128 * flag odd) 1 7) w.0 w.1 w.2 n.0, n.1))
+      | inl w ↦ let n = nature_bits s.nature odd h.nature in subst says (sym (nature_heading s odd w.0))
+          (inl (selector_is s 1 0 0 (bits (s.nature + 128 * flag odd) 1 7) w.0 w.1 w.2 n.0, n.1))
       | inr (inl w) ↦ subst says (sym (translation_heading s odd w.0)) (inr (selector_is s 2 s.translation 0 0 w.0 refl w.1 w.2, even w.0))
-      | inr (inr (inl w)) ↦ subst says (sym (plan_heading s odd w.0)) (selector_is s 3 s.translation (bits (16 * s.plan + cond odd 1 2) 5 8) 0 w.0 refl (sym (p.1 h.plan)) w.1, p.0)
+      | inr (inr (inl w)) ↦ subst says (sym (plan_heading s odd w.0))
+          (selector_is s 3 s.translation (bits (16 * s.plan + cond odd 1 2) 5 8) 0 w.0 refl (sym (p.1 h.plan)) w.1, p.0)
       | inr (inr (inr w)) ↦
           let nature : s.nature ≡ bits s.nature 1 7 = omega (arith, h.nature) in
-          subst says (sym (full_heading s odd w)) (selector_is s 4 s.translation (bits (16 * s.plan + cond odd 1 2) 5 8) (bits s.nature 1 7) w refl (sym (p.1 h.plan)) nature, p.0)
+          subst says (sym (full_heading s odd w)) (
+            selector_is s 4 s.translation (bits (16 * s.plan + cond odd 1 2) 5 8)
+                (bits s.nature 1 7) w refl (sym (p.1 h.plan)) nature,
+            p.0,
+          )
     ]
 
 kind_small : (s : Numbers) → IsSelector s → s.kind < 16
-kind_small s h = elim h.used [ inl w ↦ omega (arith, w.0) | inr (inl w) ↦ omega (arith, w.0) | inr (inr (inl w)) ↦ omega (arith, w.0) | inr (inr (inr w)) ↦ omega arith ]
+kind_small s h = elim h.used [
+  | inl w ↦ omega (arith, w.0)
+  | inr (inl w) ↦ omega (arith, w.0)
+  | inr (inr (inl w)) ↦ omega (arith, w.0)
+  | inr
+      (inr (inr w)) ↦ omega arith
+]
 
 -- Titles and addresses.
 
@@ -152,7 +170,8 @@ ssn_again (Some n) = refl
 pub written_is : (a : Address) → IsAddress a → AddressIs (written a) a
 written_is a h =
     let t = title_again a.title h.title in
-    let i = indicator_parts (flag (is_some a.pc)) (flag (is_some a.ssn)) (title_kind a.title) (flag a.by_ssn) (flag a.national) (flag_small (is_some a.pc)) (flag_small (is_some a.ssn)) t.0 (flag_small a.by_ssn) (flag_small a.national) in
+    let i = indicator_parts (flag (is_some a.pc)) (flag (is_some a.ssn)) (title_kind a.title) (flag a.by_ssn) (flag a.national)
+    (flag_small (is_some a.pc)) (flag_small (is_some a.ssn)) t.0 (flag_small a.by_ssn) (flag_small a.national) in
     let has_pc : bit (indicator_of a) 1 ≡ is_some a.pc = rw i.pc (flag_is (is_some a.pc)) in
     let has_ssn : bit (indicator_of a) 2 ≡ is_some a.ssn = rw i.ssn (flag_is (is_some a.ssn)) in
     record {

@@ -1,5 +1,6 @@
 -- Which octets are an address (ITU-T Q.713 section 3.4), said by their parts. Spare bits and the filler may have any value.
-use Rattle.std.specs.Prelude.{◌≡◌, ◌≢◌, ℕ, ◌<◌, ◌≤◌, Bool, false, IsTrue, if◌then◌else◌, ◌⊎◌, List, [], ◌∷◌, ◌++◌, length, Option, Some, None}
+use Rattle.std.specs.Prelude.{◌≡◌, ◌≢◌, ℕ, ◌<◌, ◌≤◌, Bool, false, IsTrue, if◌then◌else◌, ◌⊎◌, List, [], ◌∷◌, ◌++◌, length, Option, Some}
+use Rattle.std.specs.Prelude.{None}
 use Rattle.sccp_base.specs.Bcd.{unpacked}
 use Rattle.sccp_base.specs.Bits.{bit, bits}
 use Rattle.sccp_base.specs.Selector.{Numbers, numbers}
@@ -36,7 +37,8 @@ HasOtherScheme kind (t ∷ p ∷ octets) = (bits p 1 4 ≢ 1) × (bits p 1 4 ≢
 
 -- what is kept as octets: a title of another kind, of another scheme, or of more than 32 digits
 abbrev pub IsKept : ℕ → List ℕ → Type 0
-IsKept kind octets = (5 ≤ kind) ⊎ (HasOtherScheme kind octets ⊎ ((s : Numbers) × (digits : List ℕ) × (s.kind ≡ kind) × HasDigits octets s digits × (32 < length digits)))
+IsKept kind octets = (5 ≤ kind) ⊎ (HasOtherScheme kind octets
+    ⊎ ((s : Numbers) × (digits : List ℕ) × (s.kind ≡ kind) × HasDigits octets s digits × (32 < length digits)))
 
 -- the octets of a global title; its kind is the indicator's number for it (3.4.2.3)
 abbrev pub TitleIs : ℕ → List ℕ → Title → Type 0

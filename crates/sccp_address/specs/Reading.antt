@@ -1,6 +1,7 @@
 -- Reading an address from left to right, with the first fault that is met (ITU-T Q.713 section 3.4).
 -- This project chose to ignore spare bits and the filler, and to keep some titles as their octets.
-use Rattle.std.specs.Prelude.{ℕ, ◌+◌, ◌*◌, Bool, true, false, ◌&&◌, ◌==◌, nat_le, nat_lt, if◌then◌else◌, List, [], ◌∷◌, length, take, drop, Option, Some, None, Result, Ok, Err}
+use Rattle.std.specs.Prelude.{ℕ, ◌+◌, ◌*◌, Bool, true, false, ◌&&◌, ◌==◌, nat_le, nat_lt, if◌then◌else◌, List, [], ◌∷◌, length, take, drop}
+use Rattle.std.specs.Prelude.{Option, Some, None, Result, Ok, Err}
 use Rattle.sccp_base.specs.Answers.{◌>>=◌}
 use Rattle.sccp_base.specs.Bcd.{unpacked}
 use Rattle.sccp_base.specs.Bits.{bit, bits}

@@ -7,7 +7,8 @@ ghost use Rattle.sccp_address.specs.declared.address.Address.{Address};
 ghost use Rattle.sccp_address.specs.Addresses.{AddressIs};
 ghost use Rattle.sccp_address.specs.Written.{IsAddress};
 ghost use Rattle.sccp_address.specs.Faults.{Gives};
-ghost use Rattle.sccp_address.specs.Reading.{field_at, point_code, first_of, global_or_raw, by_scheme, none_at, nature_at, translation_at, plan_at, full_at, title_at, address_of};
+ghost use Rattle.sccp_address.specs.Reading.{field_at, point_code, first_of, global_or_raw, by_scheme, none_at, nature_at, translation_at};
+ghost use Rattle.sccp_address.specs.Reading.{plan_at, full_at, title_at, address_of};
 
 use crate::address::{Address, Title};
 use crate::fault::AddressFault;
@@ -225,7 +226,15 @@ fn behind_pc(
     pc: &[u8],
     octets: &[u8],
 ) -> Result<Address, AddressFault>
-    ensures { Gives (λ a. a) result (bind (field_at (if bit indicator 2 then 1 else 0) octets.now) (λ ssn. bind (title_at (bits indicator 3 6) ssn.1) (λ title. Ok (record { national = bit indicator 8; by_ssn = bit indicator 7; pc = point_code pc.now; ssn = first_of ssn.0; title = title })))) }
+    ensures { Gives (λ a. a) result (bind (field_at (if bit indicator 2 then 1 else 0) octets.now)
+        (λ ssn. bind (title_at (bits indicator 3 6) ssn.1)
+        (λ title. Ok (record {
+          national = bit indicator 8;
+          by_ssn = bit indicator 7;
+          pc = point_code pc.now;
+          ssn = first_of ssn.0;
+          title = title;
+        })))) }
 {
     let (ssn, rest) = ssn_field(indicator, octets)?;
     let title = title_of(alloc, kind_of(indicator), rest)?;

@@ -1,5 +1,6 @@
 -- An element among those of a list, by recursion, and what a filter and a search give for it.
-use Rattle.std.specs.Prelude.{ℕ, ◌≡◌, ◌<◌, ◌+◌, ◌⊎◌, Bool, true, false, cond, List, [], ◌∷◌, length, Some, None, refl, not, nat_lt, slice_get, ◌≤◌}
+use Rattle.std.specs.Prelude.{ℕ, ◌≡◌, ◌<◌, ◌+◌, ◌⊎◌, Bool, true, false, cond, List, [], ◌∷◌, length, Some, None, refl, not, nat_lt}
+use Rattle.std.specs.Prelude.{slice_get, ◌≤◌}
 use Rattle.std.specs.List.{All, filter, find, list_all, list_any, AllPairs, position, position_or_len, prefix_len}
 use Rattle.std.proofs.Common.{zero, sym, ◌∙◌, ap, subst, inl, inr, ⊎_elim, arith, get_or, suc}
 use Rattle.std.proofs.lemmas.Bool.{false≢true, and_parts, and_from, cases_order, cond-false, not-true, ltb-false, or_parts}
@@ -12,7 +13,8 @@ Among x (y ∷ ys) = (y ≡ x) ⊎ Among x ys
 pub All-among : {X : Type 0} (P : X → Type 0) (x : X) (xs : List X) → All P xs → Among x xs → P x
 All-among {X} P x [] all m = absurd m
 All-among {X} P x (y ∷ ys) all m =
-    ⊎_elim (λ (e : y ≡ x). subst P e (all 0 y (omega arith))) (λ (n : Among x ys). All-among P x ys (λ k d lt. all (suc k) d (omega arith)) n) m
+    ⊎_elim (λ (e : y ≡ x). subst P e (all 0 y (omega arith)))
+    (λ (n : Among x ys). All-among P x ys (λ k d lt. all (suc k) d (omega arith)) n) m
 
 pub Among-filter : {X : Type 0} (p : X → Bool) (x : X) (xs : List X) → p x ≡ true → Among x xs → Among x (filter p xs)
 Among-filter p x [] h m = m
@@ -30,7 +32,8 @@ Among-unfilter p x (y ∷ ys) m =
       | false ↦ λ e n. let k = Among-unfilter p x ys n in (inr k.0, k.1)
     ] refl m
 
-pub find_one : {X : Type 0} (p : X → Bool) (x : X) (xs : List X) → Among x xs → p x ≡ true → ((y : X) → Among y xs → p y ≡ true → y ≡ x) → find p xs ≡ Some x
+pub find_one : {X : Type 0} (p : X → Bool) (x : X) (xs : List X) → Among x xs → p x ≡ true → ((y : X) → Among y xs → p y ≡ true → y ≡ x)
+    → find p xs ≡ Some x
 find_one p x [] m h u = absurd m
 find_one p x (y ∷ ys) m h u =
     elim (p y) as (λ b. p y ≡ b → cond b (Some y) (find p ys) ≡ Some x) [
@@ -77,15 +80,18 @@ place_of_Among x (y ∷ ys) m =
     ⊎_elim (λ q. (0, omega arith, λ d. q)) (λ r. let k = place_of_Among x ys r in (suc k.0, omega (arith, k.1), λ d. k.2 d)) m
 
 -- if no two elements of a list are related, two related elements of it are one
-pub same_of_pairs : {X : Type 0} (R : X → X → Type 0) (x y : X) (xs : List X) → ((a b : X) → R a b → R b a) → AllPairs (λ a b. R a b → ⊥) xs → Among x xs → Among y xs → R x y → x ≡ y
+pub same_of_pairs : {X : Type 0} (R : X → X → Type 0) (x y : X) (xs : List X) → ((a b : X) → R a b → R b a) → AllPairs (λ a b. R a b → ⊥) xs
+    → Among x xs → Among y xs → R x y → x ≡ y
 same_of_pairs {X} R x y xs flip apart m n r =
     let k = place_of_Among x xs m in
     let l = place_of_Among y xs n in
     ⊎_elim
     (λ (e : k.0 ≡ l.0). sym (k.2 x) ∙ ap (λ i. get_or xs i x) e ∙ l.2 x)
     (λ o. ⊎_elim
-    (λ (lt : k.0 < l.0). absurd (apart k.0 l.0 x lt l.1 (subst (λ (b : X). R (get_or xs k.0 x) b) (sym (l.2 x)) (subst (λ (a : X). R a y) (sym (k.2 x)) r))))
-    (λ (gt : l.0 < k.0). absurd (apart l.0 k.0 x gt k.1 (subst (λ (b : X). R (get_or xs l.0 x) b) (sym (k.2 x)) (subst (λ (a : X). R a x) (sym (l.2 x)) (flip x y r)))))
+    (λ (lt : k.0 < l.0). absurd (apart k.0 l.0 x lt l.1 (subst (λ (b : X). R (get_or xs k.0 x) b) (sym (l.2 x))
+    (subst (λ (a : X). R a y) (sym (k.2 x)) r))))
+    (λ (gt : l.0 < k.0). absurd (apart l.0 k.0 x gt k.1 (subst (λ (b : X). R (get_or xs l.0 x) b) (sym (k.2 x))
+    (subst (λ (a : X). R a x) (sym (l.2 x)) (flip x y r)))))
     o)
     (cases_order k.0 l.0)
 
@@ -105,7 +111,8 @@ prefix_whole p x (y ∷ ys) h m =
 pub position-None : {X : Type 0} (p : X → Bool) (x : X) (xs : List X) → position p xs ≡ None → Among x xs → p x ≡ false
 position-None p x xs h m =
     not-true (p x) (prefix_whole (λ y. not (p y)) x xs
-    (elim (nat_lt (position_or_len p xs) (length xs)) as (λ b. nat_lt (position_or_len p xs) (length xs) ≡ b → cond b (Some (position_or_len p xs)) None ≡ None → length xs ≤ position_or_len p xs) [
+    (elim (nat_lt (position_or_len p xs) (length xs)) as (λ b. nat_lt (position_or_len p xs) (length xs) ≡ b
+    → cond b (Some (position_or_len p xs)) None ≡ None → length xs ≤ position_or_len p xs) [
       | true ↦ λ e k. absurd (cc)
       | false ↦ λ e k. ltb-false (position_or_len p xs) (length xs) e
     ] refl h) m)

@@ -1,5 +1,6 @@
 -- Half-octets, and digits as octets.
-use Rattle.std.proofs.Common.{◌≡◌, ℕ, zero, suc, ◌+◌, ◌*◌, ◌-◌, ◌/◌, ◌%◌, ◌<◌, ◌≤◌, Bool, true, false, cond, leb, Ok, Err, List, [], ◌∷◌, ◌++◌, length, get_or, take, refl, ap, subst, arith}
+use Rattle.std.proofs.Common.{◌≡◌, ℕ, zero, suc, ◌+◌, ◌*◌, ◌-◌, ◌/◌, ◌%◌, ◌<◌, ◌≤◌, Bool, true, false, cond, leb, Ok, Err, List, [], ◌∷◌}
+use Rattle.std.proofs.Common.{◌++◌, length, get_or, take, refl, ap, subst, arith}
 use mir.Val.{bool_byte}
 use Rattle.std.proofs.lemmas.Bool.{le-leb, lt-leb}
 use Rattle.std.proofs.lemmas.List.{length-take}
@@ -44,7 +45,8 @@ bool_byte_is true = refl
 bool_byte_is false = refl
 
 -- one more pair of digits
-pub packed_more : (ds : List ℕ) (i : ℕ) → 2 * i < length ds → packed (take (2 * i) ds) ++ (get_or ds (2 * i) 0 + 16 * get_or ds (2 * i + 1) 0) ∷ [] ≡ packed (take (2 * (i + 1)) ds)
+pub packed_more : (ds : List ℕ) (i : ℕ) → 2 * i < length ds
+    → packed (take (2 * i) ds) ++ (get_or ds (2 * i) 0 + 16 * get_or ds (2 * i + 1) 0) ∷ [] ≡ packed (take (2 * (i + 1)) ds)
 packed_more [] i lt = absurd (omega arith)
 packed_more (d ∷ []) zero lt = let alone : d + 16 * 0 ≡ d = omega arith in ap (λ (n : ℕ). n ∷ []) alone
 packed_more (d ∷ []) (suc i) lt = absurd (omega arith)

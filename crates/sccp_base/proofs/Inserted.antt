@@ -16,7 +16,8 @@ IsHere xs x place k d = (k ≡ place) × (get_or (insert xs place x) k d ≡ x)
 abbrev IsAbove : {X : Type 0} → List X → X → ℕ → ℕ → X → Type 0
 IsAbove xs x place k d = (l : ℕ) × (k ≡ l + 1) × (place ≤ l) × (get_or (insert xs place x) k d ≡ get_or xs l d)
 
-at_insert : {X : Type 0} (xs : List X) (x : X) (place k : ℕ) (d : X) → place ≤ length xs → IsBelow xs x place k d ⊎ (IsHere xs x place k d ⊎ IsAbove xs x place k d)
+at_insert : {X : Type 0} (xs : List X) (x : X) (place k : ℕ) (d : X) → place ≤ length xs
+    → IsBelow xs x place k d ⊎ (IsHere xs x place k d ⊎ IsAbove xs x place k d)
 at_insert xs x place k d inside =
     ⊎_elim
     (λ (lt : k < place). inl (lt, get_or-insert_below xs place x d k lt inside))
@@ -37,9 +38,11 @@ related R a b x y p q h = subst (λ m. R m b) (sym p) (subst (λ m. R x m) (sym 
 
 -- If each element is related to those after it, this still holds after an insert. The place must part the elements that are
 -- related to the new one from those to which the new one is related.
-pub pairs_insert : {X : Type 0} (R : X → X → Type 0) (xs : List X) (x : X) (place : ℕ) → AllPairs R xs → place ≤ length xs → AllWithin (λ y. R y x) xs 0 place → AllWithin (λ y. R x y) xs place (length xs) → AllPairs R (insert xs place x)
+pub pairs_insert : {X : Type 0} (R : X → X → Type 0) (xs : List X) (x : X) (place : ℕ) → AllPairs R xs → place ≤ length xs
+    → AllWithin (λ y. R y x) xs 0 place → AllWithin (λ y. R x y) xs place (length xs) → AllPairs R (insert xs place x)
 pairs_insert R xs x place pairs inside below above i j d lt bound =
-    let size : length (insert xs place x) ≡ length xs + 1 = omega (arith, length-append (take place xs) (x ∷ drop place xs), length-take place xs, length-drop place xs, inside) in
+    let size : length (insert xs place x) ≡ length xs + 1 =
+    omega (arith, length-append (take place xs) (x ∷ drop place xs), length-take place xs, length-drop place xs, inside) in
     ⊎_elim
     (λ (p : IsBelow xs x place i d). ⊎_elim
     (λ (q : IsBelow xs x place j d). related R _ _ _ _ p.1 q.1 (pairs i j d lt (omega (arith, inside, q.0))))
@@ -60,7 +63,8 @@ pairs_insert R xs x place pairs inside below above i j d lt bound =
     (λ (q : IsBelow xs x place j d). absurd (omega (arith, lt, p.1, p.2, q.0)))
     (λ o. ⊎_elim
     (λ (q : IsHere xs x place j d). absurd (omega (arith, lt, p.1, p.2, q.0)))
-    (λ (q : IsAbove xs x place j d). related R _ _ _ _ p.3 q.3 (pairs p.0 q.0 d (omega (arith, lt, p.1, q.1)) (omega (arith, bound, size, q.1))))
+    (λ (q : IsAbove xs x place j d). related R _ _ _ _ p.3 q.3
+    (pairs p.0 q.0 d (omega (arith, lt, p.1, q.1)) (omega (arith, bound, size, q.1))))
     o)
     (at_insert xs x place j d inside))
     n)

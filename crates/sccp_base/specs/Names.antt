@@ -1,5 +1,6 @@
 -- Names of nodes, and how one is kept in an array of 16 octets.
-use Rattle.std.specs.Prelude.{◌≡◌, ℕ, ◌-◌, ◌≤◌, ◌++◌, Bool, true, ◌&&◌, ◌||◌, ◌==◌, nat_le, if◌then◌else◌, List, length, take, drop, replicate, Option, Some, None}
+use Rattle.std.specs.Prelude.{◌≡◌, ℕ, ◌-◌, ◌≤◌, ◌++◌, Bool, true, ◌&&◌, ◌||◌, ◌==◌, nat_le, if◌then◌else◌, List, length, take, drop}
+use Rattle.std.specs.Prelude.{replicate, Option, Some, None}
 use Rattle.std.specs.List.{All, list_all}
 use Rattle.std.specs.Char.{is_ascii_alphanumeric}
 use Rattle.std.proofs.Common.{arith, length-take-le, take-append-drop}
@@ -38,5 +39,6 @@ name_laid_out text = record { octets = text ++ replicate (16 - length text) 0; l
 pub name_laid_out-shown : (n : Inside) → IsNameLaidOut n → name_laid_out (name_shown n) ≡ n
 name_laid_out-shown n h =
     let size : length (name_shown n) ≡ n.len = length-take-le n.len n.octets (omega (arith, h.limit, h.whole)) in
-    let whole : name_shown n ++ replicate (16 - length (name_shown n)) 0 ≡ n.octets = rw size (rw (← h.behind) (take-append-drop n.len n.octets)) in
+    let whole : name_shown n ++ replicate (16 - length (name_shown n)) 0 ≡ n.octets =
+    rw size (rw (← h.behind) (take-append-drop n.len n.octets)) in
     λ i. record { octets = whole i; len = size i }

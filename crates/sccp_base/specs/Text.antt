@@ -1,5 +1,6 @@
 -- Texts of the command line and of plans, as octets in ASCII.
-use Rattle.std.specs.Prelude.{ℕ, ◌+◌, ◌*◌, ◌-◌, ◌&&◌, ◌==◌, not, nat_lt, nat_le, if◌then◌else◌, List, [], ◌∷◌, length, fold, Option, Some, None, option_map, option_and_then}
+use Rattle.std.specs.Prelude.{ℕ, ◌+◌, ◌*◌, ◌-◌, ◌&&◌, ◌==◌, not, nat_lt, nat_le, if◌then◌else◌, List, [], ◌∷◌, length, fold, Option, Some}
+use Rattle.std.specs.Prelude.{None, option_map, option_and_then}
 use Rattle.std.specs.List.{list_all}
 use Rattle.std.specs.Char.{is_ascii_digit}
 use Rattle.sccp_base.specs.Selector.{Numbers, numbers}
@@ -15,7 +16,8 @@ spelled digits = fold (λ n c. 10 * n + (c - 48)) 0 digits
 
 -- the number that one to `most` decimal digits spell
 abbrev pub decimal_of : ℕ → List ℕ → Option ℕ
-decimal_of most text = if not (length text == 0) && nat_le (length text) most && list_all is_ascii_digit text then Some (spelled text) else None
+decimal_of most text = if not (length text == 0) && nat_le (length text) most && list_all is_ascii_digit text then Some (spelled text)
+    else None
 
 -- a number below a limit
 abbrev pub below : ℕ → Option ℕ → Option ℕ
@@ -60,13 +62,15 @@ translation_of text = option_and_then (λ t. selected (numbers 2 t 0 0)) (byte_o
 -- translation type and numbering plan of kind 3, with a colon (58) between them
 abbrev pub plan_of : List ℕ → Option Numbers
 plan_of text =
-    option_and_then (λ parts. option_and_then (λ t. option_and_then (λ p. selected (numbers 3 t p 0)) (byte_of parts.1)) (byte_of parts.0)) (cut_at 58 text)
+    option_and_then (λ parts. option_and_then (λ t. option_and_then (λ p. selected (numbers 3 t p 0)) (byte_of parts.1)) (byte_of parts.0))
+    (cut_at 58 text)
 
 -- translation type, numbering plan and nature of address of kind 4, with colons (58) between them
 abbrev pub full_of : List ℕ → Option Numbers
 full_of text =
     option_and_then (λ first. option_and_then (λ second.
-    option_and_then (λ t. option_and_then (λ p. option_and_then (λ n. selected (numbers 4 t p n)) (byte_of second.1)) (byte_of second.0)) (byte_of first.0))
+    option_and_then (λ t. option_and_then (λ p. option_and_then (λ n. selected (numbers 4 t p n)) (byte_of second.1)) (byte_of second.0))
+    (byte_of first.0))
     (cut_at 58 first.1)) (cut_at 58 text)
 
 -- the selector of a kind, one digit from 1 to 4 (49 to 52), and of its numbers

@@ -63,7 +63,8 @@ impl Octets {
 
     /// The octets, to be written over. Their number stays.
     pub fn as_mut_slice(&mut self) -> &mut [u8]
-        ensures* writes_back { sem 𝓛 (Lends the_row (Array byte 0) self.entry result (λ w. take (length self.entry.now) (w ++ drop (length w) self.entry.now))) }
+        ensures* writes_back { sem 𝓛 (Lends the_row (Array byte 0) self.entry result
+            (λ w. take (length self.entry.now) (w ++ drop (length w) self.entry.now))) }
         ensures value { result.now ≡ self.old }
     {
         self.items.as_mut_slice()

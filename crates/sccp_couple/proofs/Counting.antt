@@ -1,5 +1,6 @@
 -- The parameters of a request that goes on, and how much room it needs.
-use Rattle.std.specs.Prelude.{◌≡◌, ℕ, ◌+◌, ◌<◌, ◌≤◌, Bool, true, false, not, cond, ◌&&◌, ◌==◌, nat_le, List, [], ◌∷◌, ◌++◌, length, drop, Option, Some, None, refl, get_or}
+use Rattle.std.specs.Prelude.{◌≡◌, ℕ, ◌+◌, ◌<◌, ◌≤◌, Bool, true, false, not, cond, ◌&&◌, ◌==◌, nat_le, List, [], ◌∷◌, ◌++◌, length, drop}
+use Rattle.std.specs.Prelude.{Option, Some, None, refl, get_or}
 use Rattle.std.specs.Option.{option_map_or}
 use Rattle.std.proofs.Common.{add-one, suc, sym, ◌∙◌, ap, subst, append_assoc}
 use Rattle.std.proofs.Math.Seq.{drop-cons}
@@ -23,11 +24,14 @@ ahead is_first params = cond is_first (count_first params) params
 abbrev pub next_of : Bool → Parameter → Parameter
 next_of is_first p = cond (is_first && (p.name == names.hops)) (parameter p.name (counted p.octets)) p
 
-one_more : (is_first : Bool) (p : Parameter) (rest : List Parameter) → ahead is_first (p ∷ rest) ≡ next_of is_first p ∷ ahead (is_first && not (p.name == names.hops)) rest
+one_more : (is_first : Bool) (p : Parameter) (rest : List Parameter)
+    → ahead is_first (p ∷ rest) ≡ next_of is_first p ∷ ahead (is_first && not (p.name == names.hops)) rest
 one_more false p rest = refl
-one_more true p rest = elim (p.name == names.hops) as (λ b. cond b (parameter p.name (counted p.octets) ∷ rest) (p ∷ count_first rest) ≡ cond b (parameter p.name (counted p.octets)) p ∷ cond (not b) (count_first rest) rest) [ true ↦ refl | false ↦ refl ]
+one_more true p rest = elim (p.name == names.hops) as (λ b. cond b (parameter p.name (counted p.octets) ∷ rest) (p ∷ count_first rest)
+    ≡ cond b (parameter p.name (counted p.octets)) p ∷ cond (not b) (count_first rest) rest) [ true ↦ refl | false ↦ refl ]
 
-pub counts_on : (xs copy whole : List Parameter) (i : ℕ) (is_first : Bool) (p : Parameter) → i < length xs → get_or xs i p ≡ p → copy ++ ahead is_first (drop i xs) ≡ whole
+pub counts_on : (xs copy whole : List Parameter) (i : ℕ) (is_first : Bool) (p : Parameter) → i < length xs → get_or xs i p ≡ p
+    → copy ++ ahead is_first (drop i xs) ≡ whole
     → (copy ++ next_of is_first p ∷ []) ++ ahead (is_first && not (p.name == names.hops)) (drop (i + 1) xs) ≡ whole
 counts_on xs copy whole i is_first p lt at e =
     let after : drop i xs ≡ p ∷ drop (suc i) xs = drop-cons xs i p lt ∙ ap (λ (x : Parameter). x ∷ drop (suc i) xs) at in
@@ -49,10 +53,12 @@ count_short (p ∷ params) short =
 pub relay_room : (a : Address) (next : Spot) → length next.digits ≤ 32 → length (written (to_relay a next)) ≤ 21
 relay_room a next few = few_octets a.national false (ssn_after a.ssn next.ssn) next.selector next.digits few
 
-pub place_room : (a : Address) (node ssn : ℕ) (spot : Spot) → spot_of node a ≡ Some spot → length spot.digits ≤ 32 → length (written (to_place a ssn)) ≤ 21
+pub place_room : (a : Address) (node ssn : ℕ) (spot : Spot) → spot_of node a ≡ Some spot → length spot.digits ≤ 32
+    → length (written (to_place a ssn)) ≤ 21
 place_room a node ssn spot e few = by_title a.title e
   where
-    by_title : (title : Title) → title_spot node a.ssn title ≡ Some spot → length (written (record { national = a.national; by_ssn = true; pc = None; ssn = Some ssn; title = title })) ≤ 21
+    by_title : (title : Title) → title_spot node a.ssn title ≡ Some spot
+        → length (written (record { national = a.national; by_ssn = true; pc = None; ssn = Some ssn; title = title })) ≤ 21
     by_title Absent h = absurd cc
     by_title (Raw kind octets) h = absurd cc
     by_title (Global selector digits) h =

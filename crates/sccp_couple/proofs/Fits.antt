@@ -27,9 +27,12 @@ release_fits dlr slr cause (p ∷ params) short = rw short refl
 pub data_fits : (dlr : ℕ) (more : Bool) (payload : List ℕ) → length payload ≤ 255 → Writable (messages.Dt1 dlr more payload)
 data_fits dlr more payload short = rw (le-leb (length payload) 255 short) refl
 
-pub request_fits : (slr class : ℕ) (called : Address) (params : List Parameter) → length (written called) ≤ 21 → are_short params ≡ true → Writable (messages.Cr slr class called params)
+pub request_fits : (slr class : ℕ) (called : Address) (params : List Parameter) → length (written called) ≤ 21 → are_short params ≡ true
+    → Writable (messages.Cr slr class called params)
 request_fits slr class called [] room short = rw (le-leb (length (written called)) 255 (omega (arith, room))) refl
 request_fits slr class called (p ∷ params) room short =
-    let far : nat_le ((7 + suc (length (written called))) - 6) 255 ≡ true = le-leb ((7 + suc (length (written called))) - 6) 255 (omega (arith, room)) in
+    let far : nat_le ((7 + suc (length (written called))) - 6) 255 ≡ true = le-leb ((7 + suc (length (written called))) - 6) 255
+    (omega (arith, room)) in
     rw (le-leb (length (written called)) 255 (omega (arith, room)), short)
-    (ap (λ (b : Bool). option_or (option_map TooLong (cond {A = Option ℕ} true None (Some 1))) (option_map PointerTooFar (cond {A = Option ℕ} b None (Some 1)))) far)
+    (ap (λ (b : Bool). option_or (option_map TooLong (cond {A = Option ℕ} true None (Some 1)))
+    (option_map PointerTooFar (cond {A = Option ℕ} b None (Some 1)))) far)

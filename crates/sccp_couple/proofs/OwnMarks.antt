@@ -12,16 +12,21 @@ abbrev pub AreMarked : List Bool → List Section → Type 0
 AreMarked marks sections = (n : ℕ) → n < length marks → get_or marks n false ≡ list_any (λ s. s.own == n) sections
 
 -- a range is filtered alike by tests that agree on it
-filter_alike : (p q : ℕ → Bool) (a n : ℕ) → ((k : ℕ) → a ≤ k → k < a + n → p k ≡ q k) → filter p (range_with_len a n) ≡ filter q (range_with_len a n)
+filter_alike : (p q : ℕ → Bool) (a n : ℕ) → ((k : ℕ) → a ≤ k → k < a + n → p k ≡ q k)
+    → filter p (range_with_len a n) ≡ filter q (range_with_len a n)
 filter_alike p q a zero h = refl
 filter_alike p q a (suc n) h =
     let e : p a ≡ q a = h a (omega arith) (omega arith) in
-    let rest : filter p (range_with_len (a + 1) n) ≡ filter q (range_with_len (a + 1) n) = filter_alike p q (a + 1) n (λ k le lt. h k (omega (arith, le)) (omega (arith, lt))) in
-    ap (λ b. cond b (a ∷ filter p (range_with_len (a + 1) n)) (filter p (range_with_len (a + 1) n))) e ∙ ap (λ (t : List ℕ). cond (q a) (a ∷ t) t) rest
+    let rest : filter p (range_with_len (a + 1) n) ≡ filter q (range_with_len (a + 1) n) =
+    filter_alike p q (a + 1) n (λ k le lt. h k (omega (arith, le)) (omega (arith, lt))) in
+    ap (λ b. cond b (a ∷ filter p (range_with_len (a + 1) n)) (filter p (range_with_len (a + 1) n))) e
+    ∙ ap (λ (t : List ℕ). cond (q a) (a ∷ t) t) rest
 
 -- the numbers without a mark are the unused ones
-pub unmarked_are : (marks : List Bool) (l : List Section) (a n : ℕ) → AreMarked marks l → a + n ≤ length marks → filter (is_unmarked marks) (range_with_len a n) ≡ filter (is_unused l) (range_with_len a n)
-unmarked_are marks l a n marked within = filter_alike (is_unmarked marks) (is_unused l) a n (λ k le lt. ap not (marked k (omega (arith, lt, within))))
+pub unmarked_are : (marks : List Bool) (l : List Section) (a n : ℕ) → AreMarked marks l → a + n ≤ length marks
+    → filter (is_unmarked marks) (range_with_len a n) ≡ filter (is_unused l) (range_with_len a n)
+unmarked_are marks l a n marked within = filter_alike (is_unmarked marks) (is_unused l) a n
+    (λ k le lt. ap not (marked k (omega (arith, lt, within))))
 
 -- the two smallest numbers without a mark, looked up one after the other
 pub record Searches (marks : List Bool) (l : List Section) : Type 0 where

@@ -1,6 +1,7 @@
 -- What is read from octets is short: one octet holds the length of each parameter, and of the data of a type with short
 -- pointers.
-use Rattle.std.proofs.Common.{◌≡◌, ℕ, zero, suc, ◌+◌, ◌-◌, ◌<◌, ◌≤◌, Bool, true, false, cond, leb, eqb, ◌&&◌, List, [], ◌∷◌, ◌++◌, length, get_or, take, drop, Option, Some, None, refl, sym, ap, subst, ◌∙◌, arith, inl, inr}
+use Rattle.std.proofs.Common.{◌≡◌, ℕ, zero, suc, ◌+◌, ◌-◌, ◌<◌, ◌≤◌, Bool, true, false, cond, leb, eqb, ◌&&◌, List, [], ◌∷◌, ◌++◌, length}
+use Rattle.std.proofs.Common.{get_or, take, drop, Option, Some, None, refl, sym, ap, subst, ◌∙◌, arith, inl, inr}
 use Rattle.std.specs.Prelude.{IfSome, nat_le, slice_range, unwrap_or}
 use Rattle.std.specs.List.{AllByRecursion, flat_map, list_all}
 use Rattle.std.proofs.lemmas.Bool.{cases_lt, eqb-true, le-leb}
@@ -36,7 +37,8 @@ octet_at (o ∷ b) (suc n) h = octet_at b n h.1
 listed_short : (params : List Parameter) (more : List ℕ) → AreOctets (flat_map spelled_parameter params ++ more) → are_short params ≡ true
 listed_short [] more h = refl
 listed_short (p ∷ params) more h =
-    let whole : AreOctets (p.name ∷ length p.octets ∷ (p.octets ++ (flat_map spelled_parameter params ++ more))) = subst AreOctets (regrouped p.octets) h in
+    let whole : AreOctets (p.name ∷ length p.octets ∷ (p.octets ++ (flat_map spelled_parameter params ++ more))) =
+    subst AreOctets (regrouped p.octets) h in
     let here = whole.1.0 in
     rw (le-leb (length p.octets) 255 (omega arith)) (listed_short params more (octets_back p.octets _ whole.1.1))
   where
@@ -44,7 +46,8 @@ listed_short (p ∷ params) more h =
     append_again [] ys zs = refl
     append_again (x ∷ xs) ys zs = ap (λ (t : List ℕ). x ∷ t) (append_again xs ys zs)
 
-    regrouped : (octets : List ℕ) → (p.name ∷ length p.octets ∷ (octets ++ flat_map spelled_parameter params)) ++ more ≡ p.name ∷ length p.octets ∷ (octets ++ (flat_map spelled_parameter params ++ more))
+    regrouped : (octets : List ℕ) → (p.name ∷ length p.octets ∷ (octets ++ flat_map spelled_parameter params)) ++ more ≡ p.name
+        ∷ length p.octets ∷ (octets ++ (flat_map spelled_parameter params ++ more))
     regrouped octets = ap (λ (t : List ℕ). p.name ∷ length p.octets ∷ t) (append_again octets (flat_map spelled_parameter params) more)
 
 params_short : (l : Layout) (b : List ℕ) (params : List Parameter) → AreOctets b → ParamsAre l b params → are_short params ≡ true
@@ -81,7 +84,8 @@ neither false b e = refl
 part_short : (l : Layout) (b : List ℕ) (i : ℕ) → l.long ≡ false → AreOctets b → IsShort (part l b i)
 part_short l b i short h = contents_by (l.long && eqb i 2) b (place l b i) (neither l.long (eqb i 2) short) h
 
-data_short : (b : List ℕ) (p : Parts) (i : ℕ) (has : HasParts b p) → has.layout.long ≡ false → AreOctets b → length (part_of p.variable i) ≤ 255
+data_short : (b : List ℕ) (p : Parts) (i : ℕ) (has : HasParts b p) → has.layout.long ≡ false → AreOctets b
+    → length (part_of p.variable i) ≤ 255
 data_short b p i has short h =
     elim (cases_lt i has.layout.variable) [
       | inl lt ↦ subst IsShort (has.variable i lt).1 (part_short has.layout b i short h)
@@ -93,7 +97,8 @@ data_short b p i has short h =
 -- A connection-oriented message is short if its parameters are short, and its data are short if its type has short pointers.
 abbrev IsLine : List Parameter → List ℕ → Layout → (ℕ × Message) → Type 0
 IsLine params payload l line =
-    layout_of line.0 ≡ Some l → called_of line.1 ≡ None → are_short params ≡ true → (l.long ≡ false → length payload ≤ 255) → HasShortParts line.1
+    layout_of line.0 ≡ Some l → called_of line.1 ≡ None → are_short params ≡ true → (l.long ≡ false → length payload ≤ 255)
+    → HasShortParts line.1
 
 abbrev long_of : Option Layout → Bool
 long_of None = false
@@ -144,10 +149,12 @@ without f payload params l = (
   ),
 )
 
-one : (f payload : List ℕ) (called : Address) (params : List Parameter) (l : Layout) → AreLines params payload l (with_called f called params)
+one : (f payload : List ℕ) (called : Address) (params : List Parameter) (l : Layout)
+    → AreLines params payload l (with_called f called params)
 one f payload called params l = (λ of_type none short few. record { payload = tt; params = short }, tt)
 
-both : (f : List ℕ) (called calling : Address) (payload : List ℕ) (params : List Parameter) (l : Layout) → AreLines params payload l (with_both f called calling payload params)
+both : (f : List ℕ) (called calling : Address) (payload : List ℕ) (params : List Parameter) (l : Layout)
+    → AreLines params payload l (with_both f called calling payload params)
 both f called calling payload params l = (
   λ of_type none short few. absurd cc,
   (
@@ -159,18 +166,23 @@ both f called calling payload params l = (
   ),
 )
 
-of_lines : (code : ℕ) (lines : List (ℕ × Message)) (payload : List ℕ) (params : List Parameter) (l : Layout) (m : Message) → AreLines params payload l lines → of_code code lines ≡ made m → IsLine params payload l (code, m)
+of_lines : (code : ℕ) (lines : List (ℕ × Message)) (payload : List ℕ) (params : List Parameter) (l : Layout) (m : Message)
+    → AreLines params payload l lines → of_code code lines ≡ made m → IsLine params payload l (code, m)
 of_lines code [] payload params l m all e = absurd cc
 of_lines code (line ∷ lines) payload params l m all e =
     elim (made_here (eqb code line.0) line.1 (of_code code lines) m e) [
-      | inl w ↦ subst (λ (x : Message). IsLine params payload l (code, x)) w.1 (subst (λ (n : ℕ). IsLine params payload l (n, line.1)) (sym (eqb-true _ _ w.0)) all.0)
+      | inl w ↦ subst (λ (x : Message). IsLine params payload l (code, x)) w.1
+          (subst (λ (n : ℕ). IsLine params payload l (n, line.1)) (sym (eqb-true _ _ w.0)) all.0)
       | inr w ↦ of_lines code lines payload params l m all.1 w
     ]
 
-of_parts : (code : ℕ) (f : List ℕ) (addresses : List Address) (payload : List ℕ) (params : List Parameter) (l : Layout) (m : Message) → message_of code f addresses payload params ≡ made m → IsLine params payload l (code, m)
+of_parts : (code : ℕ) (f : List ℕ) (addresses : List Address) (payload : List ℕ) (params : List Parameter) (l : Layout) (m : Message)
+    → message_of code f addresses payload params ≡ made m → IsLine params payload l (code, m)
 of_parts code f [] payload params l m e = of_lines code (without_address f payload params) payload params l m (without f payload params l) e
-of_parts code f (called ∷ []) payload params l m e = of_lines code (with_called f called params) payload params l m (one f payload called params l) e
-of_parts code f (called ∷ calling ∷ []) payload params l m e = of_lines code (with_both f called calling payload params) payload params l m (both f called calling payload params l) e
+of_parts code f (called ∷ []) payload params l m e = of_lines code (with_called f called params) payload params l m
+    (one f payload called params l) e
+of_parts code f (called ∷ calling ∷ []) payload params l m e = of_lines code (with_both f called calling payload params) payload params l m
+    (both f called calling payload params l) e
 of_parts code f (called ∷ calling ∷ other ∷ others) payload params l m e = absurd cc
 
 -- what is read from octets is short, unless it is connectionless

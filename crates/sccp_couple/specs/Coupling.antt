@@ -6,7 +6,8 @@ use Rattle.sccp_layout.specs.Parameter.{Parameter}
 use Rattle.sccp_message.specs.declared.message.Message.{Message}
 use Rattle.sccp_message.specs.declared.message.Message.TheVariants as messages
 use Rattle.sccp_couple.specs.declared.section.Section.{Section}
-use Rattle.sccp_couple.specs.Sections.{is_that, section_at, known, other_of, has_remote, is_established, is_near_of, changed, confirmed, released, without, without_both, with_pair, first_new, second_new}
+use Rattle.sccp_couple.specs.Sections.{is_that, section_at, known, other_of, has_remote, is_established, is_near_of, changed, confirmed}
+use Rattle.sccp_couple.specs.Sections.{released, without, without_both, with_pair, first_new, second_new}
 use Rattle.sccp_couple.specs.declared.way.Way.{Way}
 use Rattle.sccp_couple.specs.declared.way.Way.TheVariants.{Refused, Onward}
 use Rattle.sccp_couple.specs.Events.{Event, Outcome, Answer}
@@ -84,7 +85,8 @@ on_refusal sections cause params (Some s) =
 abbrev pub on_data : List Section → Bool → List ℕ → Option Section → Outcome
 on_data sections more payload None = only_sends sections []
 on_data sections more payload (Some s) =
-    only_sends sections (if is_established sections s then toward (other_of sections s) (λ remote own. messages.Dt1 remote more payload) else [])
+    only_sends sections (if is_established sections s then toward (other_of sections s) (λ remote own. messages.Dt1 remote more payload)
+    else [])
 
 -- ---- RLSD: it is completed at once and its section ends; the other section is released, or ends too if it has no remote yet
 
@@ -124,7 +126,8 @@ abbrev pub on_message : List Section → ℕ → Way → Message → Outcome
 on_message sections origin way (messages.Cr slr class called params) = on_request sections origin slr class way
 on_message sections origin way (messages.Cc dlr slr class params) = on_confirm sections origin slr class params (known sections origin dlr)
 on_message sections origin way (messages.Cref dlr cause params) = on_refusal sections cause params (known sections origin dlr)
-on_message sections origin way (messages.Rlsd dlr slr cause params) = on_release sections origin dlr slr cause params (known sections origin dlr)
+on_message sections origin way (messages.Rlsd dlr slr cause params) = on_release sections origin dlr slr cause params
+    (known sections origin dlr)
 on_message sections origin way (messages.Rlc dlr slr) = on_complete sections slr (known sections origin dlr)
 on_message sections origin way (messages.Dt1 dlr more payload) = on_data sections more payload (known sections origin dlr)
 on_message sections origin way _ = only_sends sections []

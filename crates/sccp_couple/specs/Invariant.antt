@@ -14,9 +14,11 @@ pub record IsCoupling (sections : List Section) : Type 0 where
   pub least : (own : ℕ) (s : Section) → section_at sections own ≡ Some s → 1 ≤ own
   pub most : (own : ℕ) (s : Section) → section_at sections own ≡ Some s → own ≤ 4096
   -- `other` is mutual, and joins a near and a far section
-  pub joined : (own : ℕ) (s : Section) (other : ℕ) → section_at sections own ≡ Some s → s.other ≡ Some other → (t : Section) × (section_at sections other ≡ Some t) × (t.other ≡ Some own) × (t.near ≡ not s.near)
+  pub joined : (own : ℕ) (s : Section) (other : ℕ) → section_at sections own ≡ Some s → s.other ≡ Some other
+      → (t : Section) × (section_at sections other ≡ Some t) × (t.other ≡ Some own) × (t.near ≡ not s.near)
   -- near sections have a remote, and differ in point and remote
   pub near_has_remote : (own : ℕ) (s : Section) → section_at sections own ≡ Some s → s.near ≡ true → s.remote ≢ None
-  pub near_differ : (own with_own : ℕ) (s t : Section) → section_at sections own ≡ Some s → section_at sections with_own ≡ Some t → s.near ≡ true → t.near ≡ true → s.point ≡ t.point → s.remote ≡ t.remote → own ≡ with_own
+  pub near_differ : (own with_own : ℕ) (s t : Section) → section_at sections own ≡ Some s → section_at sections with_own ≡ Some t
+      → s.near ≡ true → t.near ≡ true → s.point ≡ t.point → s.remote ≡ t.remote → own ≡ with_own
   -- a section without other, which is being released, has a remote
   pub released_has_remote : (own : ℕ) (s : Section) → section_at sections own ≡ Some s → s.other ≡ None → s.remote ≢ None

@@ -26,7 +26,8 @@ pub record IsAlone (sections : List Section) (own to dlr : ℕ) : Type 0 where
 -- the event adds this piece to what is sent to the section `own` of the standing pair
 abbrev pub AddsAt : List Section → Event → Pair → ℕ → Piece → Type 0
 AddsAt sections event p own piece =
-    ((own ≡ p.near) × (sent_in sections p.near p.far event ≡ piece ∷ [])) ⊎ ((own ≡ p.far) × (sent_in sections p.far p.near event ≡ piece ∷ []))
+    ((own ≡ p.near) × (sent_in sections p.near p.far event ≡ piece ∷ []))
+    ⊎ ((own ≡ p.far) × (sent_in sections p.far p.near event ≡ piece ∷ []))
 
 -- a DT1 goes to one section only, and that is one of the pair whose `sent` lists have the DT1
 pub record IsAddressed (m : Moment) (event : Event) (sent : Answer) (d : Data) : Type 0 where

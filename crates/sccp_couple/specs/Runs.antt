@@ -93,7 +93,8 @@ made_if false near far = []
 -- the pair that the event makes: the two sections that now have the two smallest references unused before
 abbrev pub made : List Section → Event → List Pair
 made sections event =
-    made_if (is_joined (coupled sections event).sections (first_new sections) (second_new sections)) (first_new sections) (second_new sections)
+    made_if (is_joined (coupled sections event).sections (first_new sections) (second_new sections)) (first_new sections)
+    (second_new sections)
 
 -- a node at one moment of a run: its sections, and the pairs so far in the order of their CRs
 pub record Moment : Type 0 where

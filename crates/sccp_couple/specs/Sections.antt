@@ -1,5 +1,6 @@
 -- The connection sections of a node (ITU-T Q.714 section 3), as a list in the order in which they were made.
-use Rattle.std.specs.Prelude.{ℕ, ◌==◌, ◌+◌, Bool, true, false, not, ◌&&◌, if◌then◌else◌, List, [], ◌∷◌, ◌++◌, length, map, filter, find, Option, Some, None, is_some, option_and_then, slice_index}
+use Rattle.std.specs.Prelude.{ℕ, ◌==◌, ◌+◌, Bool, true, false, not, ◌&&◌, if◌then◌else◌, List, [], ◌∷◌, ◌++◌, length, map, filter, find}
+use Rattle.std.specs.Prelude.{Option, Some, None, is_some, option_and_then, slice_index}
 use Rattle.std.specs.List.{list_any, range_with_len}
 use Rattle.sccp_couple.specs.declared.section.Section.{Section}
 

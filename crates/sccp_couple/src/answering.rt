@@ -26,8 +26,11 @@ fn confirm_known(
     confirm: &ConnectionConfirm,
 ) -> Result<List<Sent>, OutOfMemory>
     requires { are_short confirm.now.params.now ≡ true }
-    ensures state { OnOk result (sections.new ≡ (on_confirm sections.old confirm.now.origin confirm.now.slr confirm.now.class confirm.now.params.now (Some section.now)).sections) }
-    ensures sent { IfOk result (λ sent. sent ≡ map written_sent (on_confirm sections.old confirm.now.origin confirm.now.slr confirm.now.class confirm.now.params.now (Some section.now)).sent) }
+    ensures state { OnOk result
+        (sections.new ≡ (on_confirm sections.old confirm.now.origin confirm.now.slr confirm.now.class confirm.now.params.now
+        (Some section.now)).sections) }
+    ensures sent { IfOk result (λ sent. sent ≡ map written_sent
+        (on_confirm sections.old confirm.now.origin confirm.now.slr confirm.now.class confirm.now.params.now (Some section.now)).sent) }
     ensures err { OnErr result (sections.new ≡ sections.old) }
 {
     if !section.near && section.remote.is_none() {
@@ -49,8 +52,12 @@ pub(crate) fn on_confirm(
     confirm: &ConnectionConfirm,
 ) -> Result<List<Sent>, OutOfMemory>
     requires { are_short confirm.now.params.now ≡ true }
-    ensures state { OnOk result (sections.new ≡ (on_confirm sections.old confirm.now.origin confirm.now.slr confirm.now.class confirm.now.params.now (known sections.old confirm.now.origin confirm.now.dlr)).sections) }
-    ensures sent { IfOk result (λ sent. sent ≡ map written_sent (on_confirm sections.old confirm.now.origin confirm.now.slr confirm.now.class confirm.now.params.now (known sections.old confirm.now.origin confirm.now.dlr)).sent) }
+    ensures state { OnOk result
+        (sections.new ≡ (on_confirm sections.old confirm.now.origin confirm.now.slr confirm.now.class confirm.now.params.now
+        (known sections.old confirm.now.origin confirm.now.dlr)).sections) }
+    ensures sent { IfOk result (λ sent. sent ≡ map written_sent
+        (on_confirm sections.old confirm.now.origin confirm.now.slr confirm.now.class confirm.now.params.now
+        (known sections.old confirm.now.origin confirm.now.dlr)).sent) }
     ensures err { OnErr result (sections.new ≡ sections.old) }
 {
     match sections.known(confirm.origin, confirm.dlr) {
@@ -92,7 +99,8 @@ pub(crate) fn on_refusal(
 ) -> Result<List<Sent>, OutOfMemory>
     requires { are_short params.now ≡ true }
     ensures state { OnOk result (sections.new ≡ (on_refusal sections.old cause params.now (known sections.old origin dlr)).sections) }
-    ensures sent { IfOk result (λ sent. sent ≡ map written_sent (on_refusal sections.old cause params.now (known sections.old origin dlr)).sent) }
+    ensures sent { IfOk result (λ sent. sent ≡ map written_sent
+        (on_refusal sections.old cause params.now (known sections.old origin dlr)).sent) }
     ensures err { OnErr result (sections.new ≡ sections.old) }
 {
     match sections.known(origin, dlr) {

@@ -68,8 +68,10 @@ impl Exchange {
         requires node { self.old.node < length plan.now.nodes }
         requires short { HasShortParts message.now }
         ensures node { self.new.node ≡ self.old.node }
-        ensures sections { OnOk result (self.new.sections ≡ (coupled self.old.sections (event_of plan.now self.old.node marking.now origin message.now)).sections) }
-        ensures sent { IfOk result (λ sent. sent ≡ map written_sent (coupled self.old.sections (event_of plan.now self.old.node marking.now origin message.now)).sent) }
+        ensures sections { OnOk result (self.new.sections
+            ≡ (coupled self.old.sections (event_of plan.now self.old.node marking.now origin message.now)).sections) }
+        ensures sent { IfOk result (λ sent. sent ≡ map written_sent
+            (coupled self.old.sections (event_of plan.now self.old.node marking.now origin message.now)).sent) }
         ensures err { OnErr result (self.new ≡ self.old) }
     {
         let alloc = self.alloc;

@@ -23,7 +23,8 @@ pub fn all_is_sent()
 /// The DT1 that answers an event, after any run, is what the event adds to the lists sent to the sides of all pairs. There is
 /// at most one such DT1, so it goes to one side of one pair.
 pub fn each_is_of_one_pair()
-    ensures shared { (events : List Event) (event : Event) → flat_map (added (after events).sections event) (after events).pairs ≡ answered (after events).sections event }
+    ensures shared { (events : List Event) (event : Event)
+        → flat_map (added (after events).sections event) (after events).pairs ≡ answered (after events).sections event }
     ensures one { (events : List Event) (event : Event) → length (answered (after events).sections event) ≤ 1 }
 {}
 
@@ -35,6 +36,7 @@ pub fn none_is_made_up()
 /// Each DT1 that answers an event goes to only one section, if no two sections share both point and remote reference. That
 /// section is one of the pair to which the DT1 was sent.
 pub fn each_goes_to_one_section()
-    ensures { (events : List Event) (event : Event) (sent : Answer) (d : Data) → AreApart (after events).sections → Contains (coupled (after events).sections event).sent sent
+    ensures { (events : List Event) (event : Event) (sent : Answer) (d : Data) → AreApart (after events).sections
+        → Contains (coupled (after events).sections event).sent sent
         → data_of sent.message ≡ Some d → IsAddressed (after events) event sent d }
 {}

@@ -33,7 +33,8 @@ fn counted(alloc: Global, param: &Param) -> Result<Param, OutOfMemory>
 
 /// The parameter as it goes on: one less if it is the first hop counter.
 fn next_of(alloc: Global, param: &Param, is_first: bool) -> Result<Param, OutOfMemory>
-    ensures { IfOk result (λ next. next ≡ (if is_first && (param.now.name == names.hops) then parameter param.now.name (counted param.now.octets) else param.now)) }
+    ensures { IfOk result (λ next. next ≡ (if is_first && (param.now.name == names.hops)
+        then parameter param.now.name (counted param.now.octets) else param.now)) }
 {
     if is_first && param.name() == HOPS {
         counted(alloc, param)

@@ -37,7 +37,8 @@ fn complete_and_release(
     remote: Reference,
 ) -> Result<List<Sent>, OutOfMemory>
     requires { are_short released.now.params.now ≡ true }
-    ensures { IfOk result (λ sent. sent ≡ map written_sent (to_one released.now.origin (Message.Rlc released.now.slr released.now.dlr) ++ to_one other.now.point (Message.Rlsd remote other.now.own released.now.cause released.now.params.now))) }
+    ensures { IfOk result (λ sent. sent ≡ map written_sent (to_one released.now.origin (Message.Rlc released.now.slr released.now.dlr)
+        ++ to_one other.now.point (Message.Rlsd remote other.now.own released.now.cause released.now.params.now))) }
 {
     let params = copied_params(alloc, released.params)?;
     let completed = Message::Rlc {
@@ -63,8 +64,13 @@ fn release_both(
 ) -> Result<List<Sent>, OutOfMemory>
     requires short { are_short released.now.params.now ≡ true }
     requires other { section.now.other ≡ Some other }
-    ensures state { OnOk result (sections.new ≡ (release sections.old section.now (to_one released.now.origin (Message.Rlc released.now.slr released.now.dlr)) released.now.cause released.now.params.now (Some other)).sections) }
-    ensures sent { IfOk result (λ sent. sent ≡ map written_sent (release sections.old section.now (to_one released.now.origin (Message.Rlc released.now.slr released.now.dlr)) released.now.cause released.now.params.now (Some other)).sent) }
+    ensures state { OnOk result
+        (sections.new ≡ (release sections.old section.now
+        (to_one released.now.origin (Message.Rlc released.now.slr released.now.dlr)) released.now.cause released.now.params.now
+        (Some other)).sections) }
+    ensures sent { IfOk result (λ sent. sent ≡ map written_sent
+        (release sections.old section.now (to_one released.now.origin
+        (Message.Rlc released.now.slr released.now.dlr)) released.now.cause released.now.params.now (Some other)).sent) }
     ensures err { OnErr result (sections.new ≡ sections.old) }
 {
     match sections.at(other) {
@@ -97,8 +103,12 @@ fn release_known(
     released: &Released,
 ) -> Result<List<Sent>, OutOfMemory>
     requires { are_short released.now.params.now ≡ true }
-    ensures state { OnOk result (sections.new ≡ (on_release sections.old released.now.origin released.now.dlr released.now.slr released.now.cause released.now.params.now (Some section.now)).sections) }
-    ensures sent { IfOk result (λ sent. sent ≡ map written_sent (on_release sections.old released.now.origin released.now.dlr released.now.slr released.now.cause released.now.params.now (Some section.now)).sent) }
+    ensures state { OnOk result
+        (sections.new ≡ (on_release sections.old released.now.origin released.now.dlr released.now.slr released.now.cause
+        released.now.params.now (Some section.now)).sections) }
+    ensures sent { IfOk result (λ sent. sent ≡ map written_sent
+        (on_release sections.old released.now.origin released.now.dlr released.now.slr released.now.cause released.now.params.now
+        (Some section.now)).sent) }
     ensures err { OnErr result (sections.new ≡ sections.old) }
 {
     if section.remote != Some(released.slr) {
@@ -121,8 +131,12 @@ pub(crate) fn on_release(
     released: &Released,
 ) -> Result<List<Sent>, OutOfMemory>
     requires { are_short released.now.params.now ≡ true }
-    ensures state { OnOk result (sections.new ≡ (on_release sections.old released.now.origin released.now.dlr released.now.slr released.now.cause released.now.params.now (known sections.old released.now.origin released.now.dlr)).sections) }
-    ensures sent { IfOk result (λ sent. sent ≡ map written_sent (on_release sections.old released.now.origin released.now.dlr released.now.slr released.now.cause released.now.params.now (known sections.old released.now.origin released.now.dlr)).sent) }
+    ensures state { OnOk result
+        (sections.new ≡ (on_release sections.old released.now.origin released.now.dlr released.now.slr released.now.cause
+        released.now.params.now (known sections.old released.now.origin released.now.dlr)).sections) }
+    ensures sent { IfOk result (λ sent. sent ≡ map written_sent
+        (on_release sections.old released.now.origin released.now.dlr released.now.slr released.now.cause released.now.params.now
+        (known sections.old released.now.origin released.now.dlr)).sent) }
     ensures err { OnErr result (sections.new ≡ sections.old) }
 {
     match sections.known(released.origin, released.dlr) {

@@ -33,8 +33,10 @@ fn go_on(
 ) -> Result<List<Sent>, OutOfMemory>
     requires called { length (written called) ≤ 21 }
     requires params { are_short params ≡ true }
-    ensures state { OnOk result (sections.new ≡ (request_goes sections.old request.now.origin request.now.slr request.now.class (Onward to called params)).sections) }
-    ensures sent { IfOk result (λ sent. sent ≡ map written_sent (request_goes sections.old request.now.origin request.now.slr request.now.class (Onward to called params)).sent) }
+    ensures state { OnOk result (sections.new ≡ (request_goes sections.old request.now.origin request.now.slr request.now.class
+        (Onward to called params)).sections) }
+    ensures sent { IfOk result (λ sent. sent ≡ map written_sent
+        (request_goes sections.old request.now.origin request.now.slr request.now.class (Onward to called params)).sent) }
     ensures err { OnErr result (sections.new ≡ sections.old) }
 {
     if 4094 < sections.list().as_slice().len() {
@@ -68,8 +70,13 @@ pub(crate) fn on_request(
 ) -> Result<List<Sent>, OutOfMemory>
     requires node { control.now.node < length control.now.plan.now.nodes }
     requires short { are_short request.now.params.now ≡ true }
-    ensures state { OnOk result (sections.new ≡ (on_request sections.old request.now.origin request.now.slr request.now.class (request_way control.now.plan.now control.now.node control.now.marking.now request.now.class request.now.called.now request.now.params.now)).sections) }
-    ensures sent { IfOk result (λ sent. sent ≡ map written_sent (on_request sections.old request.now.origin request.now.slr request.now.class (request_way control.now.plan.now control.now.node control.now.marking.now request.now.class request.now.called.now request.now.params.now)).sent) }
+    ensures state { OnOk result (sections.new ≡ (on_request sections.old request.now.origin request.now.slr request.now.class
+        (request_way control.now.plan.now control.now.node control.now.marking.now request.now.class request.now.called.now
+        request.now.params.now)).sections) }
+    ensures sent { IfOk result (λ sent. sent ≡ map written_sent
+        (on_request sections.old request.now.origin request.now.slr request.now.class
+        (request_way control.now.plan.now control.now.node control.now.marking.now request.now.class request.now.called.now
+        request.now.params.now)).sent) }
     ensures err { OnErr result (sections.new ≡ sections.old) }
 {
     if sections.has_near(request.origin, request.slr) {

@@ -2,7 +2,8 @@
 ghost use Rattle.std.specs.Prelude.{◌≡◌, [], Some, OnOk, OnErr, IfOk, IfSome};
 ghost use Rattle.std.specs.List.{list_any};
 ghost use Rattle.sccp_couple.specs.Invariant.{OwnDiffer};
-ghost use Rattle.sccp_couple.specs.Sections.{section_at, known, other_of, is_established, is_near_of, changed, confirmed, released, without, without_both, with_pair, first_new, second_new};
+ghost use Rattle.sccp_couple.specs.Sections.{section_at, known, other_of, is_established, is_near_of, changed, confirmed, released};
+ghost use Rattle.sccp_couple.specs.Sections.{without, without_both, with_pair, first_new, second_new};
 
 use crate::finding::{confirm, end, has_near, release, section_at, section_here};
 use crate::making::make_pair;

@@ -144,7 +144,8 @@ fn after_step(
     requires spot { spot_of control.now.node request.now.called.now ≡ Some spot.now }
     requires at { spot.now.node ≡ control.now.node }
     requires short { are_short request.now.params.now ≡ true }
-    ensures value { IfOk result (λ way. way ≡ after_step control.now.plan.now control.now.node request.now.called.now request.now.params.now step.now) }
+    ensures value { IfOk result
+        (λ way. way ≡ after_step control.now.plan.now control.now.node request.now.called.now request.now.params.now step.now) }
     ensures room { IfOk result HasRoom }
 {
     let called = request.called;
@@ -177,7 +178,9 @@ fn translated(
 ) -> Result<Way, OutOfMemory>
     requires node { control.now.node < length control.now.plan.now.nodes }
     requires short { are_short request.now.params.now ≡ true }
-    ensures value { IfOk result (λ way. way ≡ translated control.now.plan.now control.now.node control.now.marking.now request.now.called.now request.now.params.now (spot_of control.now.node request.now.called.now)) }
+    ensures value { IfOk result
+        (λ way. way ≡ translated control.now.plan.now control.now.node control.now.marking.now request.now.called.now request.now.params.now
+        (spot_of control.now.node request.now.called.now)) }
     ensures room { IfOk result HasRoom }
 {
     let Some(spot) = spot(control.node, request.called) else {
@@ -195,7 +198,9 @@ pub(crate) fn request_way(
 ) -> Result<Way, OutOfMemory>
     requires node { control.now.node < length control.now.plan.now.nodes }
     requires short { are_short request.now.params.now ≡ true }
-    ensures value { IfOk result (λ way. way ≡ request_way control.now.plan.now control.now.node control.now.marking.now request.now.class request.now.called.now request.now.params.now) }
+    ensures value { IfOk result
+        (λ way. way ≡ request_way control.now.plan.now control.now.node control.now.marking.now request.now.class request.now.called.now
+        request.now.params.now) }
     ensures room { IfOk result HasRoom }
 {
     if request.class & 0x0F != 2 {

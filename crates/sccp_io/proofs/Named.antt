@@ -14,13 +14,15 @@ pub file_at-in : (files : List (String Global × Vec ℕ Global)) (place : ℕ) 
 file_at-in files place file within is =
     ap (λ f. option_map_or (λ (g : File). g.1) f [])
     (slice_get-map (λ (g : String Global × Vec ℕ Global). (string_bytes g.0, g.1.items)) files place
-    ∙ ap (option_map (λ (g : String Global × Vec ℕ Global). (string_bytes g.0, g.1.items))) (slice_get-get_or files place file within ∙ ap Some (sym is)))
+    ∙ ap (option_map (λ (g : String Global × Vec ℕ Global). (string_bytes g.0, g.1.items))) (slice_get-get_or files place file within
+    ∙ ap Some (sym is)))
 
 head_named : (file : File) (files : List File) (name : List ℕ) → bytes_eq file.0 name ≡ true → file_named (file ∷ files) name ≡ Some file.1
 head_named file files name same = ap (λ b. cond b (Some file.1) (file_named files name)) same
 
 -- the file at that place is the first one from there on that has the name
-pub named_from : (files : List (String Global × Vec ℕ Global)) (place : ℕ) (name : List ℕ) (file : String Global × Vec ℕ Global) → place < length files
+pub named_from : (files : List (String Global × Vec ℕ Global)) (place : ℕ) (name : List ℕ) (file : String Global × Vec ℕ Global)
+    → place < length files
     → file ≡ get_or files place file → bytes_eq (string_bytes file.0) name ≡ true
     → file_named (files_in (drop place files)) name ≡ Some (file_at (files_in files) place)
 named_from files place name file within is same =

@@ -1,5 +1,6 @@
 -- What an object of files shows: the contents by name, and what is left of an open file.
-use Rattle.std.specs.Prelude.{◌≡◌, ℕ, ◌≤◌, List, length, take, Bool, false, IsTrue, Option, Some, None, is_none, option_and_then, Result, IfOk, OnOk, OnErr, IsErrOf, ⊤}
+use Rattle.std.specs.Prelude.{◌≡◌, ℕ, ◌≤◌, List, length, take, Bool, false, IsTrue, Option, Some, None, is_none, option_and_then, Result}
+use Rattle.std.specs.Prelude.{IfOk, OnOk, OnErr, IsErrOf, ⊤}
 use Rattle.std.specs.Io.KnownBytes.{prepend_known, IsAtEnd}
 use Rattle.sccp_io.specs.Faults.{Rose, HasCause, NeverFails}
 use Rattle.sccp_io.specs.declared.fault.IoFault.{IoFault}
@@ -36,7 +37,8 @@ pub record BeginsFile {T : Type 0} (name : List ℕ) (result : Result T IoFault)
 
 -- The front of the buffer has the next octets of the file, 0 of them only at its end. Or the call failed, and what was left
 -- before still is. It never answers want of memory, and a sound object does not fail.
-pub record TakesNext (buffer : List ℕ) (result : Result ℕ IoFault) (sound : Bool) (left left' : Option (List ℕ)) (faults faults' : ℕ) : Type 0 where
+pub record TakesNext (buffer : List ℕ) (result : Result ℕ IoFault) (sound : Bool) (left left' : Option (List ℕ))
+    (faults faults' : ℕ) : Type 0 where
   pub bound : IfOk result (λ count. count ≤ length buffer)
   pub next : IfOk result (λ count. left ≡ prepend_known (take count buffer) left')
   pub end : IfOk result (λ count. count ≡ 0 → IsAtEnd left')

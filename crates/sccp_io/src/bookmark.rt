@@ -22,7 +22,8 @@ impl Bookmark {
 
     /// Opens the first file of that name, if there is one, and says whether there is.
     pub fn begin(&mut self, files: &[(String, Vec<u8>)], name: &str) -> bool
-        ensures begun { result ≡ true → file_named (files_in files.now) name.now ≡ Some (left_of (files_in files.now) self.new.place self.new.from) }
+        ensures begun { result ≡ true → file_named (files_in files.now) name.now
+            ≡ Some (left_of (files_in files.now) self.new.place self.new.from) }
         ensures absent { result ≡ false → file_named (files_in files.now) name.now ≡ None }
         ensures same { result ≡ false → self.new ≡ self.old }
     {

@@ -109,7 +109,8 @@ impl Files for MemoryFiles {
     }
 
     fn begin_beside(&mut self, name: &str) -> Result<(), IoFault>
-        ensures begins { BeginsFile name.now result (Some (file_named self.old.files)) false (Some self.old.left_beside) (Some self.new.left_beside)
+        ensures begins { BeginsFile name.now result (Some (file_named self.old.files)) false (Some self.old.left_beside)
+            (Some self.new.left_beside)
             self.old.faults self.new.faults }
         ensures other { self.new.left ≡ self.old.left }
         ensures contents { self.new.files ≡ self.old.files }

@@ -9,7 +9,8 @@ use Rattle.sccp_layout.specs.Splitting.{parts_by, parts_of}
 use Rattle.sccp_layout.specs.Joining.{joining}
 
 -- RLC, and RLC without its last octet
-release_complete : parts_of (0x05 ∷ 0x11 ∷ 0x00 ∷ 0x00 ∷ 0x01 ∷ 0x00 ∷ 0x00 ∷ []) ≡ Ok (record { code = 5; fixed = 0x11 ∷ 0x00 ∷ 0x00 ∷ 0x01 ∷ 0x00 ∷ 0x00 ∷ []; variable = []; params = [] })
+release_complete : parts_of (0x05 ∷ 0x11 ∷ 0x00 ∷ 0x00 ∷ 0x01 ∷ 0x00 ∷ 0x00 ∷ [])
+    ≡ Ok (record { code = 5; fixed = 0x11 ∷ 0x00 ∷ 0x00 ∷ 0x01 ∷ 0x00 ∷ 0x00 ∷ []; variable = []; params = [] })
 unfolding parts_by
 release_complete = refl
 
@@ -35,7 +36,13 @@ xudt = record { fixed = 2; variable = 3; optional = true; long = false }
 
 -- a called address of `called` octets, a calling one of 4, data of 230 octets, and optional parameters
 abbrev extended : ℕ → List Parameter → Parts
-extended called params = record { code = 17; fixed = 0 ∷ 15 ∷ []; variable = replicate called 0 ∷ replicate 4 0 ∷ replicate 230 0 ∷ []; params = params }
+extended called params = record {
+  code = 17;
+  fixed = 0 ∷ 15 ∷ [];
+  variable = replicate called 0 ∷ replicate 4 0 ∷ replicate 230 0
+      ∷ [];
+  params = params;
+}
 
 -- The pointer to the optional part would be 257; without parameters it is 0. A parameter that is too long is reported first.
 too_far : joining xudt (extended 19 (parameter 0x12 (3 ∷ []) ∷ [])) ≡ Err (PointerTooFar 3)

@@ -1,6 +1,7 @@
 -- A message from its parts (ITU-T Q.713 sections 1 and 2). They follow in pointer order without gaps, the optional part
 -- last. This order is this project's choice.
-use Rattle.std.specs.Prelude.{ℕ, ◌+◌, ◌-◌, ◌/◌, ◌%◌, ◌&&◌, ◌==◌, nat_le, Bool, true, false, if◌then◌else◌, List, [], ◌∷◌, ◌++◌, length, Option, Some, None, option_map, Result, Ok, Err}
+use Rattle.std.specs.Prelude.{ℕ, ◌+◌, ◌-◌, ◌/◌, ◌%◌, ◌&&◌, ◌==◌, nat_le, Bool, true, false, if◌then◌else◌, List, [], ◌∷◌, ◌++◌, length}
+use Rattle.std.specs.Prelude.{Option, Some, None, option_map, Result, Ok, Err}
 use Rattle.std.specs.Option.{option_or}
 use Rattle.std.specs.List.{flat_map, list_all}
 use Rattle.sccp_layout.specs.declared.shape.Layout.{Layout}
@@ -53,7 +54,8 @@ pointers_to l i place (piece ∷ others) = pointer_to l i place piece ∷ pointe
 
 -- the type, the fixed part, the pointers, and what they point to
 abbrev pub joined : Layout → Parts → List ℕ
-joined l p = p.code ∷ p.fixed ++ flat_map (number_octets l.long) (pointers_to l 0 (after_pointers l) (pieces l p)) ++ flat_map (λ piece. piece) (pieces l p)
+joined l p = p.code ∷ p.fixed ++ flat_map (number_octets l.long) (pointers_to l 0 (after_pointers l) (pieces l p))
+    ++ flat_map (λ piece. piece) (pieces l p)
 
 -- What cannot be written.
 
@@ -65,7 +67,8 @@ most two = if two then 65535 else 255
 -- variable ones
 abbrev pub first_long : Layout → ℕ → List (List ℕ) → List Parameter → Option ℕ
 first_long l i [] params = if list_all (λ p. nat_le (length p.octets) 255) params then None else Some i
-first_long l i (part ∷ parts) params = if nat_le (length part) (most (l.long && (i == 2))) then first_long l (i + 1) parts params else Some i
+first_long l i (part ∷ parts) params = if nat_le (length part) (most (l.long && (i == 2))) then first_long l (i + 1) parts params
+    else Some i
 
 -- the first pointer, from pointer i on, whose value does not fit
 abbrev pub first_far : Layout → ℕ → List ℕ → Option ℕ
@@ -74,7 +77,8 @@ first_far l i (n ∷ ns) = if nat_le n (most l.long) then first_far l (i + 1) ns
 
 -- the first fault; a part that is too long is reported before a pointer that does not fit
 abbrev pub join_fault : Layout → Parts → Option JoinFault
-join_fault l p = option_or (option_map TooLong (first_long l 0 p.variable p.params)) (option_map PointerTooFar (first_far l 0 (pointers_to l 0 (after_pointers l) (pieces l p))))
+join_fault l p = option_or (option_map TooLong (first_long l 0 p.variable p.params))
+    (option_map PointerTooFar (first_far l 0 (pointers_to l 0 (after_pointers l) (pieces l p))))
 
 -- the octets, or the first fault
 abbrev pub joining : Layout → Parts → Result (List ℕ) JoinFault

@@ -1,6 +1,7 @@
 -- The parts of a message (ITU-T Q.713 sections 1 and 2). Parts may follow in any order, overlap or leave gaps after the
 -- pointers, and what follows the last one is ignored (profile).
-use Rattle.std.specs.Prelude.{◌≡◌, ◌≢◌, ℕ, ◌+◌, ◌<◌, ◌≤◌, ◌⊎◌, IsTrue, true, false, List, [], ◌∷◌, ◌++◌, length, drop, slice_get, slice_range, Some}
+use Rattle.std.specs.Prelude.{◌≡◌, ◌≢◌, ℕ, ◌+◌, ◌<◌, ◌≤◌, ◌⊎◌, IsTrue, true, false, List, [], ◌∷◌, ◌++◌, length, drop, slice_get}
+use Rattle.std.specs.Prelude.{slice_range, Some}
 use Rattle.std.specs.List.{flat_map, AllByRecursion}
 use Rattle.sccp_layout.specs.declared.shape.Layout.{Layout}
 use Rattle.sccp_layout.specs.declared.parts.Parts.{Parts}

@@ -1,5 +1,6 @@
 -- The places of the parts of a message (ITU-T Q.713 sections 1, 2.2 and 2.3). Places count octets; the type octet is at 0.
-use Rattle.std.specs.Prelude.{ℕ, zero, suc, ◌+◌, ◌*◌, Bool, false, not, ◌&&◌, ◌==◌, nat_le, nat_lt, if◌then◌else◌, List, [], ◌∷◌, length, slice_index, slice_range, Option, Some, None, option_map, option_and_then}
+use Rattle.std.specs.Prelude.{ℕ, zero, suc, ◌+◌, ◌*◌, Bool, false, not, ◌&&◌, ◌==◌, nat_le, nat_lt, if◌then◌else◌, List, [], ◌∷◌, length}
+use Rattle.std.specs.Prelude.{slice_index, slice_range, Option, Some, None, option_map, option_and_then}
 use Rattle.sccp_layout.specs.declared.shape.Layout.{Layout}
 use Rattle.sccp_layout.specs.Parameter.{Parameter, parameter}
 
@@ -49,7 +50,8 @@ listed_below zero b p = None
 listed_below (suc most) b p =
     if nat_le (length b) p then None
     else if slice_index b p == 0 then Some []
-    else option_and_then (λ octets. option_map (λ ps. parameter (slice_index b p) octets ∷ ps) (listed_below most b (p + 2 + length octets))) (contents false b (p + 1))
+    else option_and_then (λ octets. option_map (λ ps. parameter (slice_index b p) octets ∷ ps)
+    (listed_below most b (p + 2 + length octets))) (contents false b (p + 1))
 
 -- The parameters from a place on. A message lists fewer parameters than it has octets.
 abbrev pub listed : List ℕ → ℕ → Option (List Parameter)

@@ -16,11 +16,24 @@ pub record Row : Type 0 where
 -- Code, octets of the fixed part, variable parts, addresses among them, whether an optional part may follow, and which
 -- parameters in it are known.
 abbrev pub type : ℕ → ℕ → ℕ → ℕ → Bool → List ℕ → Row
-type code fixed variable addresses optional known = record { code = code; layout = record { fixed = fixed; variable = variable; optional = optional; long = false }; addresses = addresses; known = known }
+type code fixed variable addresses optional known = record {
+  code = code;
+  layout = record
+      { fixed = fixed; variable = variable; optional = optional; long = false };
+  addresses = addresses;
+  known = known;
+}
 
 -- the same for a type whose pointers and length of data have two octets
 abbrev pub long_type : ℕ → ℕ → ℕ → ℕ → Bool → List ℕ → Row
-long_type code fixed variable addresses optional known = record { code = code; layout = record { fixed = fixed; variable = variable; optional = optional; long = true }; addresses = addresses; known = known }
+long_type code fixed variable addresses optional known =
+    record {
+      code = code;
+      layout = record
+          { fixed = fixed; variable = variable; optional = optional; long = true };
+      addresses = addresses;
+      known = known;
+    }
 
 -- a layout whose pointers have one octet
 abbrev pub short_layout : ℕ → ℕ → Bool → Option Layout

@@ -4,7 +4,8 @@ ghost use Rattle.std.specs.List.{flat_map, AllByRecursion};
 ghost use Rattle.sccp_layout.specs.Table.{layout_of};
 ghost use Rattle.sccp_layout.specs.Places.{after_pointers};
 ghost use Rattle.sccp_layout.specs.Parts.{parts_made, Fits, FitsLayout, HasParts};
-ghost use Rattle.sccp_layout.specs.Joining.{most, number_octets, spelled_parts, spelled_parameter, spelled_list, optional_pieces, pointers_to, first_long, with_number, with_numbers, are_short, joining, Gives};
+ghost use Rattle.sccp_layout.specs.Joining.{most, number_octets, spelled_parts, spelled_parameter, spelled_list, optional_pieces};
+ghost use Rattle.sccp_layout.specs.Joining.{pointers_to, first_long, with_number, with_numbers, are_short, joining, Gives};
 ghost use Rattle.sccp_layout.specs.declared.shape.Layout.{Layout};
 
 use crate::param::Param;

@@ -53,7 +53,8 @@ Among-append : (y : Mark) (xs ys : List Mark) → Among y (xs ++ ys) → Among y
 Among-append y [] ys m = inr m
 Among-append y (x ∷ xs) ys m = ⊎_elim (λ e. inl (inl e)) (λ n. ⊎_elim (λ l. inl (inr l)) (λ r. inr r) (Among-append y xs ys n)) m
 
-pub ascending_append : (xs ys : List Mark) → IsAscending xs → IsAscending ys → ((a b : Mark) → Among a xs → Among b ys → mark_cmp a b ≡ Less) → IsAscending (xs ++ ys)
+pub ascending_append : (xs ys : List Mark) → IsAscending xs → IsAscending ys
+    → ((a b : Mark) → Among a xs → Among b ys → mark_cmp a b ≡ Less) → IsAscending (xs ++ ys)
 ascending_append [] ys left right across = right
 ascending_append (x ∷ xs) ys left right across =
     ascending_cons x (xs ++ ys)
@@ -101,7 +102,8 @@ behind x xs ascending m =
       | false ↦ λ e. refl
     ] refl
 
-first_same : (x y : Mark) (xs ys : List Mark) → IsAscending (x ∷ xs) → IsAscending (y ∷ ys) → ((m : Mark) → holds (x ∷ xs) m ≡ holds (y ∷ ys) m) → x ≡ y
+first_same : (x y : Mark) (xs ys : List Mark) → IsAscending (x ∷ xs) → IsAscending (y ∷ ys)
+    → ((m : Mark) → holds (x ∷ xs) m ≡ holds (y ∷ ys) m) → x ≡ y
 first_same x y xs ys left right same =
     ⊎_elim
     (λ (e : y ≡ x). sym e)
@@ -164,8 +166,10 @@ same_turned a b = same_mark_equiv.symm a b ∙ same_mark_agrees b a
 
 pub holds-with : (marking : List Mark) (mark m : Mark) → holds (with_mark marking mark) m ≡ (same_mark mark m || holds marking m)
 holds-with marking mark m =
-    list_any-append (λ held. same_mark held m) (filter (λ held. is_lt (mark_cmp held mark)) marking) (mark ∷ filter (λ held. is_gt (mark_cmp held mark)) marking)
-    ∙ (λ i. holds-filter (λ held. is_lt (mark_cmp held mark)) marking m i || (same_turned mark m i || holds-filter (λ held. is_gt (mark_cmp held mark)) marking m i))
+    list_any-append (λ held. same_mark held m) (filter (λ held. is_lt (mark_cmp held mark)) marking)
+    (mark ∷ filter (λ held. is_gt (mark_cmp held mark)) marking)
+    ∙ (λ i. holds-filter (λ held. is_lt (mark_cmp held mark)) marking m i
+    || (same_turned mark m i || holds-filter (λ held. is_gt (mark_cmp held mark)) marking m i))
     ∙ by_order (mark_cmp m mark) (holds marking m)
     ∙ ap (λ b. b || holds marking m) (sym (same_turned mark m))
 
@@ -173,20 +177,28 @@ pub ascending_with : (marking : List Mark) (mark : Mark) → IsAscending marking
 ascending_with marking mark ascending =
     let before : List Mark = filter (λ held. is_lt (mark_cmp held mark)) marking in
     let after : List Mark = filter (λ held. is_gt (mark_cmp held mark)) marking in
-    let is_before : (a : Mark) → Among a before → mark_cmp a mark ≡ Less = λ a m. is_less _ (Among-unfilter (λ held. is_lt (mark_cmp held mark)) a marking m).1 in
-    let is_after : (a : Mark) → Among a after → mark_cmp mark a ≡ Less = λ a m. turned a mark (is_greater _ (Among-unfilter (λ held. is_gt (mark_cmp held mark)) a marking m).1) in
+    let is_before : (a : Mark) → Among a before → mark_cmp a mark ≡ Less =
+    λ a m. is_less _ (Among-unfilter (λ held. is_lt (mark_cmp held mark)) a marking m).1 in
+    let is_after : (a : Mark) → Among a after → mark_cmp mark a ≡ Less =
+    λ a m. turned a mark (is_greater _ (Among-unfilter (λ held. is_gt (mark_cmp held mark)) a marking m).1) in
     ascending_append before (mark ∷ after)
     (AllPairs-filter (λ a b. mark_cmp a b ≡ Less) (λ held. is_lt (mark_cmp held mark)) marking ascending)
-    (ascending_cons mark after is_after (AllPairs-filter (λ a b. mark_cmp a b ≡ Less) (λ held. is_gt (mark_cmp held mark)) marking ascending))
-    (λ a b m n. ⊎_elim (λ (e : mark ≡ b). subst (λ z. mark_cmp a z ≡ Less) e (is_before a m)) (λ (k : Among b after). mark_cmp_total.trans a mark b (is_before a m) (is_after b k)) n)
+    (ascending_cons mark after is_after (AllPairs-filter (λ a b. mark_cmp a b ≡ Less)
+    (λ held. is_gt (mark_cmp held mark)) marking ascending))
+    (λ a b m n. ⊎_elim (λ (e : mark ≡ b). subst (λ z. mark_cmp a z ≡ Less) e (is_before a m))
+    (λ (k : Among b after). mark_cmp_total.trans a mark b (is_before a m) (is_after b k)) n)
 
 pub ascending_without : (allowed : Mark → Bool) (marking : List Mark) → IsAscending marking → IsAscending (without_marks allowed marking)
 ascending_without allowed marking ascending = AllPairs-filter (λ a b. mark_cmp a b ≡ Less) (λ held. not (allowed held)) marking ascending
 
 -- what a change leaves is known by what it holds
-pub is_with : (before after : List Mark) (mark : Mark) → IsAscending before → IsAscending after → ((m : Mark) → holds after m ≡ (same_mark mark m || holds before m)) → after ≡ with_mark before mark
-is_with before after mark up up_after held = told_by_held after (with_mark before mark) up_after (ascending_with before mark up) (λ m. held m ∙ sym (holds-with before mark m))
+pub is_with : (before after : List Mark) (mark : Mark) → IsAscending before → IsAscending after
+    → ((m : Mark) → holds after m ≡ (same_mark mark m || holds before m)) → after ≡ with_mark before mark
+is_with before after mark up up_after held = told_by_held after (with_mark before mark) up_after (ascending_with before mark up)
+    (λ m. held m ∙ sym (holds-with before mark m))
 
-pub is_without : (before after : List Mark) (mark : Mark) → IsAscending before → IsAscending after → ((m : Mark) → holds after m ≡ (not (same_mark mark m) && holds before m)) → after ≡ without_marks (same_mark mark) before
+pub is_without : (before after : List Mark) (mark : Mark) → IsAscending before → IsAscending after
+    → ((m : Mark) → holds after m ≡ (not (same_mark mark m) && holds before m)) → after ≡ without_marks (same_mark mark) before
 is_without before after mark up up_after held =
-    told_by_held after (without_marks (same_mark mark) before) up_after (ascending_without (same_mark mark) before up) (λ m. held m ∙ sym (holds-filter (λ h. not (same_mark mark h)) before m))
+    told_by_held after (without_marks (same_mark mark) before) up_after (ascending_without (same_mark mark) before up) (λ m. held m
+    ∙ sym (holds-filter (λ h. not (same_mark mark h)) before m))

@@ -7,7 +7,8 @@ use Rattle.sccp_message.specs.Reading.{reading}
 use Rattle.sccp_message.specs.Written.{IsMessage}
 use Rattle.sccp_message.proofs.Octets.{written_again}
 use Rattle.sccp_manage.specs.declared.status.StatusKind.{StatusKind}
-use Rattle.sccp_manage.specs.declared.status.StatusKind.TheVariants.{Allowed, Prohibited, Test, OutOfServiceRequest, OutOfServiceGrant, Congested}
+use Rattle.sccp_manage.specs.declared.status.StatusKind.TheVariants.{Allowed, Prohibited, Test, OutOfServiceRequest, OutOfServiceGrant}
+use Rattle.sccp_manage.specs.declared.status.StatusKind.TheVariants.{Congested}
 use Rattle.sccp_manage.specs.declared.status.StatusMessage.{StatusMessage}
 use Rattle.sccp_manage.specs.Statuses.{code_of, kind_of, management, status, status_of, status_data, status_octets, status_unitdata}
 

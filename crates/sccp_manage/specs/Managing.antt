@@ -100,10 +100,12 @@ on_status m from (Some s) = on_kind m from s.kind s.pc s.ssn
 
 -- a subsystem of the node that is up goes down, or one that is down goes up
 abbrev pub on_down : Management → ℕ → Row
-on_down m ssn = if is_own m ssn && not (is_down m ssn) then row_of (marks.Subsystem m.own ssn ∷ []) no_mark (told m kinds.Prohibited ssn) else as_before
+on_down m ssn = if is_own m ssn && not (is_down m ssn) then row_of (marks.Subsystem m.own ssn ∷ []) no_mark (told m kinds.Prohibited ssn)
+    else as_before
 
 abbrev pub on_up : Management → ℕ → Row
-on_up m ssn = if is_own m ssn && is_down m ssn then row_of [] (same_mark (marks.Subsystem m.own ssn)) (told m kinds.Allowed ssn) else as_before
+on_up m ssn = if is_own m ssn && is_down m ssn then row_of [] (same_mark (marks.Subsystem m.own ssn)) (told m kinds.Allowed ssn)
+    else as_before
 
 -- the subsystem status test (SST) for a mark of another point: for its SCCP a test of management itself
 abbrev pub test_of : ℕ → List Mark → Mark → List Sent

@@ -7,7 +7,8 @@ use Rattle.sccp_message.specs.declared.message.Message.{Message}
 use Rattle.sccp_message.specs.declared.message.Message.TheVariants.{Udt}
 use Rattle.sccp_message.specs.Written.{message_octets}
 use Rattle.sccp_manage.specs.declared.status.StatusKind.{StatusKind}
-use Rattle.sccp_manage.specs.declared.status.StatusKind.TheVariants.{Allowed, Prohibited, Test, OutOfServiceRequest, OutOfServiceGrant, Congested}
+use Rattle.sccp_manage.specs.declared.status.StatusKind.TheVariants.{Allowed, Prohibited, Test, OutOfServiceRequest, OutOfServiceGrant}
+use Rattle.sccp_manage.specs.declared.status.StatusKind.TheVariants.{Congested}
 use Rattle.sccp_manage.specs.declared.status.StatusMessage.{StatusMessage}
 use Rattle.sccp_manage.specs.declared.sent.Sent.{Sent}
 

@@ -4,7 +4,8 @@ ghost use Rattle.sccp_base.specs.Marks.{point_of, same_mark};
 ghost use Rattle.sccp_manage.specs.declared.event.Event.TheVariants as events;
 ghost use Rattle.sccp_manage.specs.Statuses.{status, sent_to};
 ghost use Rattle.sccp_manage.specs.Markings.{IsOpenAt, with_marks, without_marks};
-ghost use Rattle.sccp_manage.specs.Managing.{IsMarked, IsManagement, IsNodeOf, is_down, is_own, left, managed, on_allowed, on_down, on_prohibited, on_status, on_test, on_up, row, told};
+ghost use Rattle.sccp_manage.specs.Managing.{IsMarked, IsManagement, IsNodeOf, is_down, is_own, left, managed, on_allowed, on_down};
+ghost use Rattle.sccp_manage.specs.Managing.{on_prohibited, on_status, on_test, on_up, row, told};
 
 use crate::event::Event;
 use crate::marking::{allow, allow_point, with_marks};
@@ -34,7 +35,8 @@ impl Model for Manager {
 
     ghost view = { λ m. record { own = m.own; subsystems = m.subsystems; concerned = m.concerned; marking = m.marking } };
 
-    ghost invariant = { λ m. IsManagement (record { own = m.own; subsystems = m.subsystems; concerned = m.concerned; marking = m.marking }) };
+    ghost invariant = { λ m. IsManagement
+        (record { own = m.own; subsystems = m.subsystems; concerned = m.concerned; marking = m.marking }) };
 }
 
 #[tactic(auto, using(crate::proofs::Left::left_as_it_was, crate::proofs::Left::left_with, crate::proofs::Left::left_without))]

@@ -1,5 +1,6 @@
 -- What the connectionless types of a kind have in common: their parts, and how a message is made of these.
-use Rattle.std.proofs.Common.{◌≡◌, ℕ, ◌-◌, Bool, true, false, ◌==◌, List, [], ◌∷◌, length, Some, Result, Ok, Err, refl, sym, ap, subst, ◌∙◌, inl, inr, ◌⊎◌}
+use Rattle.std.proofs.Common.{◌≡◌, ℕ, ◌-◌, Bool, true, false, ◌==◌, List, [], ◌∷◌, length, Some, Result, Ok, Err, refl, sym, ap, subst, ◌∙◌}
+use Rattle.std.proofs.Common.{inl, inr, ◌⊎◌}
 use Rattle.std.specs.Prelude.{⊤, ◌||◌, slice_get, unwrap_or}
 use Rattle.std.specs.Bool.{MatchBool}
 use Rattle.std.specs.Option.{ok_or}
@@ -22,7 +23,8 @@ use Rattle.sccp_message.specs.Reading.{part_of, address_in, fields_in, message_i
 
 -- the message of two addresses, data, and parameters, some of which are known
 abbrev pub unit_by : List ℕ → Parts → Result Message DecodeFault
-unit_by known p = all_ok (address_in p.variable) (range_with_len 0 2) >>= λ addresses. fields_in known p.params >>= λ params. ok_or (message_of p.code p.fixed addresses (part_of p.variable 2) params) (faults.Split split.UnknownType)
+unit_by known p = all_ok (address_in p.variable) (range_with_len 0 2) >>= λ addresses. fields_in known p.params >>= λ params. ok_or
+    (message_of p.code p.fixed addresses (part_of p.variable 2) params) (faults.Split split.UnknownType)
 
 either : (a b : Bool) → a || b ≡ true → (a ≡ true) ⊎ (b ≡ true)
 either true b e = inl refl
@@ -47,13 +49,16 @@ of_extended P a b c d code is = elim (either ((code == 0x11) || (code == 0x12) |
   | inr e ↦ subst P (sym (eqb-true _ _ e)) d
 ]
 
-pub plain_in : (code : ℕ) (f : List ℕ) (v : List (List ℕ)) (ps : List Parameter) → is_plain code ≡ true → message_if_of is_plain (parts_made code f v ps) ≡ unit_by [] (parts_made code f v ps)
+pub plain_in : (code : ℕ) (f : List ℕ) (v : List (List ℕ)) (ps : List Parameter) → is_plain code ≡ true
+    → message_if_of is_plain (parts_made code f v ps) ≡ unit_by [] (parts_made code f v ps)
 unfolding message_in
 plain_in code f v ps is = of_plain (λ k. message_if_of is_plain (parts_made k f v ps) ≡ unit_by [] (parts_made k f v ps)) refl refl code is
 
-pub extended_in : (code : ℕ) (f : List ℕ) (v : List (List ℕ)) (ps : List Parameter) → is_extended code ≡ true → message_if_of is_extended (parts_made code f v ps) ≡ unit_by (0x10 ∷ 0x12 ∷ []) (parts_made code f v ps)
+pub extended_in : (code : ℕ) (f : List ℕ) (v : List (List ℕ)) (ps : List Parameter) → is_extended code ≡ true
+    → message_if_of is_extended (parts_made code f v ps) ≡ unit_by (0x10 ∷ 0x12 ∷ []) (parts_made code f v ps)
 unfolding message_in
-extended_in code f v ps is = of_extended (λ k. message_if_of is_extended (parts_made k f v ps) ≡ unit_by (0x10 ∷ 0x12 ∷ []) (parts_made k f v ps)) refl refl refl refl code is
+extended_in code f v ps is = of_extended (λ k. message_if_of is_extended (parts_made k f v ps)
+    ≡ unit_by (0x10 ∷ 0x12 ∷ []) (parts_made k f v ps)) refl refl refl refl code is
 
 -- How many octets and parts there are.
 
@@ -66,15 +71,20 @@ fit l p e h = subst (λ k. Fits k p) (sym (same_layout l h.layout (sym e ∙ h.o
 abbrev HasUnit : ℕ → List ℕ → List (List ℕ) → List Parameter → ℕ → Type 0
 HasUnit count f v ps code = FitsLayout (parts_made code f v ps) → (length f ≡ count) × (length v ≡ 3)
 
-pub plain_fits : (code : ℕ) (f : List ℕ) (v : List (List ℕ)) (ps : List Parameter) → is_plain code ≡ true → FitsLayout (parts_made code f v ps) → (length f ≡ 1) × (length v ≡ 3) × (ps ≡ [])
+pub plain_fits : (code : ℕ) (f : List ℕ) (v : List (List ℕ)) (ps : List Parameter) → is_plain code ≡ true
+    → FitsLayout (parts_made code f v ps) → (length f ≡ 1) × (length v ≡ 3) × (ps ≡ [])
 plain_fits code f v ps is =
-    let each : (k : ℕ) → layout_of k ≡ Some (record { fixed = 1; variable = 3; optional = false; long = false }) → FitsLayout (parts_made k f v ps) → (length f ≡ 1) × (length v ≡ 3) × (ps ≡ []) = λ k e h. (let all = fit _ (parts_made k f v ps) e h in (all.fixed, all.variable, all.params refl)) in
+    let each : (k : ℕ) → layout_of k ≡ Some (record { fixed = 1; variable = 3; optional = false; long = false })
+    → FitsLayout (parts_made k f v ps) → (length f ≡ 1) × (length v ≡ 3)
+    × (ps ≡ []) = λ k e h. (let all = fit _ (parts_made k f v ps) e h in (all.fixed, all.variable, all.params refl)) in
     of_plain (λ k. FitsLayout (parts_made k f v ps) → (length f ≡ 1) × (length v ≡ 3) × (ps ≡ [])) (each 0x09 refl) (each 0x0A refl) code is
 
 pub extended_fits : (code : ℕ) (f : List ℕ) (v : List (List ℕ)) (ps : List Parameter) → is_extended code ≡ true → HasUnit 2 f v ps code
 extended_fits code f v ps is =
-    let short : (k : ℕ) → layout_of k ≡ Some (record { fixed = 2; variable = 3; optional = true; long = false }) → HasUnit 2 f v ps k = λ k e h. (let all = fit _ (parts_made k f v ps) e h in (all.fixed, all.variable)) in
-    let long : (k : ℕ) → layout_of k ≡ Some (record { fixed = 2; variable = 3; optional = true; long = true }) → HasUnit 2 f v ps k = λ k e h. (let all = fit _ (parts_made k f v ps) e h in (all.fixed, all.variable)) in
+    let short : (k : ℕ) → layout_of k ≡ Some (record { fixed = 2; variable = 3; optional = true; long = false })
+    → HasUnit 2 f v ps k = λ k e h. (let all = fit _ (parts_made k f v ps) e h in (all.fixed, all.variable)) in
+    let long : (k : ℕ) → layout_of k ≡ Some (record { fixed = 2; variable = 3; optional = true; long = true })
+    → HasUnit 2 f v ps k = λ k e h. (let all = fit _ (parts_made k f v ps) e h in (all.fixed, all.variable)) in
     of_extended (HasUnit 2 f v ps) (short 0x11 refl) (short 0x12 refl) (long 0x13 refl) (long 0x14 refl) code is
 
 -- A step that fails, and all steps that do not.
@@ -85,7 +95,8 @@ failed e = Err e
 same_fault : {A E : Type 0} (d e : E) → failed {A = A} d ≡ failed e → d ≡ e
 same_fault d e h = cc
 
-pub fails : {A B E : Type 0} (memory : Bool) (e : E) (r : Result A E) (f : A → Result B E) → MatchBool memory ⊤ (r ≡ Err e) → MatchBool memory ⊤ ((r >>= f) ≡ Err e)
+pub fails : {A B E : Type 0} (memory : Bool) (e : E) (r : Result A E) (f : A → Result B E) → MatchBool memory ⊤ (r ≡ Err e)
+    → MatchBool memory ⊤ ((r >>= f) ≡ Err e)
 fails true e r f h = tt
 fails false e (Ok x) f h = absurd cc
 fails false e (Err d) f h = ap Err (same_fault d e h)
@@ -93,11 +104,13 @@ fails false e (Err d) f h = ap Err (same_fault d e h)
 last_part : (v : List (List ℕ)) (payload : List ℕ) → length v ≡ 3 → slice_get v (length v - 1) ≡ Some payload → part_of v 2 ≡ payload
 last_part v payload l h = ap (λ o. unwrap_or o []) (subst (λ n. slice_get v (n - 1) ≡ Some payload) l h)
 
-pub unit_made : (known : List ℕ) (code : ℕ) (f : List ℕ) (v : List (List ℕ)) (ps tested : List Parameter) (called calling : Address) (payload : List ℕ) (m : Message)
+pub unit_made : (known : List ℕ) (code : ℕ) (f : List ℕ) (v : List (List ℕ)) (ps tested : List Parameter) (called calling : Address)
+    (payload : List ℕ) (m : Message)
     → length v ≡ 3
     → all_ok (address_in v) (range_with_len 0 2) ≡ Ok (called ∷ calling ∷ [])
     → slice_get v (length v - 1) ≡ Some payload
     → fields_in known ps ≡ Ok tested
     → Some m ≡ message_of code f (called ∷ calling ∷ []) payload tested
     → unit_by known (parts_made code f v ps) ≡ Ok m
-unit_made known code f v ps tested called calling payload m count addresses last fields made = rw (addresses, fields, last_part v payload count last, sym made) refl
+unit_made known code f v ps tested called calling payload m count addresses last fields made =
+    rw (addresses, fields, last_part v payload count last, sym made) refl

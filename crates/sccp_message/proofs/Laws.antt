@@ -22,7 +22,8 @@ use Rattle.sccp_message.specs.declared.fault.DecodeFault.{DecodeFault}
 use Rattle.sccp_message.specs.declared.fault.DecodeFault.TheVariants as faults
 use Rattle.sccp_message.specs.Fields.{first_unread}
 use Rattle.sccp_message.specs.Messages.{message_of}
-use Rattle.sccp_message.specs.Reading.{Gives, as_split, as_address, part_of, address_in, unread, fields_in, message_by, message_if, message_in, reading}
+use Rattle.sccp_message.specs.Reading.{Gives, as_split, as_address, part_of, address_in, unread, fields_in, message_by, message_if}
+use Rattle.sccp_message.specs.Reading.{message_in, reading}
 use Rattle.sccp_message.specs.Reads.{Reads}
 
 split_ok : {X : Type 0} (r : Result X SplitFault) (x : X) → as_split r ≡ Ok x → r ≡ Ok x
@@ -43,11 +44,15 @@ unread_ok (Some name) params ps e = absurd cc
 
 by_takes : (b : List ℕ) (p : Parts) (r : Row) (m : Message) → HasParts b p → row p.code ≡ Some r → message_by r p ≡ Ok m → Reads b m
 by_takes b p r m has of_type e =
-    let a = bind_ok (all_ok (address_in p.variable) (range_with_len 0 r.addresses)) (λ addresses. fields_in r.known p.params >>= λ params. ok_or (message_of p.code p.fixed addresses (part_of p.variable r.addresses) params) (faults.Split split.UnknownType)) m e in
-    let f = bind_ok (fields_in r.known p.params) (λ params. ok_or (message_of p.code p.fixed a.0 (part_of p.variable r.addresses) params) (faults.Split split.UnknownType)) m a.2 in
+    let a = bind_ok (all_ok (address_in p.variable) (range_with_len 0 r.addresses))
+    (λ addresses. fields_in r.known p.params >>= λ params. ok_or
+    (message_of p.code p.fixed addresses (part_of p.variable r.addresses) params) (faults.Split split.UnknownType)) m e in
+    let f = bind_ok (fields_in r.known p.params) (λ params. ok_or (message_of p.code p.fixed a.0 (part_of p.variable r.addresses) params)
+    (faults.Split split.UnknownType)) m a.2 in
     let u = unread_ok (first_unread r.known p.params) p.params f.0 f.1 in
     let made : message_of p.code p.fixed a.0 (part_of p.variable r.addresses) p.params ≡ Some m =
-    ap (message_of p.code p.fixed a.0 (part_of p.variable r.addresses)) u.1 ∙ some_ok (message_of p.code p.fixed a.0 (part_of p.variable r.addresses) f.0) (faults.Split split.UnknownType) m f.2 in
+    ap (message_of p.code p.fixed a.0 (part_of p.variable r.addresses)) u.1
+    ∙ some_ok (message_of p.code p.fixed a.0 (part_of p.variable r.addresses) f.0) (faults.Split split.UnknownType) m f.2 in
     record {
       parts = p;
       has_parts = has;
@@ -79,7 +84,8 @@ unfolding message_in
 message_again b m h =
     let p = h.parts in
     let r = h.type in
-    let addresses : all_ok (address_in p.variable) (range_with_len 0 r.addresses) ≡ Ok h.addresses = all_ok_from (address_in p.variable) 0 r.addresses h.addresses h.count (λ i lt.
+    let addresses : all_ok (address_in p.variable) (range_with_len 0 r.addresses) ≡ Ok h.addresses =
+    all_ok_from (address_in p.variable) 0 r.addresses h.addresses h.count (λ i lt.
     let x = h.each i lt in
     (x.0, x.1, ap (address_in p.variable) (zero-add i) ∙ ap (as_address i) (address_again (part_of p.variable i) x.0 x.2))) in
     let fields : fields_in r.known p.params ≡ Ok p.params = ap (λ (o : Option ℕ). unread o p.params) h.sound in

@@ -1,5 +1,6 @@
 -- What is made from parts has their code, addresses and parameters. So what is read is sound, and its fields are in range.
-use Rattle.std.proofs.Common.{◌≡◌, ℕ, suc, ◌+◌, ◌-◌, ◌<◌, Bool, true, false, cond, leb, eqb, ◌&&◌, List, [], ◌∷◌, length, drop, Option, Some, None, Result, Ok, Err, refl, sym, ap, subst, ◌∙◌, arith, inl, inr, ◌⊎◌}
+use Rattle.std.proofs.Common.{◌≡◌, ℕ, suc, ◌+◌, ◌-◌, ◌<◌, Bool, true, false, cond, leb, eqb, ◌&&◌, List, [], ◌∷◌, length, drop, Option}
+use Rattle.std.proofs.Common.{Some, None, Result, Ok, Err, refl, sym, ap, subst, ◌∙◌, arith, inl, inr, ◌⊎◌}
 use Rattle.std.specs.Prelude.{IfOk, slice_range, slice_get, unwrap_or}
 use Rattle.std.specs.List.{AllByRecursion}
 use Rattle.std.specs.Option.{option_map_or}
@@ -56,7 +57,16 @@ without f payload params = (
         (
           record { code_is = refl; addresses_are = refl; params_are = inr refl; sevens_fit = tt },
           (
-            record { code_is = refl; addresses_are = refl; params_are = inr refl; sevens_fit = (seven (octet f 3), (seven (octet f 4), tt)) },
+            record {
+              code_is = refl;
+              addresses_are = refl;
+              params_are = inr refl;
+              sevens_fit = (
+                seven
+                    (octet f 3),
+                (seven (octet f 4), tt),
+              );
+            },
             (
               record { code_is = refl; addresses_are = refl; params_are = inr refl; sevens_fit = (seven (octet f 3), tt) },
               (
@@ -70,7 +80,16 @@ without f payload params = (
                       (
                         record { code_is = refl; addresses_are = refl; params_are = inr refl; sevens_fit = tt },
                         (
-                          record { code_is = refl; addresses_are = refl; params_are = inr refl; sevens_fit = (seven (octet f 7), (seven (octet f 8), tt)) },
+                          record {
+                            code_is = refl;
+                            addresses_are = refl;
+                            params_are = inr refl;
+                            sevens_fit = (
+                              seven
+                                  (octet f 7),
+                              (seven (octet f 8), tt),
+                            );
+                          },
                           tt,
                         ),
                       ),
@@ -92,7 +111,8 @@ one f called params = (
   tt,
 )
 
-both : (f : List ℕ) (called calling : Address) (payload : List ℕ) (params : List Parameter) → AreMade (with_both f called calling payload params) (called ∷ calling ∷ []) params
+both : (f : List ℕ) (called calling : Address) (payload : List ℕ) (params : List Parameter)
+    → AreMade (with_both f called calling payload params) (called ∷ calling ∷ []) params
 both f called calling payload params = (
   record { code_is = refl; addresses_are = refl; params_are = inr refl; sevens_fit = tt },
   (
@@ -114,11 +134,13 @@ both f called calling payload params = (
 )
 
 -- In a list of messages by their codes, a line is the first one of its code, or it is among the others.
-pub made_here : (b : Bool) (x : Message) (others : Option Message) (m : Message) → cond b (made x) others ≡ made m → ((b ≡ true) × (x ≡ m)) ⊎ (others ≡ made m)
+pub made_here : (b : Bool) (x : Message) (others : Option Message) (m : Message) → cond b (made x) others ≡ made m
+    → ((b ≡ true) × (x ≡ m)) ⊎ (others ≡ made m)
 made_here true x others m e = inl (refl, made_is x m e)
 made_here false x others m e = inr e
 
-of_lines : (code : ℕ) (lines : List (ℕ × Message)) (addresses : List Address) (params : List Parameter) (m : Message) → AreMade lines addresses params → of_code code lines ≡ made m → Made code addresses params m
+of_lines : (code : ℕ) (lines : List (ℕ × Message)) (addresses : List Address) (params : List Parameter) (m : Message)
+    → AreMade lines addresses params → of_code code lines ≡ made m → Made code addresses params m
 of_lines code [] addresses params m all e = absurd cc
 of_lines code (line ∷ lines) addresses params m all e =
     elim (made_here (eqb code line.0) line.1 (of_code code lines) m e) [
@@ -126,10 +148,13 @@ of_lines code (line ∷ lines) addresses params m all e =
       | inr w ↦ of_lines code lines addresses params m all.1 w
     ]
 
-of_parts : (code : ℕ) (f : List ℕ) (addresses : List Address) (payload : List ℕ) (params : List Parameter) (m : Message) → message_of code f addresses payload params ≡ made m → Made code addresses params m
+of_parts : (code : ℕ) (f : List ℕ) (addresses : List Address) (payload : List ℕ) (params : List Parameter) (m : Message)
+    → message_of code f addresses payload params ≡ made m → Made code addresses params m
 of_parts code f [] payload params m e = of_lines code (without_address f payload params) [] params m (without f payload params) e
-of_parts code f (called ∷ []) payload params m e = of_lines code (with_called f called params) (called ∷ []) params m (one f called params) e
-of_parts code f (called ∷ calling ∷ []) payload params m e = of_lines code (with_both f called calling payload params) (called ∷ calling ∷ []) params m (both f called calling payload params) e
+of_parts code f (called ∷ []) payload params m e = of_lines code (with_called f called params) (called ∷ []) params m
+    (one f called params) e
+of_parts code f (called ∷ calling ∷ []) payload params m e = of_lines code (with_both f called calling payload params)
+    (called ∷ calling ∷ []) params m (both f called calling payload params) e
 of_parts code f (called ∷ calling ∷ other ∷ others) payload params m e = absurd cc
 
 -- What is read is sound.
@@ -138,14 +163,17 @@ unread_none : (names : List ℕ) → first_unread names [] ≡ None
 unread_none [] = refl
 unread_none (name ∷ names) = unread_none names
 
-sound_of : (code : ℕ) (params : List Parameter) (m : Message) → (content m).code ≡ code → ((content m).params ≡ params) ⊎ ((content m).params ≡ []) → first_unread (option_map_or (λ r. r.known) (row code) []) params ≡ None → Sound m
+sound_of : (code : ℕ) (params : List Parameter) (m : Message) → (content m).code ≡ code
+    → ((content m).params ≡ params) ⊎ ((content m).params ≡ []) → first_unread (option_map_or (λ r. r.known) (row code) []) params ≡ None
+    → Sound m
 sound_of code params m is (inl same) none = rw (is, same) none
 sound_of code params m is (inr empty) none = rw empty (unread_none (option_map_or (λ r. r.known) (row (content m).code) []))
 
 pub reads_sound : (b : List ℕ) (m : Message) → Reads b m → Sound m
 reads_sound b m h =
     let made_of = of_parts h.parts.code h.parts.fixed h.addresses _ h.parts.params m h.fields in
-    let known : first_unread (option_map_or (λ r. r.known) (row h.parts.code) []) h.parts.params ≡ None = ap (λ (o : Option Row). first_unread (option_map_or (λ r. r.known) o []) h.parts.params) h.of_type ∙ h.sound in
+    let known : first_unread (option_map_or (λ r. r.known) (row h.parts.code) []) h.parts.params ≡ None =
+    ap (λ (o : Option Row). first_unread (option_map_or (λ r. r.known) o []) h.parts.params) h.of_type ∙ h.sound in
     sound_of h.parts.code h.parts.params m made_of.code_is made_of.params_are known
 
 pub answer_sound : (b : List ℕ) (r : Result Message DecodeFault) → IfOk r (λ m. Reads b m) → IfOk r (λ m. Sound m)
@@ -181,11 +209,13 @@ named_of l b params (inr w) = w.2.named
 
 -- The fields of what is read are in their ranges.
 
-named_again : (m : Message) (params : List Parameter) → ((content m).params ≡ params) ⊎ ((content m).params ≡ []) → AreNamed params → AreNamed (content m).params
+named_again : (m : Message) (params : List Parameter) → ((content m).params ≡ params) ⊎ ((content m).params ≡ []) → AreNamed params
+    → AreNamed (content m).params
 named_again m params (inl same) named = rw same named
 named_again m params (inr empty) named = rw empty tt
 
-all_of : (xs : List Address) → ((i : ℕ) → i < length xs → (a : Address) × (slice_get xs i ≡ Some a) × IsAddress a) → AllByRecursion IsAddress xs
+all_of : (xs : List Address) → ((i : ℕ) → i < length xs → (a : Address) × (slice_get xs i ≡ Some a) × IsAddress a)
+    → AllByRecursion IsAddress xs
 all_of [] each = tt
 all_of (x ∷ xs) each =
     let first = each 0 (omega arith) in

@@ -1,5 +1,6 @@
 -- What is written for a message: when it can be written, which octets it has, and that these say which message it is.
-use Rattle.std.proofs.Common.{◌≡◌, ℕ, Bool, true, false, eqb, List, [], ◌∷◌, length, Option, Some, None, Result, Ok, Err, refl, sym, ap, subst, ◌∙◌, inl, inr, arith}
+use Rattle.std.proofs.Common.{◌≡◌, ℕ, Bool, true, false, eqb, List, [], ◌∷◌, length, Option, Some, None, Result, Ok, Err, refl, sym, ap}
+use Rattle.std.proofs.Common.{subst, ◌∙◌, inl, inr, arith}
 use Rattle.std.specs.Prelude.{IfOk, IsSome, IsTrue, option_map, ◌||◌, ◌&&◌}
 use Rattle.std.proofs.lemmas.Bool.{and_parts, eqb-true}
 use Rattle.std.proofs.lemmas.Slice.Eq.{bytes_eq-Decides}
@@ -17,7 +18,8 @@ use Rattle.sccp_message.specs.declared.fault.DecodeFault.{DecodeFault}
 use Rattle.sccp_message.specs.declared.encode_fault.EncodeFault.{EncodeFault}
 use Rattle.sccp_message.specs.Reading.{reading}
 use Rattle.sccp_message.specs.Reads.{Reads}
-use Rattle.sccp_message.specs.Written.{Content, content, sevens, parts_with, parts_from, message_octets, Sound, AreAddresses, AreNamed, AreSevens, IsMessage, Writable, Canonical}
+use Rattle.sccp_message.specs.Written.{Content, content, sevens, parts_with, parts_from, message_octets, Sound, AreAddresses, AreNamed}
+use Rattle.sccp_message.specs.Written.{AreSevens, IsMessage, Writable, Canonical}
 use Rattle.sccp_message.specs.Encoding.{Gives, as_join, encoding_by, encoding, fits_type, fits, is_written, is_written_of, canonical}
 use Rattle.sccp_message.proofs.Laws.{message_takes, message_again}
 use Rattle.sccp_message.proofs.Writing.{typed, written_reads}
@@ -29,13 +31,16 @@ pub octets_at : (m : Message) → message_octets m ≡ joined (typed m).type.lay
 octets_at m = rw (typed m).of_type refl
 
 -- what join answers for parts is what encode answers for them
-gives_joining : (r whole : Result (List ℕ) JoinFault) → JoinGives (λ octets. octets) r whole → Gives (λ octets. octets) (as_join r) (as_join whole)
+gives_joining : (r whole : Result (List ℕ) JoinFault) → JoinGives (λ octets. octets) r whole
+    → Gives (λ octets. octets) (as_join r) (as_join whole)
 gives_joining (Ok octets) whole h = ap as_join h
 gives_joining (Err (joins.TooLong part)) whole h = ap as_join h
 gives_joining (Err (joins.PointerTooFar i)) whole h = ap as_join h
 gives_joining (Err joins.OutOfMemory) whole h = tt
 
-gives_by : (o : Option Row) (p : Parts) (r : Result (List ℕ) JoinFault) → IsSome o → ((l : Layout) → option_map (λ line. line.layout) o ≡ Some l → JoinGives (λ octets. octets) r (joining l p)) → Gives (λ octets. octets) (as_join r) (encoding_by o p)
+gives_by : (o : Option Row) (p : Parts) (r : Result (List ℕ) JoinFault) → IsSome o
+    → ((l : Layout) → option_map (λ line. line.layout) o ≡ Some l → JoinGives (λ octets. octets) r (joining l p))
+    → Gives (λ octets. octets) (as_join r) (encoding_by o p)
 gives_by None p r some exact = absurd cc
 gives_by (Some line) p r some exact = gives_joining r (joining line.layout p) (exact line.layout refl)
 
@@ -43,7 +48,9 @@ some_by : (o : Option Row) (l : Layout) → option_map (λ line. line.layout) o 
 some_by None l e = absurd cc
 some_by (Some line) l e = refl
 
-pub gives_from : (p : Parts) (r : Result (List ℕ) JoinFault) → FitsLayout p → ((l : Layout) → layout_of p.code ≡ Some l → JoinGives (λ octets. octets) r (joining l p)) → Gives (λ octets. octets) (as_join r) (encoding_by (row p.code) p)
+pub gives_from : (p : Parts) (r : Result (List ℕ) JoinFault) → FitsLayout p
+    → ((l : Layout) → layout_of p.code ≡ Some l → JoinGives (λ octets. octets) r (joining l p))
+    → Gives (λ octets. octets) (as_join r) (encoding_by (row p.code) p)
 gives_from p r h exact = gives_by (row p.code) p r (some_by (row p.code) h.layout h.of_type) exact
 
 -- What a message is made of fits its type.
@@ -66,7 +73,12 @@ fits_by c r e test =
     record {
       layout = r.layout;
       of_type = rw e refl;
-      fits = record { fixed = eqb-true _ _ front.0; variable = eqb-true _ _ front.1; params = none_unless r.layout.optional c.params both.1 };
+      fits = record {
+        fixed = eqb-true _ _ front.0;
+        variable = eqb-true _ _ front.1;
+        params = none_unless r.layout.optional c.params
+            both.1;
+      };
     }
 
 fits_at : (c : Content) (o : Option Row) → row c.code ≡ o → fits_type o c ≡ true → FitsLayout (parts_with c)
@@ -104,11 +116,13 @@ encoding_of : (m : Message) → Writable m → encoding m ≡ Ok (message_octets
 encoding_of m writable =
     let t = typed m in
     let none : join_fault t.type.layout (parts_from m) ≡ None = rw t.of_type at writable in
-    encoding_at m ∙ ap (λ (o : Option JoinFault). as_join (unless o (Ok (joined t.type.layout (parts_from m))))) none ∙ ap ok (sym (octets_at m))
+    encoding_at m ∙ ap (λ (o : Option JoinFault). as_join (unless o (Ok (joined t.type.layout (parts_from m))))) none
+    ∙ ap ok (sym (octets_at m))
 
 -- What encode answers.
 
-pub answer_found : (m : Message) (r : Result (List ℕ) EncodeFault) → Gives (λ octets. octets) r (encoding m) → IfOk r (λ octets. octets ≡ message_octets m)
+pub answer_found : (m : Message) (r : Result (List ℕ) EncodeFault) → Gives (λ octets. octets) r (encoding m)
+    → IfOk r (λ octets. octets ≡ message_octets m)
 answer_found m (Ok octets) h = (encoding_ok m octets h).1
 answer_found m (Err e) h = tt
 
@@ -116,18 +130,22 @@ pub answer_writable : (m : Message) (r : Result (List ℕ) EncodeFault) → Give
 answer_writable m (Ok octets) h = (encoding_ok m octets h).0
 answer_writable m (Err e) h = tt
 
-pub answer_only : (m : Message) (r : Result (List ℕ) EncodeFault) → Gives (λ octets. octets) r (encoding m) → Writable m → Gives (λ octets. octets) r (Ok (message_octets m))
+pub answer_only : (m : Message) (r : Result (List ℕ) EncodeFault) → Gives (λ octets. octets) r (encoding m) → Writable m
+    → Gives (λ octets. octets) r (Ok (message_octets m))
 answer_only m r h writable = subst (λ f. Gives (λ octets. octets) r f) (encoding_of m writable) h
 
-pub answer_again : (m : Message) (r : Result (List ℕ) EncodeFault) → Gives (λ octets. octets) r (encoding m) → IfOk r (λ _. AreNamed (content m).params) → AreSevens (sevens m)
+pub answer_again : (m : Message) (r : Result (List ℕ) EncodeFault) → Gives (λ octets. octets) r (encoding m)
+    → IfOk r (λ _. AreNamed (content m).params) → AreSevens (sevens m)
     → AreAddresses (content m).addresses → Sound m → IfOk r (λ octets. Reads octets m)
 answer_again m (Ok octets) h named sevens_fit addresses sound =
-    subst (λ (b : List ℕ). Reads b m) (sym (answer_found m (Ok octets) h)) (written_reads m (record { addresses = addresses; named = named; sevens_fit = sevens_fit }) sound)
+    subst (λ (b : List ℕ). Reads b m) (sym (answer_found m (Ok octets) h))
+    (written_reads m (record { addresses = addresses; named = named; sevens_fit = sevens_fit }) sound)
 answer_again m (Err e) h named sevens_fit addresses sound = tt
 
 -- Canonical octets.
 
-written_takes : (b : List ℕ) (m : Message) (w : Result (List ℕ) EncodeFault) → reading b ≡ Ok m → encoding m ≡ w → is_written b w ≡ true → Canonical b
+written_takes : (b : List ℕ) (m : Message) (w : Result (List ℕ) EncodeFault) → reading b ≡ Ok m → encoding m ≡ w → is_written b w ≡ true
+    → Canonical b
 written_takes b m (Ok octets) reads writes test =
     let same = encoding_ok m octets writes in
     record { message = m; reads = message_takes b m reads; writable = same.0; same = sym ((bytes_eq-Decides octets b).0 test) ∙ same.1 }
@@ -141,7 +159,8 @@ canonical_takes : (b : List ℕ) → canonical b ≡ true → Canonical b
 canonical_takes b test = read_takes b (reading b) refl test
 
 canonical_again : (b : List ℕ) → Canonical b → canonical b ≡ true
-canonical_again b h = ap (is_written_of b) (message_again b h.message h.reads) ∙ ap (is_written b) (encoding_of h.message h.writable) ∙ (bytes_eq-Decides (message_octets h.message) b).1 (sym h.same)
+canonical_again b h = ap (is_written_of b) (message_again b h.message h.reads) ∙ ap (is_written b) (encoding_of h.message h.writable)
+    ∙ (bytes_eq-Decides (message_octets h.message) b).1 (sym h.same)
 
 pub answer_yes : {E : Type 0} (b : List ℕ) (r : Result Bool E) → IfOk r (λ is. is ≡ canonical b) → IfOk r (λ is. IsTrue is → Canonical b)
 answer_yes b (Ok is) h = λ yes. canonical_takes b (sym h ∙ yes)
@@ -163,4 +182,5 @@ pub written_again : (m : Message) → IsMessage m → Sound m → reading (messa
 written_again m is sound = message_again (message_octets m) m (written_reads m is sound)
 
 pub equal_again : (m n : Message) → IsMessage m → Sound m → IsMessage n → Sound n → message_octets m ≡ message_octets n → m ≡ n
-equal_again m n is_m sound_m is_n sound_n same = read_is m n (sym (written_again m is_m sound_m) ∙ ap reading same ∙ written_again n is_n sound_n)
+equal_again m n is_m sound_m is_n sound_n same = read_is m n (sym (written_again m is_m sound_m) ∙ ap reading same
+    ∙ written_again n is_n sound_n)

@@ -1,5 +1,6 @@
 -- Of canonical octets, only the whole is a message.
-use Rattle.std.proofs.Common.{◌≡◌, ℕ, ◌+◌, ◌≤◌, List, length, take, Option, Some, None, Result, Ok, Err, refl, sym, ap, subst, ◌∙◌, zero-add, arith}
+use Rattle.std.proofs.Common.{◌≡◌, ℕ, ◌+◌, ◌≤◌, List, length, take, Option, Some, None, Result, Ok, Err, refl, sym, ap, subst, ◌∙◌}
+use Rattle.std.proofs.Common.{zero-add, arith}
 use Rattle.std.specs.Prelude.{IfOk, slice_get}
 use Rattle.std.specs.Result.{result_err}
 use Rattle.std.proofs.lemmas.List.{take_all}
@@ -33,7 +34,8 @@ cut_is_whole b n c none =
     let read = read_of (reading (take n b)) none in
     let cut = message_takes (take n b) read.0 read.1 in
     let whole = c.same ∙ octets_at m in
-    let less = cut_has_no_parts t.type.layout (parts_from m) cut.parts n (rw t.of_type refl) (fits_of m t) (reads_named b m c.reads) (subst (λ (x : List ℕ). HasParts (take n x) cut.parts) whole cut.has_parts) in
+    let less = cut_has_no_parts t.type.layout (parts_from m) cut.parts n (rw t.of_type refl) (fits_of m t) (reads_named b m c.reads)
+    (subst (λ (x : List ℕ). HasParts (take n x) cut.parts) whole cut.has_parts) in
     omega (arith, less, ap length whole)
 
 whole_is_read : (b : List ℕ) → Canonical b → first_fault (take (length b) b) ≡ None
@@ -45,10 +47,12 @@ some fault = Some fault
 same_fault : (e f : Option DecodeFault) → some e ≡ some f → e ≡ f
 same_fault e f h = cc
 
-pub answer_whole_alone : {E : Type 0} (b : List ℕ) (r : Result (List (Option DecodeFault)) E) → IfOk r (λ faults. faults ≡ surveyed b) → IfOk r (λ faults. Canonical b → IsWholeAlone b faults)
+pub answer_whole_alone : {E : Type 0} (b : List ℕ) (r : Result (List (Option DecodeFault)) E) → IfOk r (λ faults. faults ≡ surveyed b)
+    → IfOk r (λ faults. Canonical b → IsWholeAlone b faults)
 answer_whole_alone b (Err e) h = tt
 answer_whole_alone b (Ok faults) h = λ c n le.
-    let at : slice_get faults n ≡ some (first_fault (take n b)) = ap (λ (x : List (Option DecodeFault)). slice_get x n) h ∙ surveyed_at b n le in (
+    let at : slice_get faults n ≡ some (first_fault (take n b)) = ap (λ (x : List (Option DecodeFault)). slice_get x n) h
+    ∙ surveyed_at b n le in (
       λ none. let less = cut_is_whole b n c (same_fault (first_fault (take n b)) None (sym at ∙ none)) in omega (arith, le, less),
       λ same. at ∙ ap some (ap (λ (k : ℕ). first_fault (take k b)) same ∙ whole_is_read b c),
     )

@@ -48,7 +48,8 @@ encoding m = encoding_with (content m)
 -- What a message is made of has as many octets and parts as its type. It has parameters only if the type may have some.
 abbrev pub fits_type : Option Row → Content → Bool
 fits_type None c = false
-fits_type (Some r) c = (length c.fixed == r.layout.fixed) && (length (parts_with c).variable == r.layout.variable) && (r.layout.optional || (length c.params == 0))
+fits_type (Some r) c = (length c.fixed == r.layout.fixed) && (length (parts_with c).variable == r.layout.variable)
+    && (r.layout.optional || (length c.params == 0))
 
 -- the same, for the type of its code
 abbrev pub fits : Content → Bool

@@ -22,7 +22,8 @@ has_parameters code = (code == 0x01) || (code == 0x02) || (code == 0x03) || (cod
 
 -- connection-oriented, with fixed fields only, or with these and data
 abbrev pub has_no_parameters : ℕ → Bool
-has_no_parameters code = (code == 0x05) || (code == 0x06) || (code == 0x07) || (code == 0x08) || (code == 0x0B) || (code == 0x0C) || (code == 0x0D) || (code == 0x0E) || (code == 0x0F) || (code == 0x10)
+has_no_parameters code = (code == 0x05) || (code == 0x06) || (code == 0x07) || (code == 0x08) || (code == 0x0B) || (code == 0x0C)
+    || (code == 0x0D) || (code == 0x0E) || (code == 0x0F) || (code == 0x10)
 
 -- the message of parts of a kind; another code is unknown there
 abbrev pub message_if_of : (ℕ → Bool) → Parts → Result Message DecodeFault

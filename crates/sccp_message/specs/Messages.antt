@@ -24,8 +24,11 @@ without_address f payload params =
     (0x0C, messages.Ea (reference_at f 0)) ∷
     (0x0D, messages.Rsr (reference_at f 0) (reference_at f 3) (octet f 6)) ∷
     (0x0E, messages.Rsc (reference_at f 0) (reference_at f 3)) ∷
-    (0x0F, messages.Err (reference_at f 0) (octet f 3)) ∷
-    (0x10, messages.It (reference_at f 0) (reference_at f 3) (octet f 6) (bits (octet f 7) 2 8) (bits (octet f 8) 2 8) (bit (octet f 8) 1) (octet f 9)) ∷
+    (0x0F, messages.Err (reference_at f 0) (octet f 3)) ∷ (
+      0x10,
+      messages.It (reference_at f 0) (reference_at f 3) (octet f 6) (bits (octet f 7) 2 8) (bits (octet f 8) 2 8) (bit (octet f 8) 1)
+          (octet f 9),
+    ) ∷
     []
 
 -- the type with a called address

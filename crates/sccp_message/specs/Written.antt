@@ -23,7 +23,8 @@ pub record Content : Type 0 where
 
 -- these five together
 abbrev pub made_of : ℕ → List ℕ → List Address → Option (List ℕ) → List Parameter → Content
-made_of code fixed addresses payload params = record { code = code; fixed = fixed; addresses = addresses; payload = payload; params = params }
+made_of code fixed addresses payload params =
+    record { code = code; fixed = fixed; addresses = addresses; payload = payload; params = params }
 
 -- what each type of message is made of
 abbrev pub content : Message → Content
@@ -33,7 +34,8 @@ content (messages.Cref dlr cause params) = made_of 0x03 (reference_octets dlr ++
 content (messages.Rlsd dlr slr cause params) = made_of 0x04 (reference_octets dlr ++ reference_octets slr ++ cause ∷ []) [] None params
 content (messages.Rlc dlr slr) = made_of 0x05 (reference_octets dlr ++ reference_octets slr) [] None []
 content (messages.Dt1 dlr more payload) = made_of 0x06 (reference_octets dlr ++ flag more ∷ []) [] (Some payload) []
-content (messages.Dt2 dlr send receive more payload) = made_of 0x07 (reference_octets dlr ++ (2 * send) ∷ (2 * receive + flag more) ∷ []) [] (Some payload) []
+content (messages.Dt2 dlr send receive more payload) = made_of 0x07 (reference_octets dlr ++ (2 * send) ∷ (2 * receive + flag more) ∷ [])
+    [] (Some payload) []
 content (messages.Ak dlr receive credit) = made_of 0x08 (reference_octets dlr ++ (2 * receive) ∷ credit ∷ []) [] None []
 content (messages.Udt class called calling payload) = made_of 0x09 (class ∷ []) (called ∷ calling ∷ []) (Some payload) []
 content (messages.Udts cause called calling payload) = made_of 0x0A (cause ∷ []) (called ∷ calling ∷ []) (Some payload) []
@@ -42,11 +44,16 @@ content (messages.Ea dlr) = made_of 0x0C (reference_octets dlr) [] None []
 content (messages.Rsr dlr slr cause) = made_of 0x0D (reference_octets dlr ++ reference_octets slr ++ cause ∷ []) [] None []
 content (messages.Rsc dlr slr) = made_of 0x0E (reference_octets dlr ++ reference_octets slr) [] None []
 content (messages.Err dlr cause) = made_of 0x0F (reference_octets dlr ++ cause ∷ []) [] None []
-content (messages.It dlr slr class send receive more credit) = made_of 0x10 (reference_octets dlr ++ reference_octets slr ++ class ∷ (2 * send) ∷ (2 * receive + flag more) ∷ credit ∷ []) [] None []
-content (messages.Xudt class hops called calling payload params) = made_of 0x11 (class ∷ hops ∷ []) (called ∷ calling ∷ []) (Some payload) params
-content (messages.Xudts cause hops called calling payload params) = made_of 0x12 (cause ∷ hops ∷ []) (called ∷ calling ∷ []) (Some payload) params
-content (messages.Ludt class hops called calling payload params) = made_of 0x13 (class ∷ hops ∷ []) (called ∷ calling ∷ []) (Some payload) params
-content (messages.Ludts cause hops called calling payload params) = made_of 0x14 (cause ∷ hops ∷ []) (called ∷ calling ∷ []) (Some payload) params
+content (messages.It dlr slr class send receive more credit) =
+    made_of 0x10 (reference_octets dlr ++ reference_octets slr ++ class ∷ (2 * send) ∷ (2 * receive + flag more) ∷ credit ∷ []) [] None []
+content (messages.Xudt class hops called calling payload params) = made_of 0x11 (class ∷ hops ∷ []) (called ∷ calling ∷ [])
+    (Some payload) params
+content (messages.Xudts cause hops called calling payload params) = made_of 0x12 (cause ∷ hops ∷ []) (called ∷ calling ∷ [])
+    (Some payload) params
+content (messages.Ludt class hops called calling payload params) = made_of 0x13 (class ∷ hops ∷ []) (called ∷ calling ∷ [])
+    (Some payload) params
+content (messages.Ludts cause hops called calling payload params) = made_of 0x14 (cause ∷ hops ∷ []) (called ∷ calling ∷ [])
+    (Some payload) params
 
 -- the sequence numbers, which have seven bits
 abbrev pub sevens : Message → List ℕ

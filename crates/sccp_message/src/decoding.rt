@@ -40,7 +40,8 @@ macro_rules! field {
 
 // The message of a code. A line for each type has its fields.
 macro_rules! by_code {
-    ($alloc:ident $code:ident $fixed:ident $variable:ident; $($value:literal $variant:ident { $($field:ident: $kind:ident $place:tt),* })*) => {
+    ($alloc:ident $code:ident $fixed:ident $variable:ident; $($value:literal $variant:ident
+        { $($field:ident: $kind:ident $place:tt),* })*) => {
         match $code {
             $($value => Ok(Message::$variant {
                 $($field: field!(($alloc $fixed $variable) $kind $place)),*
@@ -135,7 +136,8 @@ fn plain(
     params: List<Param>,
 ) -> Result<Message, DecodeFault>
     requires { FitsLayout (record { code = code; fixed = fixed.now; variable = variable.now; params = params }) }
-    ensures { Gives (λ m. m) result (message_if_of is_plain (record { code = code; fixed = fixed.now; variable = variable.now; params = params })) }
+    ensures { Gives (λ m. m) result (message_if_of is_plain
+        (record { code = code; fixed = fixed.now; variable = variable.now; params = params })) }
 {
     if !plain_code(code) {
         return Err(DecodeFault::Split(SplitFault::UnknownType));
@@ -208,7 +210,8 @@ fn extended(
     params: List<Param>,
 ) -> Result<Message, DecodeFault>
     requires { FitsLayout (record { code = code; fixed = fixed.now; variable = variable.now; params = params }) }
-    ensures { Gives (λ m. m) result (message_if_of is_extended (record { code = code; fixed = fixed.now; variable = variable.now; params = params })) }
+    ensures { Gives (λ m. m) result (message_if_of is_extended
+        (record { code = code; fixed = fixed.now; variable = variable.now; params = params })) }
 {
     if !extended_code(code) {
         return Err(DecodeFault::Split(SplitFault::UnknownType));
@@ -319,7 +322,8 @@ fn with_parameters(
     params: List<Param>,
 ) -> Result<Message, DecodeFault>
     requires { FitsLayout (record { code = code; fixed = fixed.now; variable = variable.now; params = params }) }
-    ensures { Gives (λ m. m) result (message_if_of has_parameters (record { code = code; fixed = fixed.now; variable = variable.now; params = params })) }
+    ensures { Gives (λ m. m) result (message_if_of has_parameters
+        (record { code = code; fixed = fixed.now; variable = variable.now; params = params })) }
 {
     match code {
         0x01 => request(alloc, fixed, variable, params),
@@ -356,7 +360,8 @@ fn without_parameters(
     params: List<Param>,
 ) -> Result<Message, DecodeFault>
     requires { FitsLayout (record { code = code; fixed = fixed.now; variable = variable.now; params = params }) }
-    ensures { Gives (λ m. m) result (message_if_of has_no_parameters (record { code = code; fixed = fixed.now; variable = variable.now; params = params })) }
+    ensures { Gives (λ m. m) result (message_if_of has_no_parameters
+        (record { code = code; fixed = fixed.now; variable = variable.now; params = params })) }
 {
     by_code! { alloc code fixed variable;
         0x05 Rlc { dlr: reference(0), slr: reference(3) }
@@ -368,7 +373,8 @@ fn without_parameters(
         0x0D Rsr { dlr: reference(0), slr: reference(3), cause: octet(6) }
         0x0E Rsc { dlr: reference(0), slr: reference(3) }
         0x0F Err { dlr: reference(0), cause: octet(3) }
-        0x10 It { dlr: reference(0), slr: reference(3), class: octet(6), send: sequence(7), receive: sequence(8), more: more(8), credit: octet(9) }
+        0x10 It { dlr: reference(0), slr: reference(3), class: octet(6), send: sequence(7), receive: sequence(8), more: more(8),
+            credit: octet(9) }
     }
 }
 

@@ -65,7 +65,8 @@ fn joined_unit<'a>(
     params: &[Param],
 ) -> Result<Octets, EncodeFault>
     requires { FitsLayout (parts_made code fixed.now (called.now ∷ calling.now ∷ payload.now ∷ []) params.now) }
-    ensures exact { Gives (λ octets. octets) result (encoding_by (row code) (parts_made code fixed.now (called.now ∷ calling.now ∷ payload.now ∷ []) params.now)) }
+    ensures exact { Gives (λ octets. octets) result (encoding_by (row code)
+        (parts_made code fixed.now (called.now ∷ calling.now ∷ payload.now ∷ []) params.now)) }
     ensures named { IfOk result (λ _. AreNamed params.now) }
 {
     let variable = [
@@ -87,7 +88,8 @@ fn unit(
     params: &[Param],
 ) -> Result<Octets, EncodeFault>
     requires { fits (made_of code fixed.now (called.now ∷ calling.now ∷ []) (Some payload.now) params.now) ≡ true }
-    ensures exact { Gives (λ octets. octets) result (encoding_with (made_of code fixed.now (called.now ∷ calling.now ∷ []) (Some payload.now) params.now)) }
+    ensures exact { Gives (λ octets. octets) result (encoding_with
+        (made_of code fixed.now (called.now ∷ calling.now ∷ []) (Some payload.now) params.now)) }
     ensures named { IfOk result (λ _. AreNamed params.now) }
 {
     let called = write(alloc, called)?;
@@ -170,7 +172,8 @@ macro_rules! list {
 // The octets of a message. A line for each type has its code, its fields, its fixed part, its variable parts and its
 // parameters.
 macro_rules! by_type {
-    ($message:expr, $alloc:expr; $($code:literal $variant:ident { $($field:ident),* } [$($fixed:tt)*] $kind:ident($($part:ident),*) $params:tt)*) => {
+    ($message:expr, $alloc:expr; $($code:literal $variant:ident { $($field:ident),* }
+        [$($fixed:tt)*] $kind:ident($($part:ident),*) $params:tt)*) => {
         match $message {
             $(Message::$variant { $($field),* } => {
                 $kind($alloc, $code, fixed!([] $($fixed)*), $($part,)* list!($params))
@@ -200,7 +203,8 @@ fn whole(alloc: Global, message: &Message) -> Result<Octets, EncodeFault>
         0x0D Rsr { dlr, slr, cause } [reference(dlr) reference(slr) octet(cause)] plain() -
         0x0E Rsc { dlr, slr } [reference(dlr) reference(slr)] plain() -
         0x0F Err { dlr, cause } [reference(dlr) octet(cause)] plain() -
-        0x10 It { dlr, slr, class, send, receive, more, credit } [reference(dlr) reference(slr) octet(class) sequence(send) sequence(receive, more) octet(credit)] plain() -
+        0x10 It { dlr, slr, class, send, receive, more, credit }
+            [reference(dlr) reference(slr) octet(class) sequence(send) sequence(receive, more) octet(credit)] plain() -
         0x11 Xudt { class, hops, called, calling, payload, params } [octet(class) octet(hops)] unit(called, calling, payload) params
         0x12 Xudts { cause, hops, called, calling, payload, params } [octet(cause) octet(hops)] unit(called, calling, payload) params
         0x13 Ludt { class, hops, called, calling, payload, params } [octet(class) octet(hops)] unit(called, calling, payload) params

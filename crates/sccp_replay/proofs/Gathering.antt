@@ -35,7 +35,8 @@ pub may_be_done : (at : Standing) (batch : List Joined) → MayTake 1 at batch �
 may_be_done at batch may = let few = may.few in record { joined = may.begun.joined; few = omega (arith, few) }
 
 -- the batch before it is done, and none has begun
-pub alone_begun : (at at' : Standing) (batch batch' : List Joined) (r : Result (Unit {0}) Stop) → OnOk r (batch' ≡ []) → OnOk r (length at'.later ≤ length at.later + length batch)
+pub alone_begun : (at at' : Standing) (batch batch' : List Joined) (r : Result (Unit {0}) Stop) → OnOk r (batch' ≡ [])
+    → OnOk r (length at'.later ≤ length at.later + length batch)
     → OnOk r (HasTaken 1 at batch at' batch')
 alone_begun at at' batch batch' (Ok done) none few =
     let lines : length batch' ≡ 0 = ap length none in
@@ -44,7 +45,8 @@ alone_begun at at' batch batch' (Err stop) none few = tt
 
 -- it joins the batch
 more : (batch whole : List Joined) (one : Joined) → whole ≡ batch ++ one ∷ [] → length whole ≡ length batch + 1
-more batch whole one is = let e : length whole ≡ length (batch ++ one ∷ []) = ap length is in omega (arith, e, length-append batch (one ∷ []))
+more batch whole one is = let e : length whole ≡ length (batch ++ one ∷ []) =
+    ap length is in omega (arith, e, length-append batch (one ∷ []))
 
 all_joined : (plan : Network) (batch whole : List Joined) (one : Joined) → whole ≡ batch ++ one ∷ [] → All (IsJoined plan) batch
     → joining_role one.joining ≡ role_of plan one.line.line → StandsIn plan (joining_role one.joining) → All (IsJoined plan) whole
@@ -55,17 +57,23 @@ pub more_joined : (at : Standing) (batch whole : List Joined) (one : Joined) →
     → joining_role one.joining ≡ role_of at.first one.line.line → StandsIn at.first (joining_role one.joining) → MayBeDone at whole
 more_joined at batch whole one is may role stands =
     let few = may.few in
-    record { joined = all_joined at.first batch whole one is may.begun.joined role stands; few = omega (arith, few, more batch whole one is) }
+    record {
+      joined = all_joined at.first batch whole one is may.begun.joined role stands;
+      few = omega
+          (arith, few, more batch whole one is);
+    }
 
 pub more_begun : (at : Standing) (batch whole : List Joined) (one : Joined) → whole ≡ batch ++ one ∷ [] → MayTake 1 at batch
-    → joining_role one.joining ≡ role_of at.first one.line.line → StandsIn at.first (joining_role one.joining) → false ≡ is_full (lines_in whole) → HasTaken 1 at batch at whole
+    → joining_role one.joining ≡ role_of at.first one.line.line → StandsIn at.first (joining_role one.joining)
+    → false ≡ is_full (lines_in whole) → HasTaken 1 at batch at whole
 more_begun at batch whole one is may role stands few = record {
   begun = record { few = sym few; joined = all_joined at.first batch whole one is may.begun.joined role stands };
   few = omega (arith, more batch whole one is);
 }
 
 -- and is full with it
-pub full_begun : (at at' : Standing) (batch whole batch' : List Joined) (one : Joined) (r : Result (Unit {0}) Stop) → whole ≡ batch ++ one ∷ [] → OnOk r (batch' ≡ [])
+pub full_begun : (at at' : Standing) (batch whole batch' : List Joined) (one : Joined) (r : Result (Unit {0}) Stop)
+    → whole ≡ batch ++ one ∷ [] → OnOk r (batch' ≡ [])
     → OnOk r (length at'.later ≤ length at.later + length whole) → OnOk r (HasTaken 1 at batch at' batch')
 full_begun at at' batch whole batch' one (Ok done) is none few =
     let lines : length batch' ≡ 0 = ap length none in
@@ -77,22 +85,26 @@ full_begun at at' batch whole batch' one (Err stop) is none few = tt
 pub begun_taken : (lines : ℕ) (at : Standing) (batch : List Joined) → MayTake lines at batch → HasTaken 0 at batch at batch
 begun_taken lines at batch may = record { begun = may.begun; few = omega arith }
 
-pub may_go_on : (lines taken : ℕ) (at at' : Standing) (batch batch' : List Joined) → MayTake lines at batch → HasTaken taken at batch at' batch' → taken < lines → MayTake 1 at' batch'
+pub may_go_on : (lines taken : ℕ) (at at' : Standing) (batch batch' : List Joined) → MayTake lines at batch
+    → HasTaken taken at batch at' batch' → taken < lines → MayTake 1 at' batch'
 may_go_on lines taken at at' batch batch' may has lt =
     let few = may.few in
     let so_far = has.few in
     record { begun = has.begun; few = omega (arith, few, so_far, lt) }
 
-pub more_taken : (taken : ℕ) (at at' at'' : Standing) (batch batch' batch'' : List Joined) → HasTaken taken at batch at' batch' → HasTaken 1 at' batch' at'' batch'' → HasTaken (taken + 1) at batch at'' batch''
+pub more_taken : (taken : ℕ) (at at' at'' : Standing) (batch batch' batch'' : List Joined) → HasTaken taken at batch at' batch'
+    → HasTaken 1 at' batch' at'' batch'' → HasTaken (taken + 1) at batch at'' batch''
 more_taken taken at at' at'' batch batch' batch'' has one =
     let so_far = has.few in
     let now = one.few in
     record { begun = one.begun; few = omega (arith, so_far, now) }
 
-pub may_take : (count lines : ℕ) (at : Standing) (batch : List Joined) → IsCounted count at batch → count + lines ≤ 1000000 → MayTake lines at batch
+pub may_take : (count lines : ℕ) (at : Standing) (batch : List Joined) → IsCounted count at batch → count + lines ≤ 1000000
+    → MayTake lines at batch
 may_take count lines at batch is le = let few = is.few in record { begun = is.begun; few = omega (arith, few, le) }
 
-pub counted : (count lines n : ℕ) (at at' : Standing) (batch batch' : List Joined) → IsCounted count at batch → HasTaken lines at batch at' batch' → n ≡ count + lines → IsCounted n at' batch'
+pub counted : (count lines n : ℕ) (at at' : Standing) (batch batch' : List Joined) → IsCounted count at batch
+    → HasTaken lines at batch at' batch' → n ≡ count + lines → IsCounted n at' batch'
 counted count lines n at at' batch batch' is has e =
     let few = is.few in
     let so_far = has.few in

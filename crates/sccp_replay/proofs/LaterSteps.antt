@@ -32,15 +32,18 @@ use Rattle.sccp_work.proofs.WorkLemmas.{Works-judge}
 
 -- ---- its verdict
 
-pub accepted_judges : (at : Standing) (line : ℕ) (name : List ℕ) (plan : Network) (a : Verified) (at' : Standing) (s : Settled) → IsJudged plan (Accepted a) → a.plan ≡ plan
-    → at' ≡ record at { later = at.later ++ a.plan ∷ [] } → s ≡ prints (accepted_plan_line line (accepted at + 1) name a.bound) → JudgesLine at line name plan at' s
+pub accepted_judges : (at : Standing) (line : ℕ) (name : List ℕ) (plan : Network) (a : Verified) (at' : Standing) (s : Settled)
+    → IsJudged plan (Accepted a) → a.plan ≡ plan
+    → at' ≡ record at { later = at.later ++ a.plan ∷ [] } → s ≡ prints (accepted_plan_line line (accepted at + 1) name a.bound)
+    → JudgesLine at line name plan at' s
 accepted_judges at line name plan a at' s judged same is told = λ next now result after h.
     let text : Settled = prints (accepted_plan_line line (accepted at + 1) name a.bound) in
     Works-judge plan (λ v. judged_later at line name plan v next) (Accepted a) result now after judged
     (subst (λ p. Works (next (record at { later = at.later ++ p ∷ [] }) text) result now after) same
     (subst (λ t. Works (next t text) result now after) is (subst (λ t. Works (next at' t) result now after) told h)))
 
-pub refused_judges : (at : Standing) (line : ℕ) (name : List ℕ) (plan p : Network) (w : Witness) (s : Settled) → IsJudged plan (Refused p w) → p ≡ plan
+pub refused_judges : (at : Standing) (line : ℕ) (name : List ℕ) (plan p : Network) (w : Witness) (s : Settled) → IsJudged plan (Refused p w)
+    → p ≡ plan
     → s ≡ prints (refused_plan_head line name ++ verdict_text p (Refused p w)) → JudgesLine at line name plan at s
 refused_judges at line name plan p w s judged same told = λ next now result after h.
     Works-judge plan (λ v. judged_later at line name plan v next) (Refused p w) result now after judged
@@ -56,17 +59,21 @@ wide_judges at line name plan p s judged same told = λ next now result after h.
 
 -- ---- its text
 
-pub same_reads : (at : Standing) (line : ℕ) (name : List ℕ) (r : Result Network PlanFault) (plan : Network) (at' : Standing) (s : Settled) → r ≡ Ok plan → same_nodes at.first plan ≡ true
+pub same_reads : (at : Standing) (line : ℕ) (name : List ℕ) (r : Result Network PlanFault) (plan : Network) (at' : Standing) (s : Settled)
+    → r ≡ Ok plan → same_nodes at.first plan ≡ true
     → JudgesLine at line name plan at' s → GivesPlanLine at line name r at' s
 same_reads at line name r plan at' s e same judges = λ next now result after h.
     subst (λ k. Works (later_work at line name k next) result now after) (sym e)
-    (subst (λ b. Works (cond b (judge plan (λ v. judged_later at line name plan v next)) (next at (prints (other_nodes_line line name)))) result now after) (sym same) (judges next now result after h))
+    (subst (λ b. Works (cond b (judge plan (λ v. judged_later at line name plan v next))
+    (next at (prints (other_nodes_line line name)))) result now after) (sym same) (judges next now result after h))
 
-pub other_reads : (at : Standing) (line : ℕ) (name : List ℕ) (r : Result Network PlanFault) (plan : Network) (s : Settled) → r ≡ Ok plan → same_nodes at.first plan ≡ false
+pub other_reads : (at : Standing) (line : ℕ) (name : List ℕ) (r : Result Network PlanFault) (plan : Network) (s : Settled) → r ≡ Ok plan
+    → same_nodes at.first plan ≡ false
     → s ≡ prints (other_nodes_line line name) → GivesPlanLine at line name r at s
 other_reads at line name r plan s e other told = λ next now result after h.
     subst (λ k. Works (later_work at line name k next) result now after) (sym e)
-    (subst (λ b. Works (cond b (judge plan (λ v. judged_later at line name plan v next)) (next at (prints (other_nodes_line line name)))) result now after) (sym other)
+    (subst (λ b. Works (cond b (judge plan (λ v. judged_later at line name plan v next))
+    (next at (prints (other_nodes_line line name)))) result now after) (sym other)
     (subst (λ t. Works (next at t) result now after) told h))
 
 pub bad_reads : (at : Standing) (line : ℕ) (name : List ℕ) (r : Result Network PlanFault) (fault : PlanFault) (s : Settled) → r ≡ Err fault
@@ -78,47 +85,62 @@ bad_reads at line name r fault s e told = λ next now result after h.
 
 -- what a line gives, by its role
 abbrev pub RoleGives : Standing → Numbered → Role → Standing → Settled → Moment → Moment → Type 0
-RoleGives at line role at' s first now = (next : Standing → Settled → Work) (result : Result Status Stop) (after : Moment) → Works (next at' s) result now after → Works (settle_line at line role next) result first after
+RoleGives at line role at' s first now = (next : Standing → Settled → Work) (result : Result Status Stop) (after : Moment)
+    → Works (next at' s) result now after → Works (settle_line at line role next) result first after
 
-pub by_role : (at : Standing) (line : Numbered) (role : Role) (at' : Standing) (s : Settled) (first now : Moment) → role ≡ role_of at.first line.line → RoleGives at line role at' s first now
+pub by_role : (at : Standing) (line : Numbered) (role : Role) (at' : Standing) (s : Settled) (first now : Moment)
+    → role ≡ role_of at.first line.line → RoleGives at line role at' s first now
     → RoleGives at line (role_of at.first line.line) at' s first now
 by_role at line role at' s first now e gives = subst (λ r. RoleGives at line r at' s first now) e gives
 
-pub routed_line : (at : Standing) (line : Numbered) (x : Incoming) (before : ℕ) (m : Moment) → before ≡ accepted at → RoleGives at line (routed x) at (routes line.number x before) m m
+pub routed_line : (at : Standing) (line : Numbered) (x : Incoming) (before : ℕ) (m : Moment) → before ≡ accepted at
+    → RoleGives at line (routed x) at (routes line.number x before) m m
 routed_line at line x before m is = λ next result after h. subst (λ n. Works (next at (routes line.number x n)) result m after) is h
 
-pub aside_line : (at : Standing) (line : Numbered) (s : Settled) (m : Moment) → s ≡ prints (event_text at.first line []) → RoleGives at line aside at s m m
+pub aside_line : (at : Standing) (line : Numbered) (s : Settled) (m : Moment) → s ≡ prints (event_text at.first line [])
+    → RoleGives at line aside at s m m
 aside_line at line s m told = λ next result after h. subst (λ t. Works (next at t) result m after) told h
 
 -- ---- as the code knows it
 
-pub routed_gives : (at : Standing) (line : Numbered) (joining : Joining) (entry origin : ℕ) (octets : List ℕ) (before : ℕ) (m : Moment) → joining ≡ Routed entry origin octets → joining_role joining ≡ role_of at.first line.line
+pub routed_gives : (at : Standing) (line : Numbered) (joining : Joining) (entry origin : ℕ) (octets : List ℕ) (before : ℕ) (m : Moment)
+    → joining ≡ Routed entry origin octets → joining_role joining ≡ role_of at.first line.line
     → before ≡ accepted at → GivesLine at line (Ok (Routes line.number entry origin octets before)) at m m
 routed_gives at line joining entry origin octets before m kind e is next =
     let x : Incoming = incoming entry origin octets in
-    by_role at line (routed x) at (routes line.number x before) m m (subst (λ j. joining_role j ≡ role_of at.first line.line) kind e) (routed_line at line x before m is) next
+    by_role at line (routed x) at (routes line.number x before) m m (subst (λ j. joining_role j ≡ role_of at.first line.line) kind e)
+    (routed_line at line x before m is) next
 
-pub aside_gives : (at : Standing) (line : Numbered) (joining : Joining) (s : code.Settled.Settled) (m : Moment) → joining ≡ Aside → joining_role joining ≡ role_of at.first line.line
+pub aside_gives : (at : Standing) (line : Numbered) (joining : Joining) (s : code.Settled.Settled) (m : Moment) → joining ≡ Aside
+    → joining_role joining ≡ role_of at.first line.line
     → settled_in s ≡ prints (event_text at.first line []) → GivesLine at line (Ok s) at m m
 aside_gives at line joining s m kind e told next =
-    by_role at line aside at (settled_in s) m m (subst (λ j. joining_role j ≡ role_of at.first line.line) kind e) (aside_line at line (settled_in s) m told) next
+    by_role at line aside at (settled_in s) m m (subst (λ j. joining_role j ≡ role_of at.first line.line) kind e)
+    (aside_line at line (settled_in s) m told) next
 
-pub named_line : (at : Standing) (line : Numbered) (name : List ℕ) (at' : Standing) (s : Settled) (first now : Moment) → later name ≡ role_of at.first line.line
-    → ((next : Standing → Settled → Work) → EndsAs (within_limit name (λ octets. later_work at line.number name (plan_of octets) next)) (next at' s) first now)
+pub named_line : (at : Standing) (line : Numbered) (name : List ℕ) (at' : Standing) (s : Settled) (first now : Moment)
+    → later name ≡ role_of at.first line.line
+    → ((next : Standing → Settled → Work) → EndsAs (within_limit name (λ octets. later_work at line.number name (plan_of octets) next))
+    (next at' s) first now)
     → (next : Standing → Settled → Work) → EndsAs (settle_line at line (role_of at.first line.line) next) (next at' s) first now
 named_line at line name at' s first now e gives = by_role at line (later name) at' s first now e gives
 
-pub named_stops : (at : Standing) (line : Numbered) (name : List ℕ) (stop : Stop) (first now : Moment) → later name ≡ role_of at.first line.line
-    → ((next : Standing → Settled → Work) → Works (within_limit name (λ octets. later_work at line.number name (plan_of octets) next)) (Err stop) first now)
+pub named_stops : (at : Standing) (line : Numbered) (name : List ℕ) (stop : Stop) (first now : Moment)
+    → later name ≡ role_of at.first line.line
+    → ((next : Standing → Settled → Work) → Works (within_limit name (λ octets. later_work at line.number name (plan_of octets) next))
+    (Err stop) first now)
     → (next : Standing → Settled → Work) → Works (settle_line at line (role_of at.first line.line) next) (Err stop) first now
 named_stops at line name stop first now e stops next = subst (λ r. Works (settle_line at line r next) (Err stop) first now) e (stops next)
 
-file_gives : (at : Standing) (line : Numbered) (name : List ℕ) (r : Result code.Settled.Settled Stop) (at' : Standing) (first now : Moment) → later name ≡ role_of at.first line.line
+file_gives : (at : Standing) (line : Numbered) (name : List ℕ) (r : Result code.Settled.Settled Stop) (at' : Standing) (first now : Moment)
+    → later name ≡ role_of at.first line.line
     → GivesPlanFile at line.number name r at' first now → GivesLine at line r at' first now
 file_gives at line name (Ok s) at' first now e gives = named_line at line name at' (settled_in s) first now e gives
 file_gives at line name (Err stop) at' first now e gives = named_stops at line name stop first now e gives
 
 -- the line of a later plan gives what its file does
-pub named_gives : (at : Standing) (line : Numbered) (joining : Joining) (name : List ℕ) (r : Result code.Settled.Settled Stop) (at' : Standing) (first now : Moment) → joining ≡ Later name → joining_role joining ≡ role_of at.first line.line
+pub named_gives : (at : Standing) (line : Numbered) (joining : Joining) (name : List ℕ) (r : Result code.Settled.Settled Stop)
+    (at' : Standing) (first now : Moment) → joining ≡ Later name → joining_role joining ≡ role_of at.first line.line
     → GivesPlanFile at line.number name r at' first now → GivesLine at line r at' first now
-named_gives at line joining name r at' first now kind e gives = file_gives at line name r at' first now (subst (λ j. joining_role j ≡ role_of at.first line.line) kind e) gives
+named_gives at line joining name r at' first now kind e gives =
+    file_gives at line name r at' first now (subst (λ j. joining_role j ≡ role_of at.first line.line) kind e) gives

@@ -10,7 +10,8 @@ use Rattle.sccp_replay.specs.ReplayEnds.{ReplayCause, ReplaySure, LaterPlansFit,
 use Rattle.sccp_replay.specs.Trace.{lines_in, fault_in}
 use Rattle.sccp_work.specs.Verdict.{IsSafe, IsBad, IsWide}
 use Rattle.sccp_work.specs.declared.status.Status.{Status}
-use Rattle.sccp_work.specs.declared.status.Status.TheVariants.{Done, Refused, Usage, BadPlan, BadTrace, TooWide, TooLong, OtherNodes, NoMemory, ReadFault, WriteFault}
+use Rattle.sccp_work.specs.declared.status.Status.TheVariants.{Done, Refused, Usage, BadPlan, BadTrace, TooWide, TooLong, OtherNodes}
+use Rattle.sccp_work.specs.declared.status.Status.TheVariants.{NoMemory, ReadFault, WriteFault}
 use Rattle.sccp_work.proofs.LimitLemmas.{not_long}
 use Rattle.sccp_work.proofs.PlanLemmas.{not_both, same_plan}
 use Rattle.sccp_work.proofs.VerdictLemmas.{safe_or_bad}
@@ -32,7 +33,8 @@ bad_or : (c : Contents) (name : List ℕ) (holds : Network → Type 0) → HasPl
 bad_or c name holds h b = not_both (plan_of h.0) (ap is_ok h.3.1) (subst IsNone (same_octets (c name) b.0 h.0 b.1 h.1) b.3)
 
 -- two things hold of one plan
-both : (c : Contents) (name : List ℕ) (P Q : Network → Type 0) → ((plan : Network) → P plan → Q plan → ⊥) → HasPlan (Some c) name P → HasPlan (Some c) name Q → ⊥
+both : (c : Contents) (name : List ℕ) (P Q : Network → Type 0) → ((plan : Network) → P plan → Q plan → ⊥) → HasPlan (Some c) name P
+    → HasPlan (Some c) name Q → ⊥
 both c name P Q never h g =
     let e : plan_of h.0 ≡ Ok g.3.0 = subst (λ k. plan_of k ≡ Ok g.3.0) (same_octets (c name) g.0 h.0 g.1 h.1) g.3.1 in
     never h.3.0 h.3.2 (subst Q (same_plan (plan_of h.0) g.3.0 h.3.0 e h.3.1) g.3.2)
@@ -75,7 +77,8 @@ done_must c plan trace NoMemory h e = absurd e
 done_must c plan trace ReadFault h e = absurd e
 done_must c plan trace WriteFault h e = absurd e
 
-pub bad_trace_must : (c : Contents) (plan trace : List ℕ) (s : Status) → ReplaySure c plan trace BadTrace → ReplayCause c plan trace s → s ≡ BadTrace
+pub bad_trace_must : (c : Contents) (plan trace : List ℕ) (s : Status) → ReplaySure c plan trace BadTrace → ReplayCause c plan trace s
+    → s ≡ BadTrace
 bad_trace_must c plan trace BadTrace h e = refl
 bad_trace_must c plan trace Done h e = absurd (none_or_some (fault_in c trace) e.2 h.1)
 bad_trace_must c plan trace TooLong h (inl e) = absurd (long_or c plan IsSurelySafe h.0 e)
@@ -89,7 +92,8 @@ bad_trace_must c plan trace NoMemory h e = absurd e
 bad_trace_must c plan trace ReadFault h e = absurd e
 bad_trace_must c plan trace WriteFault h e = absurd e
 
-pub too_long_must : (c : Contents) (plan trace : List ℕ) (s : Status) → ReplaySure c plan trace TooLong → ReplayCause c plan trace s → s ≡ TooLong
+pub too_long_must : (c : Contents) (plan trace : List ℕ) (s : Status) → ReplaySure c plan trace TooLong → ReplayCause c plan trace s
+    → s ≡ TooLong
 too_long_must c plan trace TooLong h e = refl
 too_long_must c plan trace Done (inl h) e = absurd (long_or c plan IsSafe e.0 h)
 too_long_must c plan trace Done (inr h) e = absurd (fit_or_long c trace e.3 h.1)
@@ -107,7 +111,8 @@ too_long_must c plan trace NoMemory h e = absurd e
 too_long_must c plan trace ReadFault h e = absurd e
 too_long_must c plan trace WriteFault h e = absurd e
 
-pub bad_plan_must : (c : Contents) (plan trace : List ℕ) (s : Status) → ReplaySure c plan trace BadPlan → ReplayCause c plan trace s → s ≡ BadPlan
+pub bad_plan_must : (c : Contents) (plan trace : List ℕ) (s : Status) → ReplaySure c plan trace BadPlan → ReplayCause c plan trace s
+    → s ≡ BadPlan
 bad_plan_must c plan trace BadPlan h e = refl
 bad_plan_must c plan trace Done h e = absurd (bad_or c plan IsSafe e.0 h)
 bad_plan_must c plan trace BadTrace h e = absurd (bad_or c plan IsSafe e.0 h)
@@ -121,7 +126,8 @@ bad_plan_must c plan trace NoMemory h e = absurd e
 bad_plan_must c plan trace ReadFault h e = absurd e
 bad_plan_must c plan trace WriteFault h e = absurd e
 
-pub refused_must : (c : Contents) (plan trace : List ℕ) (s : Status) → ReplayCause c plan trace Refused → ReplayCause c plan trace s → (s ≡ Refused) ⊎ (s ≡ TooWide)
+pub refused_must : (c : Contents) (plan trace : List ℕ) (s : Status) → ReplayCause c plan trace Refused → ReplayCause c plan trace s
+    → (s ≡ Refused) ⊎ (s ≡ TooWide)
 refused_must c plan trace Refused h e = inl refl
 refused_must c plan trace TooWide h e = inr refl
 refused_must c plan trace Done h e = absurd (both c plan IsSafe IsBad unsafe e.0 h)

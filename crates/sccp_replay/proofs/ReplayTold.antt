@@ -1,5 +1,6 @@
 -- Whatever a replay answers, what the sink took is an account of its trace.
-use Rattle.std.proofs.Common.{◌≡◌, ◌≢◌, ◌⊎◌, ◌≤◌, ℕ, zero, suc, List, [], ◌∷◌, ◌++◌, length, take, Bool, true, false, cond, ltb, Option, Some, Result, Ok, Err, refl, sym, ◌∙◌, ap, subst, append-nil, append_assoc, arith, inl, inr}
+use Rattle.std.proofs.Common.{◌≡◌, ◌≢◌, ◌⊎◌, ◌≤◌, ℕ, zero, suc, List, [], ◌∷◌, ◌++◌, length, take, Bool, true, false, cond, ltb, Option}
+use Rattle.std.proofs.Common.{Some, Result, Ok, Err, refl, sym, ◌∙◌, ap, subst, append-nil, append_assoc, arith, inl, inr}
 use Rattle.std.specs.Prelude.{codes, slice_get, is_some, is_err}
 use Rattle.std.specs.Fmt.{digits}
 use Rattle.std.specs.Io.{StartsWith}
@@ -27,9 +28,11 @@ use Rattle.sccp_replay.specs.ReplayEnds.{ReplayCause, ReplayTells}
 use Rattle.sccp_work.specs.Verdict.{IsOnRefusal}
 use Rattle.sccp_work.specs.Texts.{too_long, read_fault}
 use Rattle.sccp_work.specs.Verdict.{status_of, IsSafe, Tells}
-use Rattle.sccp_work.specs.Work.{Work, finish, print, read, read_on, judge, mix, serve, answered, IsJudged, Ends, ComesToReading, BeginsWith}
+use Rattle.sccp_work.specs.Work.{Work, finish, print, read, read_on, judge, mix, serve, answered, IsJudged, Ends, ComesToReading}
+use Rattle.sccp_work.specs.Work.{BeginsWith}
 use Rattle.sccp_work.specs.declared.status.Status.{Status}
-use Rattle.sccp_work.specs.declared.status.Status.TheVariants.{Done, Refused, Usage, BadPlan, BadTrace, TooWide, TooLong, OtherNodes, NoMemory, ReadFault, WriteFault}
+use Rattle.sccp_work.specs.declared.status.Status.TheVariants.{Done, Refused, Usage, BadPlan, BadTrace, TooWide, TooLong, OtherNodes}
+use Rattle.sccp_work.specs.declared.status.Status.TheVariants.{NoMemory, ReadFault, WriteFault}
 use Rattle.sccp_replay.proofs.Accounting.{SoFar, texts, lines_through, starts_behind}
 use Rattle.sccp_replay.proofs.Accounting as accounts
 use Rattle.sccp_replay.proofs.Settling.{Scene}
@@ -40,15 +43,22 @@ use Rattle.sccp_work.proofs.Through.{Through, ends_of, reads_of, fronts_of, star
 -- ---- what holds of less, holds
 
 Through-map : (ends ends' : Status → List ℕ → Type 0) (reads reads' fronts fronts' : List ℕ → Type 0) (k : Option Contents)
-    → ((s : Status) (acc : List ℕ) → ends s acc → ends' s acc) → ((acc : List ℕ) → reads acc → reads' acc) → ((acc : List ℕ) → fronts acc → fronts' acc)
+    → ((s : Status) (acc : List ℕ) → ends s acc → ends' s acc) → ((acc : List ℕ) → reads acc → reads' acc)
+    → ((acc : List ℕ) → fronts acc → fronts' acc)
     → (w : Work) (acc : List ℕ) → Through ends reads fronts k w acc → Through ends' reads' fronts' k w acc
 Through-map ends ends' reads reads' fronts fronts' k e r f (finish s) acc h = e s acc h
-Through-map ends ends' reads reads' fronts fronts' k e r f (print t w) acc h = ((λ front starts. f (acc ++ front) (h.0 front starts)), Through-map ends ends' reads reads' fronts fronts' k e r f w (acc ++ t) h.1)
-Through-map ends ends' reads reads' fronts fronts' k e r f (read name g) acc h = (r acc h.0, λ octets there. Through-map ends ends' reads reads' fronts fronts' k e r f (g octets) acc (h.1 octets there))
-Through-map ends ends' reads reads' fronts fronts' k e r f (judge plan g) acc h = λ v j. Through-map ends ends' reads reads' fronts fronts' k e r f (g v) acc (h v j)
-Through-map ends ends' reads reads' fronts fronts' k e r f (mix old new g) acc h = λ c is. Through-map ends ends' reads reads' fronts fronts' k e r f (g c) acc (h c is)
-Through-map ends ends' reads reads' fronts fronts' k e r f (read_on w) acc h = (r acc h.0, Through-map ends ends' reads reads' fronts fronts' k e r f w acc h.1)
-Through-map ends ends' reads reads' fronts fronts' k e r f (serve b g) acc h = λ ns are. Through-map ends ends' reads reads' fronts fronts' k e r f (g ns) acc (h ns are)
+Through-map ends ends' reads reads' fronts fronts' k e r f (print t w) acc h =
+    ((λ front starts. f (acc ++ front) (h.0 front starts)), Through-map ends ends' reads reads' fronts fronts' k e r f w (acc ++ t) h.1)
+Through-map ends ends' reads reads' fronts fronts' k e r f (read name g) acc h =
+    (r acc h.0, λ octets there. Through-map ends ends' reads reads' fronts fronts' k e r f (g octets) acc (h.1 octets there))
+Through-map ends ends' reads reads' fronts fronts' k e r f (judge plan g) acc h =
+    λ v j. Through-map ends ends' reads reads' fronts fronts' k e r f (g v) acc (h v j)
+Through-map ends ends' reads reads' fronts fronts' k e r f (mix old new g) acc h =
+    λ c is. Through-map ends ends' reads reads' fronts fronts' k e r f (g c) acc (h c is)
+Through-map ends ends' reads reads' fronts fronts' k e r f (read_on w) acc h =
+    (r acc h.0, Through-map ends ends' reads reads' fronts fronts' k e r f w acc h.1)
+Through-map ends ends' reads reads' fronts fronts' k e r f (serve b g) acc h =
+    λ ns are. Through-map ends ends' reads reads' fronts fronts' k e r f (g ns) acc (h ns are)
 
 -- texts that do not report an accepted first plan
 
@@ -80,7 +90,8 @@ bad_plan_other : (fault : PlanFault) → IsOther (bad_plan fault)
 unfolding bad_plan
 bad_plan_other fault = other 98 _ (λ e. absurd (omega arith))
 
-refused_other : (plan same : Network) (w : Rattle.plan_verify.specs.declared.witness.Witness.Witness) → IsOther (verdict_text plan (verdicts.Refused same w))
+refused_other : (plan same : Network) (w : Rattle.plan_verify.specs.declared.witness.Witness.Witness)
+    → IsOther (verdict_text plan (verdicts.Refused same w))
 unfolding refused_line
 refused_other plan same w = other 114 _ (λ e. absurd (omega arith))
 
@@ -110,9 +121,18 @@ ReadsAny c plan trace acc = (acc ≡ []) ⊎ ((count : ℕ) × Account c plan (t
 abbrev FrontsAny : Contents → List ℕ → List ℕ → List ℕ → Type 0
 FrontsAny c plan trace acc = StartsWith acc (codes "plan 1 ") → IsTold c plan trace WriteFault acc
 
-other_answer : (c : Contents) (plan trace : List ℕ) (workers : ℕ) (s : Status) (t : List ℕ) → IsOther t → (s ≡ Done → ⊥) → (s ≡ BadTrace → ⊥) → ReplayCause c plan trace s → ToldVerdict c plan s t
+other_answer : (c : Contents) (plan trace : List ℕ) (workers : ℕ) (s : Status) (t : List ℕ) → IsOther t → (s ≡ Done → ⊥)
+    → (s ≡ BadTrace → ⊥) → ReplayCause c plan trace s → ToldVerdict c plan s t
     → Through (EndsAny c plan trace workers) (ReadsAny c plan trace) (FrontsAny c plan trace) (Some c) (answered (s, t)) []
-other_answer c plan trace workers s t never done bad for verdict = ((λ front starts is. absurd (never front starts is)), (record { told = λ is. absurd (never t (starts_whole t) is); begins = λ e. absurd (neither e) }, for, verdict)) where
+other_answer c plan trace workers s t never done bad for verdict = (
+  (λ front starts is. absurd (never front starts is)),
+  (
+    record
+        { told = λ is. absurd (never t (starts_whole t) is); begins = λ e. absurd (neither e) },
+    for,
+    verdict,
+  ),
+) where
   neither : (s ≡ Done) ⊎ (s ≡ BadTrace) → ⊥
   neither (inl e) = done e
   neither (inr e) = bad e
@@ -133,12 +153,16 @@ SoFar-start z workers = record {
   none zero e = cc
   none (suc k) e = cc
 
-begins_so : (z : Scene) (s : Status) (acc : List ℕ) → IsTold z.c z.plan_name z.trace_name s acc → (s ≡ Done) ⊎ (s ≡ BadTrace) → StartsWith acc (codes "plan 1 ")
+begins_so : (z : Scene) (s : Status) (acc : List ℕ) → IsTold z.c z.plan_name z.trace_name s acc → (s ≡ Done) ⊎ (s ≡ BadTrace)
+    → StartsWith acc (codes "plan 1 ")
 begins_so z s acc told e = by s e told.so where
   whole : acc ≡ told.whole → StartsWith acc (codes "plan 1 ")
-  whole is = subst (λ t. StartsWith t (codes "plan 1 ")) (sym (is ∙ told.account.whole)) (first_starts z.plan_name told.account.bound (flat_map (λ p. p.text) told.account.pieces ++ told.last))
+  whole is = subst (λ t. StartsWith t (codes "plan 1 ")) (sym (is ∙ told.account.whole))
+      (first_starts z.plan_name told.account.bound (flat_map (λ p. p.text) told.account.pieces ++ told.last))
 
-  by : (s : Status) → (s ≡ Done) ⊎ (s ≡ BadTrace) → IsTextUnder z.c z.trace_name (take told.count (lines_in z.c z.trace_name)) told.last told.whole acc s → StartsWith acc (codes "plan 1 ")
+  by : (s : Status) → (s ≡ Done) ⊎ (s ≡ BadTrace)
+      → IsTextUnder z.c z.trace_name (take told.count (lines_in z.c z.trace_name)) told.last told.whole acc s
+      → StartsWith acc (codes "plan 1 ")
   by Done e so = whole so.0
   by BadTrace e so = whole so.0
   by Refused (inl e) so = cc
@@ -163,7 +187,8 @@ begins_so z s acc told e = by s e told.so where
 accepted_plan : (z : Scene) → HasPlan (Some z.c) z.plan_name IsSafe
 accepted_plan z = (z.accepted.octets, z.accepted.file, z.accepted.within, (z.first, z.accepted.reads, (z.bound, z.accepted.safe)))
 
-why : (z : Scene) (workers : ℕ) (octets : List ℕ) → z.c z.trace_name ≡ Some octets → (s : Status) → accounts.TraceEnds z s → ReplayCause z.c z.plan_name z.trace_name s
+why : (z : Scene) (workers : ℕ) (octets : List ℕ) → z.c z.trace_name ≡ Some octets → (s : Status) → accounts.TraceEnds z s
+    → ReplayCause z.c z.plan_name z.trace_name s
 why z workers octets there Done h = (accepted_plan z, ap is_some there, h.0, h.1)
 why z workers octets there BadTrace h = (accepted_plan z, h.0, h.1)
 why z workers octets there TooLong h = inr (accepted_plan z, h)
@@ -190,8 +215,10 @@ none_refused z ReadFault h on = on
 none_refused z WriteFault h on = on
 
 -- from the reading of the trace on
-traced : (goes : Goes) (z : Scene) (workers : ℕ) → ((octets : List ℕ) → z.c z.trace_name ≡ Some octets → AllByRecursion (HasOctets z.first) (trace_of octets).lines)
-    → Through (EndsAny z.c z.plan_name z.trace_name workers) (ReadsAny z.c z.plan_name z.trace_name) (FrontsAny z.c z.plan_name z.trace_name) (Some z.c)
+traced : (goes : Goes) (z : Scene) (workers : ℕ) → ((octets : List ℕ) → z.c z.trace_name ≡ Some octets
+    → AllByRecursion (HasOctets z.first) (trace_of octets).lines)
+    → Through (EndsAny z.c z.plan_name z.trace_name workers) (ReadsAny z.c z.plan_name z.trace_name)
+    (FrontsAny z.c z.plan_name z.trace_name) (Some z.c)
     (print (first_plan_line z.plan_name z.bound) (read z.trace_name (λ octets. trace_work (start workers z.first) (trace_of octets)))) []
 traced goes z workers oct = (
   (λ front starts is. accounts.front_first z workers front starts),
@@ -201,25 +228,40 @@ traced goes z workers oct = (
   line = first_plan_line z.plan_name z.bound
 
   behind : (octets : List ℕ) → z.c z.trace_name ≡ Some octets
-      → Through (EndsAny z.c z.plan_name z.trace_name workers) (ReadsAny z.c z.plan_name z.trace_name) (FrontsAny z.c z.plan_name z.trace_name) (Some z.c) (trace_work (start workers z.first) (trace_of octets)) ([] ++ first_plan_line z.plan_name z.bound)
+      → Through (EndsAny z.c z.plan_name z.trace_name workers) (ReadsAny z.c z.plan_name z.trace_name)
+      (FrontsAny z.c z.plan_name z.trace_name) (Some z.c) (trace_work (start workers z.first) (trace_of octets))
+      ([] ++ first_plan_line z.plan_name z.bound)
   behind octets there =
-      let lines : lines_in z.c z.trace_name ≡ (trace_of octets).lines = ap (λ o. option_map_or (λ octets. (trace_of octets).lines) o []) there in
-      let fault : fault_in z.c z.trace_name ≡ (trace_of octets).fault = ap (λ o. option_and_then (λ octets. (trace_of octets).fault) o) there in
-      let all = lines_through goes z (trace_of octets).fault fault (trace_of octets).lines [] [] [] (start workers z.first) (first_plan_line z.plan_name z.bound)
+      let lines : lines_in z.c z.trace_name ≡ (trace_of octets).lines =
+      ap (λ o. option_map_or (λ octets. (trace_of octets).lines) o []) there in
+      let fault : fault_in z.c z.trace_name ≡ (trace_of octets).fault =
+      ap (λ o. option_and_then (λ octets. (trace_of octets).fault) o) there in
+      let all = lines_through goes z (trace_of octets).fault fault (trace_of octets).lines [] [] [] (start workers z.first)
+      (first_plan_line z.plan_name z.bound)
       (SoFar-start z workers) (accounts.first_written z) lines (oct octets there) in
-      Through-map (accounts.Ends z) (EndsAny z.c z.plan_name z.trace_name workers) (accounts.Reads z) (ReadsAny z.c z.plan_name z.trace_name)
+      Through-map (accounts.Ends z) (EndsAny z.c z.plan_name z.trace_name workers) (accounts.Reads z)
+      (ReadsAny z.c z.plan_name z.trace_name)
       (λ acc. IsTold z.c z.plan_name z.trace_name WriteFault acc) (FrontsAny z.c z.plan_name z.trace_name) (Some z.c)
-      (λ s acc told. (record { told = λ is. told.0; begins = begins_so z s acc told.0 }, why z workers octets there s told.1, (λ on. absurd (none_refused z s told.1 on))))
+      (λ s acc told. (
+        record { told = λ is. told.0; begins = begins_so z s acc told.0 },
+        why z workers octets there s told.1,
+        (λ on. absurd
+            (none_refused z s told.1 on)),
+      ))
       (λ acc r. inr (r.count, r.account))
       (λ acc told is. told)
       (trace_work (start workers z.first) (trace_of octets)) (first_plan_line z.plan_name z.bound)
       (subst (λ n. Through (accounts.Ends z) (accounts.Reads z) (λ acc. IsTold z.c z.plan_name z.trace_name WriteFault acc) (Some z.c)
-      (lines_work (closing_of n (trace_of octets).fault) (start workers z.first) [] (trace_of octets).lines) (first_plan_line z.plan_name z.bound)) (ap length lines) all)
+      (lines_work (closing_of n (trace_of octets).fault) (start workers z.first) [] (trace_of octets).lines)
+      (first_plan_line z.plan_name z.bound)) (ap length lines) all)
 
 -- the plan's verdict
-on_verdict : (goes : Goes) (c : Contents) (plan trace : List ℕ) (workers : ℕ) → ((first : Network) (octets : List ℕ) → c trace ≡ Some octets → AllByRecursion (HasOctets first) (trace_of octets).lines)
-    → (octets : List ℕ) → c plan ≡ Some octets → length octets ≤ 1048576 → (first : Network) → plan_of octets ≡ Ok first → (v : Verdict) → IsJudged first v
-    → Through (EndsAny c plan trace workers) (ReadsAny c plan trace) (FrontsAny c plan trace) (Some c) (replayed plan trace workers first v) []
+on_verdict : (goes : Goes) (c : Contents) (plan trace : List ℕ) (workers : ℕ)
+    → ((first : Network) (octets : List ℕ) → c trace ≡ Some octets → AllByRecursion (HasOctets first) (trace_of octets).lines)
+    → (octets : List ℕ) → c plan ≡ Some octets → length octets ≤ 1048576 → (first : Network) → plan_of octets ≡ Ok first → (v : Verdict)
+    → IsJudged first v
+    → Through (EndsAny c plan trace workers) (ReadsAny c plan trace) (FrontsAny c plan trace) (Some c) (replayed plan trace workers first v)
+    []
 on_verdict goes c plan trace workers oct octets file few first is (verdicts.Accepted a) j =
     traced goes (record {
       c = c;
@@ -230,23 +272,35 @@ on_verdict goes c plan trace workers oct octets file few first is (verdicts.Acce
       accepted = record { octets = octets; file = file; within = few; reads = is; safe = j.1.0; longest = a.longest; tight = j.1.1 };
       is_plan = j.0;
     }) workers (oct first)
-on_verdict goes c plan trace workers oct octets file few first is (verdicts.Refused same w) j = other_answer c plan trace workers Refused (verdict_text first (verdicts.Refused same w)) (refused_other first same w) (λ e. cc) (λ e. cc) (octets, file, few, (first, is, (w, j.1))) (λ on. (octets, file, few, (first, is, record { verdict = verdicts.Refused same w; lawful = j.1; status = refl; whole = refl })))
-on_verdict goes c plan trace workers oct octets file few first is (verdicts.TooWide same) j = other_answer c plan trace workers TooWide (verdict_text first (verdicts.TooWide same)) (wide_other first same) (λ e. cc) (λ e. cc) (octets, file, few, (first, is, j.1)) (λ on. (octets, file, few, (first, is, record { verdict = verdicts.TooWide same; lawful = j.1; status = refl; whole = refl })))
+on_verdict goes c plan trace workers oct octets file few first is (verdicts.Refused same w) j =
+    other_answer c plan trace workers Refused (verdict_text first (verdicts.Refused same w)) (refused_other first same w) (λ e. cc)
+    (λ e. cc) (octets, file, few, (first, is, (w, j.1)))
+    (λ on. (octets, file, few, (first, is, record { verdict = verdicts.Refused same w; lawful = j.1; status = refl; whole = refl })))
+on_verdict goes c plan trace workers oct octets file few first is (verdicts.TooWide same) j =
+    other_answer c plan trace workers TooWide (verdict_text first (verdicts.TooWide same)) (wide_other first same) (λ e. cc) (λ e. cc)
+    (octets, file, few, (first, is, j.1))
+    (λ on. (octets, file, few, (first, is, record { verdict = verdicts.TooWide same; lawful = j.1; status = refl; whole = refl })))
 
-on_plan : (goes : Goes) (c : Contents) (plan trace : List ℕ) (workers : ℕ) → ((first : Network) (octets : List ℕ) → c trace ≡ Some octets → AllByRecursion (HasOctets first) (trace_of octets).lines)
+on_plan : (goes : Goes) (c : Contents) (plan trace : List ℕ) (workers : ℕ)
+    → ((first : Network) (octets : List ℕ) → c trace ≡ Some octets → AllByRecursion (HasOctets first) (trace_of octets).lines)
     → (octets : List ℕ) → c plan ≡ Some octets → length octets ≤ 1048576 → (r : Result Network PlanFault) → plan_of octets ≡ r
-    → Through (EndsAny c plan trace workers) (ReadsAny c plan trace) (FrontsAny c plan trace) (Some c) (planned r (λ first. judge first (replayed plan trace workers first))) []
-on_plan goes c plan trace workers oct octets file few (Ok first) is = λ v j. on_verdict goes c plan trace workers oct octets file few first is v j
-on_plan goes c plan trace workers oct octets file few (Err fault) is = other_answer c plan trace workers BadPlan (bad_plan fault) (bad_plan_other fault) (λ e. cc) (λ e. cc) (octets, file, few, ap is_err is) (λ on. absurd on)
+    → Through (EndsAny c plan trace workers) (ReadsAny c plan trace) (FrontsAny c plan trace) (Some c)
+    (planned r (λ first. judge first (replayed plan trace workers first))) []
+on_plan goes c plan trace workers oct octets file few (Ok first) is =
+    λ v j. on_verdict goes c plan trace workers oct octets file few first is v j
+on_plan goes c plan trace workers oct octets file few (Err fault) is = other_answer c plan trace workers BadPlan (bad_plan fault)
+    (bad_plan_other fault) (λ e. cc) (λ e. cc) (octets, file, few, ap is_err is) (λ on. absurd on)
 
-replay_through : (goes : Goes) (c : Contents) (plan trace : List ℕ) (workers : ℕ) → ((first : Network) (octets : List ℕ) → c trace ≡ Some octets → AllByRecursion (HasOctets first) (trace_of octets).lines)
+replay_through : (goes : Goes) (c : Contents) (plan trace : List ℕ) (workers : ℕ)
+    → ((first : Network) (octets : List ℕ) → c trace ≡ Some octets → AllByRecursion (HasOctets first) (trace_of octets).lines)
     → Through (EndsAny c plan trace workers) (ReadsAny c plan trace) (FrontsAny c plan trace) (Some c) (replay_work plan trace workers) []
 unfolding replay_work
 replay_through goes c plan trace workers oct = (inl refl, λ octets file. by octets file (ltb 1048576 (length octets)) refl) where
   by : (octets : List ℕ) → c plan ≡ Some octets → (b : Bool) → ltb 1048576 (length octets) ≡ b
       → Through (EndsAny c plan trace workers) (ReadsAny c plan trace) (FrontsAny c plan trace) (Some c)
       (cond b (answered (TooLong, too_long)) (planned (plan_of octets) (λ first. judge first (replayed plan trace workers first)))) []
-  by octets file true e = other_answer c plan trace workers TooLong too_long too_long_other (λ e. cc) (λ e. cc) (inl (octets, file, ltb-true 1048576 (length octets) e)) (λ on. absurd on)
+  by octets file true e = other_answer c plan trace workers TooLong too_long too_long_other (λ e. cc) (λ e. cc)
+      (inl (octets, file, ltb-true 1048576 (length octets) e)) (λ on. absurd on)
   by octets file false e = on_plan goes c plan trace workers oct octets file (ltb-false 1048576 (length octets) e) (plan_of octets) refl
 
 -- ---- whatever the answer
@@ -255,7 +309,8 @@ neither : {s : Status} → (s ≡ Done → ⊥) → (s ≡ BadTrace → ⊥) →
 neither p q (inl e) = p e
 neither p q (inr e) = q e
 
-with_last : {c : Contents} {plan : List ℕ} {lines : List Numbered} {text : List ℕ} (last : List ℕ) → Account c plan lines [] text → Account c plan lines last (text ++ last)
+with_last : {c : Contents} {plan : List ℕ} {lines : List Numbered} {text : List ℕ} (last : List ℕ) → Account c plan lines [] text
+    → Account c plan lines last (text ++ last)
 with_last {c} {plan} {lines} {text} last h = record {
   first = h.first;
   bound = h.bound;
@@ -263,22 +318,34 @@ with_last {c} {plan} {lines} {text} last h = record {
   pieces = h.pieces;
   of_lines = h.of_lines;
   each = h.each;
-  whole = ap (λ t. t ++ last) (h.whole ∙ ap (λ t. first_plan_line plan h.bound ++ t) (append-nil (flat_map (λ p. p.text) h.pieces))) ∙ append_assoc (first_plan_line plan h.bound) (flat_map (λ p. p.text) h.pieces) last;
+  whole = ap (λ t. t ++ last) (h.whole ∙ ap (λ t. first_plan_line plan h.bound ++ t) (append-nil (flat_map (λ p. p.text) h.pieces)))
+      ∙ append_assoc (first_plan_line plan h.bound) (flat_map (λ p. p.text) h.pieces) last;
 }
 
-faulted : (c : Contents) (plan trace written : List ℕ) → ReadsAny c plan trace written → TellsReplay c plan trace ReadFault (written ++ read_fault)
+faulted : (c : Contents) (plan trace written : List ℕ) → ReadsAny c plan trace written
+    → TellsReplay c plan trace ReadFault (written ++ read_fault)
 faulted c plan trace written (inl e) = record {
-  told = λ is. absurd (read_fault_other read_fault (starts_whole read_fault) (subst (λ w. StartsWith (w ++ read_fault) (codes "plan 1 ")) e is));
+  told = λ is. absurd (read_fault_other read_fault (starts_whole read_fault)
+      (subst (λ w. StartsWith (w ++ read_fault) (codes "plan 1 ")) e is));
   begins = λ e. absurd (neither (λ f. cc) (λ f. cc) e);
 }
 faulted c plan trace written (inr r) = record {
-  told = λ is. record { count = r.0; last = read_fault; whole = written ++ read_fault; account = with_last read_fault r.1; so = (refl, refl) };
+  told = λ is. record {
+    count = r.0;
+    last = read_fault;
+    whole = written
+        ++ read_fault;
+    account = with_last read_fault r.1;
+    so = (refl, refl);
+  };
   begins = λ e. absurd (neither (λ f. cc) (λ f. cc) e);
 }
 
 -- a front of what was written before a reading and of the line on the fault
-cut_faulted : (c : Contents) (plan trace written front : List ℕ) → ReadsAny c plan trace written → StartsWith read_fault front → FrontsAny c plan trace (written ++ front)
-cut_faulted c plan trace written front (inl e) starts is = absurd (read_fault_other front starts (subst (λ w. StartsWith (w ++ front) (codes "plan 1 ")) e is))
+cut_faulted : (c : Contents) (plan trace written front : List ℕ) → ReadsAny c plan trace written → StartsWith read_fault front
+    → FrontsAny c plan trace (written ++ front)
+cut_faulted c plan trace written front (inl e) starts is =
+    absurd (read_fault_other front starts (subst (λ w. StartsWith (w ++ front) (codes "plan 1 ")) e is))
 cut_faulted c plan trace written front (inr r) starts is = record {
   count = r.0;
   last = read_fault;
@@ -292,51 +359,87 @@ none_begun c plan trace = λ is. absurd (nothing is) where
   nothing : StartsWith [] (codes "plan 1 ") → ⊥
   nothing e = cc
 
-front_so : (c : Contents) (plan trace : List ℕ) (workers : ℕ) (work : Work) (text : List ℕ) → Through (EndsAny c plan trace workers) (ReadsAny c plan trace) (FrontsAny c plan trace) (Some c) work [] → BeginsWith (Some c) work text → FrontsAny c plan trace text
-front_so c plan trace workers work text h e = fronts_of (EndsAny c plan trace workers) (ReadsAny c plan trace) (FrontsAny c plan trace) (Some c) work [] text (none_begun c plan trace) h e
+front_so : (c : Contents) (plan trace : List ℕ) (workers : ℕ) (work : Work) (text : List ℕ)
+    → Through (EndsAny c plan trace workers) (ReadsAny c plan trace) (FrontsAny c plan trace) (Some c) work []
+    → BeginsWith (Some c) work text → FrontsAny c plan trace text
+front_so c plan trace workers work text h e = fronts_of (EndsAny c plan trace workers) (ReadsAny c plan trace) (FrontsAny c plan trace)
+    (Some c) work [] text (none_begun c plan trace) h e
 
-reads_so : (c : Contents) (plan trace : List ℕ) (workers : ℕ) (work : Work) (text : List ℕ) → Through (EndsAny c plan trace workers) (ReadsAny c plan trace) (FrontsAny c plan trace) (Some c) work [] → ComesToReading (Some c) work text → ReadsAny c plan trace text
-reads_so c plan trace workers work text h e = reads_of (EndsAny c plan trace workers) (ReadsAny c plan trace) (FrontsAny c plan trace) (Some c) work [] text h e
+reads_so : (c : Contents) (plan trace : List ℕ) (workers : ℕ) (work : Work) (text : List ℕ)
+    → Through (EndsAny c plan trace workers) (ReadsAny c plan trace) (FrontsAny c plan trace) (Some c) work []
+    → ComesToReading (Some c) work text → ReadsAny c plan trace text
+reads_so c plan trace workers work text h e = reads_of (EndsAny c plan trace workers) (ReadsAny c plan trace) (FrontsAny c plan trace)
+    (Some c) work [] text h e
 
-ends_so : (c : Contents) (plan trace : List ℕ) (workers : ℕ) (work : Work) (s : Status) (text : List ℕ) → Through (EndsAny c plan trace workers) (ReadsAny c plan trace) (FrontsAny c plan trace) (Some c) work [] → Ends (Some c) work s text → EndsAny c plan trace workers s text
-ends_so c plan trace workers work s text h e = ends_of (EndsAny c plan trace workers) (ReadsAny c plan trace) (FrontsAny c plan trace) (Some c) work [] text s h e
+ends_so : (c : Contents) (plan trace : List ℕ) (workers : ℕ) (work : Work) (s : Status) (text : List ℕ)
+    → Through (EndsAny c plan trace workers) (ReadsAny c plan trace) (FrontsAny c plan trace) (Some c) work [] → Ends (Some c) work s text
+    → EndsAny c plan trace workers s text
+ends_so c plan trace workers work s text h e = ends_of (EndsAny c plan trace workers) (ReadsAny c plan trace) (FrontsAny c plan trace)
+    (Some c) work [] text s h e
 
-front_of_fault : (c : Contents) (plan trace text written front : List ℕ) → ReadsAny c plan trace written → StartsWith read_fault front → text ≡ written ++ front → FrontsAny c plan trace text
-front_of_fault c plan trace text written front r starts same = subst (FrontsAny c plan trace) (sym same) (cut_faulted c plan trace written front r starts)
+front_of_fault : (c : Contents) (plan trace text written front : List ℕ) → ReadsAny c plan trace written → StartsWith read_fault front
+    → text ≡ written ++ front → FrontsAny c plan trace text
+front_of_fault c plan trace text written front r starts same =
+    subst (FrontsAny c plan trace) (sym same) (cut_faulted c plan trace written front r starts)
 
-cut_short : (c : Contents) (plan trace : List ℕ) (workers : ℕ) (work : Work) (text : List ℕ) (b a : Moment) → b.contents ≡ Some c → Through (EndsAny c plan trace workers) (ReadsAny c plan trace) (FrontsAny c plan trace) (Some c) work []
+cut_short : (c : Contents) (plan trace : List ℕ) (workers : ℕ) (work : Work) (text : List ℕ) (b a : Moment) → b.contents ≡ Some c
+    → Through (EndsAny c plan trace workers) (ReadsAny c plan trace) (FrontsAny c plan trace) (Some c) work []
     → IsCutShort work text b a → FrontsAny c plan trace text
-cut_short c plan trace workers work text b a is h (inl e) = front_so c plan trace workers work text h (subst (λ k. BeginsWith k work text) is e)
+cut_short c plan trace workers work text b a is h (inl e) =
+    front_so c plan trace workers work text h (subst (λ k. BeginsWith k work text) is e)
 cut_short c plan trace workers work text b a is h (inr e) =
-    front_of_fault c plan trace text e.1.0 e.1.1 (reads_so c plan trace workers work e.1.0 h (subst (λ k. ComesToReading k work e.1.0) is e.1.2)) e.1.3 e.1.4
+    front_of_fault c plan trace text e.1.0 e.1.1 (reads_so c plan trace workers work e.1.0 h
+    (subst (λ k. ComesToReading k work e.1.0) is e.1.2)) e.1.3 e.1.4
 
 as_wanting : (c : Contents) (plan trace text : List ℕ) → IsTold c plan trace WriteFault text → IsTold c plan trace NoMemory text
 as_wanting c plan trace text t = record { count = t.count; last = t.last; whole = t.whole; account = t.account; so = t.so }
 
-pub told_so : (c : Contents) (plan trace : List ℕ) (workers : ℕ) (work : Work) (s : Status) (text : List ℕ) (b a : Moment) → b.contents ≡ Some c
-    → Through (EndsAny c plan trace workers) (ReadsAny c plan trace) (FrontsAny c plan trace) (Some c) work [] → Answers work s text b a → TellsReplay c plan trace s text
-told_so c plan trace workers work WriteFault text b a is h e = record { told = cut_short c plan trace workers work text b a is h e.1; begins = λ f. absurd (neither (λ g. cc) (λ g. cc) f) }
-told_so c plan trace workers work NoMemory text b a is h e = record { told = λ begun. as_wanting c plan trace text (cut_short c plan trace workers work text b a is h e begun); begins = λ f. absurd (neither (λ g. cc) (λ g. cc) f) }
+pub told_so : (c : Contents) (plan trace : List ℕ) (workers : ℕ) (work : Work) (s : Status) (text : List ℕ) (b a : Moment)
+    → b.contents ≡ Some c
+    → Through (EndsAny c plan trace workers) (ReadsAny c plan trace) (FrontsAny c plan trace) (Some c) work [] → Answers work s text b a
+    → TellsReplay c plan trace s text
+told_so c plan trace workers work WriteFault text b a is h e =
+    record { told = cut_short c plan trace workers work text b a is h e.1; begins = λ f. absurd (neither (λ g. cc) (λ g. cc) f) }
+told_so c plan trace workers work NoMemory text b a is h e =
+    record {
+      told = λ begun. as_wanting c plan trace text (cut_short c plan trace workers work text b a is h e begun);
+      begins = λ f. absurd
+          (neither (λ g. cc) (λ g. cc) f);
+    }
 told_so c plan trace workers work ReadFault text b a is h e =
-    subst (TellsReplay c plan trace ReadFault) (sym e.1.2) (faulted c plan trace e.1.0 (reads_so c plan trace workers work e.1.0 h (subst (λ k. ComesToReading k work e.1.0) is e.1.1)))
+    subst (TellsReplay c plan trace ReadFault) (sym e.1.2)
+    (faulted c plan trace e.1.0 (reads_so c plan trace workers work e.1.0 h (subst (λ k. ComesToReading k work e.1.0) is e.1.1)))
 told_so c plan trace workers work s text b a is h e = (ends_so c plan trace workers work s text h (subst (λ k. Ends k work s text) is e)).0
 
 -- what a replay prints, whatever it answers
-pub replay_told : (goes : Goes) (c : Contents) (plan trace : List ℕ) (workers : ℕ) (s : Status) (b a : Moment) → b.contents ≡ Some c → (o : Outcome (replay_work plan trace workers) s b a) → TellsReplay c plan trace s o.text
+pub replay_told : (goes : Goes) (c : Contents) (plan trace : List ℕ) (workers : ℕ) (s : Status) (b a : Moment) → b.contents ≡ Some c
+    → (o : Outcome (replay_work plan trace workers) s b a) → TellsReplay c plan trace s o.text
 replay_told goes c plan trace workers s b a is o =
-    told_so c plan trace workers (replay_work plan trace workers) s o.text b a is (replay_through goes c plan trace workers (λ first octets there. trace_octets first octets)) o.answers
+    told_so c plan trace workers (replay_work plan trace workers) s o.text b a is
+    (replay_through goes c plan trace workers (λ first octets there. trace_octets first octets)) o.answers
 
 -- why a replay that was not cut short ended so
-pub replay_ends : (goes : Goes) (c : Contents) (plan trace : List ℕ) (workers : ℕ) (s : Status) (text : List ℕ) → Ends (Some c) (replay_work plan trace workers) s text → ReplayCause c plan trace s
+pub replay_ends : (goes : Goes) (c : Contents) (plan trace : List ℕ) (workers : ℕ) (s : Status) (text : List ℕ)
+    → Ends (Some c) (replay_work plan trace workers) s text → ReplayCause c plan trace s
 replay_ends goes c plan trace workers s text e =
-    (ends_so c plan trace workers (replay_work plan trace workers) s text (replay_through goes c plan trace workers (λ first octets there. trace_octets first octets)) e).1
+    (ends_so c plan trace workers (replay_work plan trace workers) s text
+    (replay_through goes c plan trace workers (λ first octets there. trace_octets first octets)) e).1
 
-told_verdict : {p : Network} {s : Status} {text : List ℕ} (taken taken' : Option (List ℕ)) → taken' ≡ append_known taken text → IsVerdict p s text → Tells p s taken taken'
-told_verdict taken taken' is v = record { verdict = v.verdict; lawful = v.lawful; status = v.status; text = is ∙ ap (λ t. append_known taken t) v.whole }
+told_verdict : {p : Network} {s : Status} {text : List ℕ} (taken taken' : Option (List ℕ)) → taken' ≡ append_known taken text
+    → IsVerdict p s text → Tells p s taken taken'
+told_verdict taken taken' is v = record {
+  verdict = v.verdict;
+  lawful = v.lawful;
+  status = v.status;
+  text = is
+      ∙ ap (λ t. append_known taken t) v.whole;
+}
 
 -- a refusal gives a lawful verdict
-pub verdict_ends : (goes : Goes) (c : Contents) (plan trace : List ℕ) (workers : ℕ) (s : Status) (text : List ℕ) (taken taken' : Option (List ℕ)) → taken' ≡ append_known taken text
+pub verdict_ends : (goes : Goes) (c : Contents) (plan trace : List ℕ) (workers : ℕ) (s : Status) (text : List ℕ)
+    (taken taken' : Option (List ℕ)) → taken' ≡ append_known taken text
     → (IsOnRefusal s → Ends (Some c) (replay_work plan trace workers) s text) → ReplayTells c plan s taken taken'
 verdict_ends goes c plan trace workers s text taken taken' is ends = λ on.
-    let v = (ends_so c plan trace workers (replay_work plan trace workers) s text (replay_through goes c plan trace workers (λ first octets there. trace_octets first octets)) (ends on)).2 on in
+    let v = (ends_so c plan trace workers (replay_work plan trace workers) s text
+    (replay_through goes c plan trace workers (λ first octets there. trace_octets first octets)) (ends on)).2 on in
     (v.0, v.1, v.2, (v.3.0, v.3.1, told_verdict taken taken' is v.3.2))

@@ -1,5 +1,6 @@
 -- What is printed of a batch, line by line.
-use Rattle.std.proofs.Common.{◌≡◌, ◌⊎◌, ◌<◌, ◌≤◌, ℕ, zero, suc, List, [], ◌∷◌, ◌++◌, length, map, refl, sym, ◌∙◌, ap, subst, arith, inl, inr}
+use Rattle.std.proofs.Common.{◌≡◌, ◌⊎◌, ◌<◌, ◌≤◌, ℕ, zero, suc, List, [], ◌∷◌, ◌++◌, length, map, refl, sym, ◌∙◌, ap, subst, arith, inl}
+use Rattle.std.proofs.Common.{inr}
 use Rattle.std.specs.List.{AllByRecursion, Contains, flat_map, filter_map}
 use Rattle.std.proofs.lemmas.List.Elements.{Contains-append_right, Contains-append_cases}
 use Rattle.sccp_address.proofs.Kept.{AreOctets}
@@ -50,18 +51,25 @@ range_own most [] h = tt
 range_own most (prints text ∷ ss) h = range_own most ss h.1
 range_own most (routes line x before ∷ ss) h = (h.0, range_own most ss h.1)
 
-range_among : (first last : ℕ) (ns : List ℕ) → 1 ≤ first → AllByRecursion (λ n. (first ≤ n) × (n ≤ last)) ns → AllByRecursion (Within last) ns
+range_among : (first last : ℕ) (ns : List ℕ) → 1 ≤ first → AllByRecursion (λ n. (first ≤ n) × (n ≤ last)) ns
+    → AllByRecursion (Within last) ns
 range_among first last [] le h = tt
 range_among first last (n ∷ ns) le h = ((omega (arith, le, h.0.0), h.0.1), range_among first last ns le h.1)
 
-pub ranges : (most : ℕ) (ls : List Numbered) (ss : List Settled) → Same ls ss → ((l : Numbered) (s : Settled) → At ls ss l s → InRange most s) → AllByRecursion (InRange most) ss
+pub ranges : (most : ℕ) (ls : List Numbered) (ss : List Settled) → Same ls ss
+    → ((l : Numbered) (s : Settled) → At ls ss l s → InRange most s) → AllByRecursion (InRange most) ss
 ranges most [] [] same h = tt
 ranges most [] (s ∷ ss) same h = absurd same
 ranges most (l ∷ ls) [] same h = absurd same
 ranges most (l ∷ ls) (s ∷ ss) same h = (h l s (inl (refl, refl)), ranges most ls ss same (λ k t at. h k t (inr at)))
 
-pub numbers_fit : (at at' : Standing) (ss : List Settled) (ns : List ℕ) → AllByRecursion (InRange (accepted at')) ss → AreNumbers (batch_of at at' ss) ns → Enough ss ns × AllByRecursion (Within (accepted at')) ns
-numbers_fit at at' ss ns h (inl e) = (subst (Enough ss) (sym e.1) (enough_own ss), subst (AllByRecursion (Within (accepted at'))) (sym e.1) (range_own (accepted at') ss h))
+pub numbers_fit : (at at' : Standing) (ss : List Settled) (ns : List ℕ) → AllByRecursion (InRange (accepted at')) ss
+    → AreNumbers (batch_of at at' ss) ns → Enough ss ns × AllByRecursion (Within (accepted at')) ns
+numbers_fit at at' ss ns h (inl e) = (
+  subst (Enough ss) (sym e.1) (enough_own ss),
+  subst (AllByRecursion (Within (accepted at')))
+      (sym e.1) (range_own (accepted at') ss h),
+)
 numbers_fit at at' ss ns h (inr e) = (enough_many ss ns e.1.each, range_among (accepted at) (accepted at') ns (omega arith) e.1.range)
 
 -- ---- the pieces
@@ -75,19 +83,23 @@ pieces_of at markings states (l ∷ ls) [] numbers = []
 pieces_of at markings states (l ∷ ls) (prints text ∷ settled) numbers = piece_of l text ∷ pieces_of at markings states ls settled numbers
 pieces_of at markings states (l ∷ ls) (routes line x before ∷ settled) [] = piece_of l [] ∷ pieces_of at markings states ls settled []
 pieces_of at markings states (l ∷ ls) (routes line x before ∷ settled) (number ∷ numbers) =
-    piece_of l (served_text at.first line number (journey_by at markings x number) (applied_after at.first states x (journey_by at markings x number)).outcomes)
+    piece_of l (served_text at.first line number (journey_by at markings x number)
+    (applied_after at.first states x (journey_by at markings x number)).outcomes)
     ∷ pieces_of at markings (applied_after at.first states x (journey_by at markings x number)).states ls settled numbers
 
-pub pieces_lines : (at : Standing) (mk : List (List Mark)) (st : List State) (ls : List Numbered) (ss : List Settled) (ns : List ℕ) → Same ls ss → map (λ p. p.line) (pieces_of at mk st ls ss ns) ≡ ls
+pub pieces_lines : (at : Standing) (mk : List (List Mark)) (st : List State) (ls : List Numbered) (ss : List Settled) (ns : List ℕ)
+    → Same ls ss → map (λ p. p.line) (pieces_of at mk st ls ss ns) ≡ ls
 unfolding pieces_of
 pieces_lines at mk st [] [] ns h = refl
 pieces_lines at mk st [] (s ∷ ss) ns h = absurd h
 pieces_lines at mk st (l ∷ ls) [] ns h = absurd h
 pieces_lines at mk st (l ∷ ls) (prints text ∷ ss) ns h = ap (λ k. l ∷ k) (pieces_lines at mk st ls ss ns h)
 pieces_lines at mk st (l ∷ ls) (routes line x before ∷ ss) [] h = ap (λ k. l ∷ k) (pieces_lines at mk st ls ss [] h)
-pieces_lines at mk st (l ∷ ls) (routes line x before ∷ ss) (n ∷ ns) h = ap (λ k. l ∷ k) (pieces_lines at mk (applied_after at.first st x (journey_by at mk x n)).states ls ss ns h)
+pieces_lines at mk st (l ∷ ls) (routes line x before ∷ ss) (n ∷ ns) h =
+    ap (λ k. l ∷ k) (pieces_lines at mk (applied_after at.first st x (journey_by at mk x n)).states ls ss ns h)
 
-pub pieces_text : (at : Standing) (mk : List (List Mark)) (st : List State) (ls : List Numbered) (ss : List Settled) (ns : List ℕ) → Same ls ss → Enough ss ns
+pub pieces_text : (at : Standing) (mk : List (List Mark)) (st : List State) (ls : List Numbered) (ss : List Settled) (ns : List ℕ)
+    → Same ls ss → Enough ss ns
     → (tell at mk st ss ns).text ≡ flat_map (λ p. p.text) (pieces_of at mk st ls ss ns)
 unfolding pieces_of Enough tell
 pieces_text at mk st [] [] ns h e = refl
@@ -115,23 +127,28 @@ first_or xs y x h = on (Contains-append_cases (y ∷ []) xs x h) where
   on (inl c) = inl (one c.0 c.1 c.2)
   on (inr c) = inr c
 
-pub pieces_prints : (at : Standing) (mk : List (List Mark)) (st : List State) (ls : List Numbered) (ss : List Settled) (ns : List ℕ) (k : Numbered) (text : List ℕ) → At ls ss k (prints text)
+pub pieces_prints : (at : Standing) (mk : List (List Mark)) (st : List State) (ls : List Numbered) (ss : List Settled) (ns : List ℕ)
+    (k : Numbered) (text : List ℕ) → At ls ss k (prints text)
     → Contains (pieces_of at mk st ls ss ns) (piece_of k text)
 unfolding pieces_of
 pieces_prints at mk st [] ss ns k text h = absurd h
 pieces_prints at mk st (l ∷ ls) [] ns k text h = absurd h
 pieces_prints at mk st (l ∷ ls) (prints t ∷ ss) ns k text (inl h) =
-    subst (λ p. Contains (piece_of l t ∷ pieces_of at mk st ls ss ns) p) (λ i. record { line = h.0 i; text = same_text h.1 i }) (here (pieces_of at mk st ls ss ns) (piece_of l t)) where
+    subst (λ p. Contains (piece_of l t ∷ pieces_of at mk st ls ss ns) p) (λ i. record { line = h.0 i; text = same_text h.1 i })
+    (here (pieces_of at mk st ls ss ns) (piece_of l t)) where
       same_text : {a b : List ℕ} → prints a ≡ prints b → a ≡ b
       same_text e = cc
-pieces_prints at mk st (l ∷ ls) (prints t ∷ ss) ns k text (inr h) = there (pieces_of at mk st ls ss ns) (piece_of l t) (piece_of k text) (pieces_prints at mk st ls ss ns k text h)
+pieces_prints at mk st (l ∷ ls) (prints t ∷ ss) ns k text (inr h) = there (pieces_of at mk st ls ss ns) (piece_of l t) (piece_of k text)
+    (pieces_prints at mk st ls ss ns k text h)
 pieces_prints at mk st (l ∷ ls) (routes line x before ∷ ss) ns k text (inl h) = absurd (apart h.1) where
   apart : {a : List ℕ} → routes line x before ≡ prints a → ⊥
   apart e = cc
-pieces_prints at mk st (l ∷ ls) (routes line x before ∷ ss) [] k text (inr h) = there (pieces_of at mk st ls ss []) (piece_of l []) (piece_of k text) (pieces_prints at mk st ls ss [] k text h)
+pieces_prints at mk st (l ∷ ls) (routes line x before ∷ ss) [] k text (inr h) = there (pieces_of at mk st ls ss []) (piece_of l [])
+    (piece_of k text) (pieces_prints at mk st ls ss [] k text h)
 pieces_prints at mk st (l ∷ ls) (routes line x before ∷ ss) (n ∷ ns) k text (inr h) =
     let a : Applied = applied_after at.first st x (journey_by at mk x n) in
-    there (pieces_of at mk a.states ls ss ns) (piece_of l (served_text at.first line n (journey_by at mk x n) a.outcomes)) (piece_of k text) (pieces_prints at mk a.states ls ss ns k text h)
+    there (pieces_of at mk a.states ls ss ns) (piece_of l (served_text at.first line n (journey_by at mk x n) a.outcomes)) (piece_of k text)
+    (pieces_prints at mk a.states ls ss ns k text h)
 
 -- what each piece says
 
@@ -152,9 +169,11 @@ pub record Serves (published : ℕ → Network → ℕ → Type 0) (number : ℕ
 abbrev pub HasOctets : Network → Numbered → Type 0
 HasOctets first l = (x : Incoming) → role_of first l.line ≡ routed x → AreOctets x.octets
 
-tells : (goes : Goes) (published : ℕ → Network → ℕ → Type 0) (first : Network) (at : Standing) (mk : List (List Mark)) (st : List State) (l : Numbered) (line : ℕ) (x : Incoming) (number : ℕ)
+tells : (goes : Goes) (published : ℕ → Network → ℕ → Type 0) (first : Network) (at : Standing) (mk : List (List Mark)) (st : List State)
+    (l : Numbered) (line : ℕ) (x : Incoming) (number : ℕ)
     → at.first ≡ first → line ≡ l.number → HasOctets first l → role_of first l.line ≡ routed x → Serves published number (plan_at at number)
-    → TellsJourney published first l.number x (served_text at.first line number (journey_by at mk x number) (applied_after at.first st x (journey_by at mk x number)).outcomes)
+    → TellsJourney published first l.number x (served_text at.first line number (journey_by at mk x number)
+    (applied_after at.first st x (journey_by at mk x number)).outcomes)
 tells goes published first at mk st l line x number same is octets role s = record {
   number = number;
   plan = plan_at at number;
@@ -164,14 +183,17 @@ tells goes published first at mk st l line x number same is octets role s = reco
   way = journey_by at mk x number;
   is_way = refl;
   outcomes = (applied_after at.first st x (journey_by at mk x number)).outcomes;
-  told = λ i. served_text (same i) (is i) number (journey_by at mk x number) (applied_after at.first st x (journey_by at mk x number)).outcomes;
-  well = λ m z covered. goes (plan_at at number) s.bound mk x.entry x.origin x.octets m z s.is_plan s.safe.few s.safe.safe (octets x role) covered;
+  told = λ i. served_text (same i) (is i) number (journey_by at mk x number)
+      (applied_after at.first st x (journey_by at mk x number)).outcomes;
+  well = λ m z covered. goes (plan_at at number) s.bound mk x.entry x.origin x.octets m z s.is_plan s.safe.few s.safe.safe
+      (octets x role) covered;
 }
 
 same_incoming : {x y : Incoming} → routed x ≡ routed y → x ≡ y
 same_incoming e = cc
 
-pub pieces_tell : (goes : Goes) (published : ℕ → Network → ℕ → Type 0) (first : Network) (at : Standing) (mk : List (List Mark)) (most : ℕ) → at.first ≡ first
+pub pieces_tell : (goes : Goes) (published : ℕ → Network → ℕ → Type 0) (first : Network) (at : Standing) (mk : List (List Mark)) (most : ℕ)
+    → at.first ≡ first
     → ((number : ℕ) → Within most number → Serves published number (plan_at at number))
     → (st : List State) (ls : List Numbered) (ss : List Settled) (ns : List ℕ) → Enough ss ns → AllByRecursion (Within most) ns
     → ((l : Numbered) (s : Settled) → At ls ss l s → IsOf first l s) → AllByRecursion (HasOctets first) ls
@@ -180,22 +202,29 @@ unfolding pieces_of Enough
 pieces_tell goes published first at mk most same serves st [] ss ns e r is oct p c = absurd (omega (arith, c.1))
 pieces_tell goes published first at mk most same serves st (l ∷ ls) [] ns e r is oct p c = absurd (omega (arith, c.1))
 pieces_tell goes published first at mk most same serves st (l ∷ ls) (prints text ∷ ss) ns e r is oct p c =
-    on (pieces_tell goes published first at mk most same serves st ls ss ns e r (λ k s a. is k s (inr a)) oct.1 p) (first_or (pieces_of at mk st ls ss ns) (piece_of l text) p c) where
-      on : (Contains (pieces_of at mk st ls ss ns) p → TellsLine published first p) → (piece_of l text ≡ p) ⊎ Contains (pieces_of at mk st ls ss ns) p → TellsLine published first p
+    on (pieces_tell goes published first at mk most same serves st ls ss ns e r (λ k s a. is k s (inr a)) oct.1 p)
+    (first_or (pieces_of at mk st ls ss ns) (piece_of l text) p c) where
+      on : (Contains (pieces_of at mk st ls ss ns) p → TellsLine published first p)
+          → (piece_of l text ≡ p) ⊎ Contains (pieces_of at mk st ls ss ns) p → TellsLine published first p
       on more (inl h) = subst (TellsLine published first) h (λ x role. absurd (is l (prints text) (inl (refl, refl)) x role))
       on more (inr h) = more h
 pieces_tell goes published first at mk most same serves st (l ∷ ls) (routes line x before ∷ ss) [] e r is oct p c = absurd e
 pieces_tell goes published first at mk most same serves st (l ∷ ls) (routes line x before ∷ ss) (n ∷ ns) e r is oct p c =
-    on (pieces_tell goes published first at mk most same serves (applied_after at.first st x (journey_by at mk x n)).states ls ss ns e r.1 (λ k s a. is k s (inr a)) oct.1 p)
+    on (pieces_tell goes published first at mk most same serves (applied_after at.first st x (journey_by at mk x n)).states ls ss ns e r.1
+    (λ k s a. is k s (inr a)) oct.1 p)
     (first_or (pieces_of at mk (applied_after at.first st x (journey_by at mk x n)).states ls ss ns)
-    (piece_of l (served_text at.first line n (journey_by at mk x n) (applied_after at.first st x (journey_by at mk x n)).outcomes)) p c) where
+    (piece_of l (served_text at.first line n (journey_by at mk x n)
+    (applied_after at.first st x (journey_by at mk x n)).outcomes)) p c) where
       own : IsOf first l (routes line x before)
       own = is l (routes line x before) (inl (refl, refl))
 
       on : (Contains (pieces_of at mk (applied_after at.first st x (journey_by at mk x n)).states ls ss ns) p → TellsLine published first p)
-          → (piece_of l (served_text at.first line n (journey_by at mk x n) (applied_after at.first st x (journey_by at mk x n)).outcomes) ≡ p)
+          → (piece_of l (served_text at.first line n (journey_by at mk x n) (applied_after at.first st x (journey_by at mk x n)).outcomes)
+          ≡ p)
           ⊎ Contains (pieces_of at mk (applied_after at.first st x (journey_by at mk x n)).states ls ss ns) p → TellsLine published first p
       on more (inl h) = subst (TellsLine published first) h (λ y role.
-          subst (λ z. TellsJourney published first l.number z (served_text at.first line n (journey_by at mk x n) (applied_after at.first st x (journey_by at mk x n)).outcomes)) (same_incoming (sym own.1 ∙ role))
+          subst (λ z. TellsJourney published first l.number z
+          (served_text at.first line n (journey_by at mk x n) (applied_after at.first st x (journey_by at mk x n)).outcomes))
+          (same_incoming (sym own.1 ∙ role))
           (tells goes published first at mk st l line x n same own.0 oct.0 own.1 (serves n r.0)))
       on more (inr h) = more h

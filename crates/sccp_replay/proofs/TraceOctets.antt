@@ -1,5 +1,6 @@
 -- The octets of a message in a trace are octets.
-use Rattle.std.proofs.Common.{◌≡◌, ℕ, List, [], ◌∷◌, length, Bool, true, false, cond, Option, Some, None, Result, Ok, Err, IfSome, refl, ap, subst}
+use Rattle.std.proofs.Common.{◌≡◌, ℕ, List, [], ◌∷◌, length, Bool, true, false, cond, Option, Some, None, Result, Ok, Err, IfSome, refl, ap}
+use Rattle.std.proofs.Common.{subst}
 use Rattle.std.specs.Prelude.{codes, ◌||◌, ◌+◌}
 use Rattle.std.specs.List.{AllByRecursion}
 use Rattle.std.specs.Option.{option_map, option_and_then}
@@ -18,7 +19,8 @@ use Rattle.sccp_message.specs.declared.message.Message.{Message}
 use Rattle.sccp_message.specs.Unitdata.{called_of}
 use Rattle.plan_model.specs.Network.{Network}
 use Rattle.relay_net.specs.Batches.{Incoming}
-use Rattle.sccp_report.specs.Roles.{routed, alone, role_by_called, role_of_message, role_at, is_for_management, management_data, status_due, named}
+use Rattle.sccp_report.specs.Roles.{routed, alone, role_by_called, role_of_message, role_at, is_for_management, management_data, status_due}
+use Rattle.sccp_report.specs.Roles.{named}
 use Rattle.sccp_base.specs.Text.{cut_at}
 use Rattle.trace_text.specs.Forms.{file_name, node_and_point, node_and_subsystem, message, line_of_fields, line_of_cut, is_skipped, line_of}
 use Rattle.trace_text.specs.Hex.{hex_word}
@@ -73,21 +75,27 @@ worded node pc word = by (hex_word word) refl where
   by None e = tt
   by (Some octets) e = spelt word octets e
 
-named_by : (word : List ℕ) (pc : ℕ) (name : Option (List ℕ)) → Fine (option_and_then (λ name. option_map (λ octets. Msg name pc octets) (hex_word word)) name)
+named_by : (word : List ℕ) (pc : ℕ) (name : Option (List ℕ))
+    → Fine (option_and_then (λ name. option_map (λ octets. Msg name pc octets) (hex_word word)) name)
 named_by word pc None = tt
 named_by word pc (Some name) = worded name pc word
 
-from_point : (word node : List ℕ) (pc : Option ℕ) → Fine (option_and_then (λ point. option_and_then (λ name. option_map (λ octets. Msg name point octets) (hex_word word)) (name_of node)) pc)
+from_point : (word node : List ℕ) (pc : Option ℕ)
+    → Fine (option_and_then (λ point. option_and_then (λ name. option_map (λ octets. Msg name point octets) (hex_word word))
+    (name_of node)) pc)
 from_point word node None = tt
 from_point word node (Some pc) = named_by word pc (name_of node)
 
 from_rest : (node : List ℕ) (cut : Option (List ℕ × List ℕ))
-    → Fine (option_and_then (λ origin. option_and_then (λ point. option_and_then (λ name. option_map (λ octets. Msg name point octets) (hex_word origin.1)) (name_of node)) (point_code_of origin.0)) cut)
+    → Fine (option_and_then (λ origin. option_and_then (λ point. option_and_then
+    (λ name. option_map (λ octets. Msg name point octets) (hex_word origin.1)) (name_of node)) (point_code_of origin.0)) cut)
 from_rest node None = tt
 from_rest node (Some origin) = from_point origin.1 node (point_code_of origin.0)
 
 from_fields : (cut : Option (List ℕ × List ℕ))
-    → Fine (option_and_then (λ node. option_and_then (λ origin. option_and_then (λ point. option_and_then (λ name. option_map (λ octets. Msg name point octets) (hex_word origin.1)) (name_of node.0)) (point_code_of origin.0)) (cut_at 32 node.1)) cut)
+    → Fine (option_and_then (λ node. option_and_then (λ origin. option_and_then
+    (λ point. option_and_then (λ name. option_map (λ octets. Msg name point octets) (hex_word origin.1)) (name_of node.0))
+    (point_code_of origin.0)) (cut_at 32 node.1)) cut)
 from_fields None = tt
 from_fields (Some node) = from_rest node.0 (cut_at 32 node.1)
 
@@ -113,7 +121,8 @@ cut_fine text (Some fields) = fields_fine fields.0 fields.1
 
 line_fine : (content : List ℕ) → Fine (line_of content)
 unfolding line_of
-line_fine content = either (is_skipped content) (Some Skip) (line_of_cut content (cut_at 32 content)) tt (cut_fine content (cut_at 32 content))
+line_fine content = either (is_skipped content) (Some Skip) (line_of_cut content (cut_at 32 content)) tt
+    (cut_fine content (cut_at 32 content))
 
 -- ---- the role of such a line
 
@@ -133,7 +142,8 @@ by_octets x y (Err fault) e = cc
 
 by_node : (origin : ℕ) (octets : List ℕ) (node : Option ℕ) (y : Incoming) → role_at origin octets node ≡ routed y → octets ≡ y.octets
 by_node origin octets None y e = cc
-by_node origin octets (Some entry) y e = ap (λ z. z.octets) (by_octets (record { entry = entry; origin = origin; octets = octets }) y (reading octets) e)
+by_node origin octets (Some entry) y e = ap (λ z. z.octets)
+    (by_octets (record { entry = entry; origin = origin; octets = octets }) y (reading octets) e)
 
 role_fine : (first : Network) (number : ℕ) (line : Line) → OfOctets line → HasOctets first (record { number = number; line = line })
 role_fine first number (Msg node origin octets) h = λ x e. subst AreOctets (by_node origin octets (named first node) x e) h
@@ -149,7 +159,8 @@ role_fine first number Skip h = λ x e. cc
 
 -- ---- all lines
 
-behind : (first : Network) (r : Result Numbered LineFault) (rest : Fed) → ((l : Numbered) → r ≡ Ok l → HasOctets first l) → AllByRecursion (HasOctets first) rest.lines → AllByRecursion (HasOctets first) (and_then r rest).lines
+behind : (first : Network) (r : Result Numbered LineFault) (rest : Fed) → ((l : Numbered) → r ≡ Ok l → HasOctets first l)
+    → AllByRecursion (HasOctets first) rest.lines → AllByRecursion (HasOctets first) (and_then r rest).lines
 behind first (Ok l) rest h all = (h l refl, all)
 behind first (Err fault) rest h all = tt
 
@@ -161,14 +172,17 @@ held first number (Err fault) l e = cc
 held first number (Ok content) l e = by (line_of content) (line_fine content) e where
   by : (o : Option Line) → Fine o → with_number number o ≡ Ok l → HasOctets first l
   by None h f = cc
-  by (Some line) h f = subst (HasOctets first) (same_line (with_number number (Some line)) (record { number = number; line = line }) l refl f) (role_fine first number line h)
+  by (Some line) h f = subst (HasOctets first) (same_line (with_number number (Some line))
+      (record { number = number; line = line }) l refl f) (role_fine first number line h)
 
 from_number : (first : Network) (number : ℕ) (lines : List TextLine) → AllByRecursion (HasOctets first) (told_lines true number lines).lines
 from_number first number [] = tt
 from_number first number (line ∷ lines) = by (line.ended || true) (from_number first (number + 1) lines) where
   by : (b : Bool) → AllByRecursion (HasOctets first) (told_lines true (number + 1) lines).lines
-      → AllByRecursion (HasOctets first) (cond b (and_then (numbered number line) (told_lines true (number + 1) lines)) (only (limit_of number (length line.octets)))).lines
-  by true all = behind first (numbered number line) (told_lines true (number + 1) lines) (λ l e. held first number (content_of number line) l e) all
+      → AllByRecursion (HasOctets first) (cond b (and_then (numbered number line) (told_lines true (number + 1) lines))
+      (only (limit_of number (length line.octets)))).lines
+  by true all = behind first (numbered number line) (told_lines true (number + 1) lines)
+      (λ l e. held first number (content_of number line) l e) all
   by false all = tt
 
 pub trace_octets : (first : Network) (text : List ℕ) → AllByRecursion (HasOctets first) (trace_of text).lines

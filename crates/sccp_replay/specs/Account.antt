@@ -74,7 +74,8 @@ pub record TellsJourney (published : ℕ → Network → ℕ → Type 0) (first 
   pub is_way : way ≡ journey plan prohibited x.entry x.origin x.octets
   pub outcomes : List Outcome
   pub told : text ≡ served_text first line number way outcomes
-  pub well : (m : Message) (s : Spot) → IsCoveredMessage plan bound x.entry x.octets m s → GoesWell plan prohibited bound m s way.path way.end
+  pub well : (m : Message) (s : Spot) → IsCoveredMessage plan bound x.entry x.octets m s
+      → GoesWell plan prohibited bound m s way.path way.end
 
 -- if the line is a message that is routed, its text gives its journey
 abbrev pub TellsLine : (ℕ → Network → ℕ → Type 0) → Network → Piece → Type 0
@@ -93,15 +94,18 @@ pub record Account (c : Contents) (plan_name : List ℕ) (lines : List Numbered)
 -- the last line under an answer; under Done and BadTrace all lines are printed
 abbrev pub IsLastLine : Contents → List ℕ → List Numbered → List ℕ → Status → Type 0
 IsLastLine c trace_name lines last Done = (lines ≡ lines_in c trace_name) × (last ≡ end_line (length lines))
-IsLastLine c trace_name lines last BadTrace = (lines ≡ lines_in c trace_name) × IsSomeAnd (fault_in c trace_name) (λ fault. last ≡ bad_line fault)
+IsLastLine c trace_name lines last BadTrace = (lines ≡ lines_in c trace_name)
+    × IsSomeAnd (fault_in c trace_name) (λ fault. last ≡ bad_line fault)
 IsLastLine c trace_name lines last TooLong = last ≡ too_long
 IsLastLine c trace_name lines last ReadFault = last ≡ read_fault
 IsLastLine c trace_name lines last status = ⊥
 
 -- The text is the account of some first lines of the trace. If the sink failed or memory was wanting, it is a front of one.
 abbrev pub IsTextUnder : Contents → List ℕ → List Numbered → List ℕ → List ℕ → List ℕ → Status → Type 0
-IsTextUnder c trace_name lines last whole text WriteFault = StartsWith whole text × ((last ≡ []) ⊎ ((s : Status) × IsLastLine c trace_name lines last s))
-IsTextUnder c trace_name lines last whole text NoMemory = StartsWith whole text × ((last ≡ []) ⊎ ((s : Status) × IsLastLine c trace_name lines last s))
+IsTextUnder c trace_name lines last whole text WriteFault = StartsWith whole text
+    × ((last ≡ []) ⊎ ((s : Status) × IsLastLine c trace_name lines last s))
+IsTextUnder c trace_name lines last whole text NoMemory = StartsWith whole text
+    × ((last ≡ []) ⊎ ((s : Status) × IsLastLine c trace_name lines last s))
 IsTextUnder c trace_name lines last whole text status = (text ≡ whole) × IsLastLine c trace_name lines last status
 
 pub record IsTold (c : Contents) (plan_name trace_name : List ℕ) (given : Status) (text : List ℕ) : Type 0 where

@@ -1,5 +1,6 @@
 -- The command that replays a trace, batch by batch.
-use Rattle.std.specs.Prelude.{ℕ, ◌+◌, ◌-◌, Bool, true, false, nat_le, List, [], ◌∷◌, ◌++◌, length, filter, slice_get, unwrap_or, codes, Option, Some, None, Result, Ok, Err, if◌then◌else◌}
+use Rattle.std.specs.Prelude.{ℕ, ◌+◌, ◌-◌, Bool, true, false, nat_le, List, [], ◌∷◌, ◌++◌, length, filter, slice_get, unwrap_or, codes}
+use Rattle.std.specs.Prelude.{Option, Some, None, Result, Ok, Err, if◌then◌else◌}
 use Rattle.std.specs.List.{filter_map}
 use Rattle.sccp_base.specs.declared.mark.Mark.{Mark}
 use Rattle.sccp_report.specs.Events.{event_text}
@@ -63,7 +64,8 @@ pub data Settled : Type 0 where
 abbrev pub judged_later : Standing → ℕ → List ℕ → Network → Verdict → (Standing → Settled → Work) → Work
 judged_later at line name plan (Accepted a) next =
     next (record at { later = at.later ++ plan ∷ [] }) (prints (accepted_plan_line line (accepted at + 1) name a.bound))
-judged_later at line name plan (Refused same witness) next = next at (prints (refused_plan_head line name ++ verdict_text plan (Refused same witness)))
+judged_later at line name plan (Refused same witness) next =
+    next at (prints (refused_plan_head line name ++ verdict_text plan (Refused same witness)))
 judged_later at line name plan (TooWide same) next = next at (prints (refused_plan_head line name ++ verdict_text plan (TooWide same)))
 
 -- a later plan is refused for its text, then for other relays than those of the first one, and then by its verdict
@@ -92,7 +94,8 @@ accepted_before (prints text) = None
 accepted_before (routes line x before) = Some before
 
 abbrev pub batch_of : Standing → Standing → List Settled → Batch
-batch_of at at' settled = record { workers = at.workers; before = filter_map accepted_before settled; first = accepted at; last = accepted at' }
+batch_of at at' settled =
+    record { workers = at.workers; before = filter_map accepted_before settled; first = accepted at; last = accepted at' }
 
 -- what was printed, and what the nodes keep afterwards
 pub record Told : Type 0 where
@@ -182,7 +185,8 @@ start workers plan = record { workers = workers; first = plan; later = []; state
 abbrev pub replayed : List ℕ → List ℕ → ℕ → Network → Verdict → Work
 replayed plan_name trace_name workers plan (Accepted a) =
     print (first_plan_line plan_name a.bound) (read trace_name (λ octets. trace_work (start workers plan) (trace_of octets)))
-replayed plan_name trace_name workers plan (Refused same witness) = answered (status_of (Refused same witness), verdict_text plan (Refused same witness))
+replayed plan_name trace_name workers plan (Refused same witness) =
+    answered (status_of (Refused same witness), verdict_text plan (Refused same witness))
 replayed plan_name trace_name workers plan (TooWide same) = answered (status_of (TooWide same), verdict_text plan (TooWide same))
 
 unfoldable pub replay_work : List ℕ → List ℕ → ℕ → Work

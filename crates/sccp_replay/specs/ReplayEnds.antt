@@ -31,9 +31,11 @@ SomeLaterPlanIsLong c lines = (number : ℕ) × (name : List ℕ) × NamesPlan l
 -- An accepted first plan, of which this holds; a trace that is there and has no faulty line, or one that has one; later
 -- plans whose files fit. Too long is the file of the first plan or, after an accepted first plan, that of a later one.
 abbrev pub EndsWhere : (Network → Type 0) → Contents → List ℕ → List ℕ → Status → Type 0
-EndsWhere accepted c plan trace Done = HasPlan (Some c) plan accepted × IsSome (c trace) × (fault_in c trace ≡ None) × LaterPlansFit c (lines_in c trace)
+EndsWhere accepted c plan trace Done = HasPlan (Some c) plan accepted × IsSome (c trace) × (fault_in c trace ≡ None)
+    × LaterPlansFit c (lines_in c trace)
 EndsWhere accepted c plan trace BadTrace = HasPlan (Some c) plan accepted × IsSome (fault_in c trace) × LaterPlansFit c (lines_in c trace)
-EndsWhere accepted c plan trace TooLong = HasLongFile (Some c) plan ⊎ (HasPlan (Some c) plan accepted × SomeLaterPlanIsLong c (lines_in c trace))
+EndsWhere accepted c plan trace TooLong = HasLongFile (Some c) plan
+    ⊎ (HasPlan (Some c) plan accepted × SomeLaterPlanIsLong c (lines_in c trace))
 EndsWhere accepted c plan trace BadPlan = HasBadPlan (Some c) plan
 EndsWhere accepted c plan trace answer = ⊥
 

@@ -75,7 +75,8 @@ pub record RoutesBatch (at at' : Standing) (settled : List Settled) (served : Li
 -- what one worker leaves of the answers when it reaches a line
 abbrev pub RoutesLine : Standing → List (List Mark) → Settled → List Served → List Served → Type 0
 RoutesLine at markings (prints text) before after = after ≡ before
-RoutesLine at markings (routes line x number) before after = (one : Served) × (after ≡ before ++ one ∷ []) × (one.number ≡ number) × IsRouted at markings x one
+RoutesLine at markings (routes line x number) before after = (one : Served) × (after ≡ before ++ one ∷ []) × (one.number ≡ number)
+    × IsRouted at markings x one
 
 -- the text of a settled line, if these answers are left
 

@@ -17,7 +17,8 @@ EndsAs whole left first now = (result : Result Status Stop) (after : Moment) →
 
 -- the plan lines of a batch were settled, up to these lines
 abbrev pub SettlesTo : Standing → List Numbered → Standing → List Settled → List Numbered → Moment → Moment → Type 0
-SettlesTo at lines at' settled left first now = (next : Standing → List Settled → Work) → EndsAs (settle at [] lines next) (settle at' settled left next) first now
+SettlesTo at lines at' settled left first now = (next : Standing → List Settled → Work)
+    → EndsAs (settle at [] lines next) (settle at' settled left next) first now
 
 -- a batch is done: its text, and the state of the replay after it
 abbrev pub BatchGives : Standing → List Numbered → Standing → List ℕ → Moment → Moment → Type 0
@@ -60,4 +61,5 @@ IsFed reader count pieces = (text : List ℕ) × HasFed reader count pieces text
 -- before.
 abbrev pub FeedsOn : reading.Standing → reading.Standing → List ℕ → Fed → Type 0
 FeedsOn reader reader' piece fed =
-    (text : List ℕ) → HasRead reader text → HasRead reader' (text ++ piece) × (told false (text ++ piece) ≡ with_front (told false text).lines fed)
+    (text : List ℕ) → HasRead reader text → HasRead reader' (text ++ piece)
+    × (told false (text ++ piece) ≡ with_front (told false text).lines fed)

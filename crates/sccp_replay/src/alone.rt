@@ -58,7 +58,8 @@ fn route_one(
     requires states { length states.now ≡ length first.now.plan.nodes }
     requires entry { entry < length first.now.plan.nodes }
     ensures number { IfOk result (λ one. one.number ≡ number) }
-    ensures routed { IfOk result (IsRouted (standing (routing 1 first.now later.now) states.now) (markings_of states.now) (incoming entry origin octets.now)) }
+    ensures routed { IfOk result (IsRouted (standing (routing 1 first.now later.now) states.now) (markings_of states.now)
+        (incoming entry origin octets.now)) }
 {
     let accepted = plan_of_number(first, later, number);
     // This call ensures that the plan is sound.
@@ -79,7 +80,8 @@ fn route_line(
     requires plans { IsRouting (routing 1 first.now later.now) }
     requires states { length states.now ≡ length first.now.plan.nodes }
     requires fits { ComesToNode first.now.plan one.now }
-    ensures { OnOk result (RoutesLine (standing (routing 1 first.now later.now) states.now) (markings_of states.now) (settled_in one.now) served.old served.new) }
+    ensures { OnOk result (RoutesLine (standing (routing 1 first.now later.now) states.now) (markings_of states.now)
+        (settled_in one.now) served.old served.new) }
 {
     match one {
         Settled::Prints(_) => Ok(()),
@@ -110,7 +112,8 @@ fn route_all(
     requires plans { IsRouting (routing 1 first.now later.now) }
     requires states { length states.now ≡ length first.now.plan.nodes }
     requires fits { All (ComesToNode first.now.plan) settled.now }
-    ensures routed { IfOk result (AreRouted (standing (routing 1 first.now later.now) states.now) (markings_of states.now) (map settled_in settled.now)) }
+    ensures routed { IfOk result (AreRouted (standing (routing 1 first.now later.now) states.now) (markings_of states.now)
+        (map settled_in settled.now)) }
     ensures numbers { IfOk result (λ served. map number_in served ≡ numbers_of (map settled_in settled.now)) }
 {
     let mut served = List::new(alloc);
@@ -170,7 +173,8 @@ impl Alone {
         ensures first { self.new.first ≡ self.old.first }
         ensures plans { IsRouting self.new }
         ensures at { OnOk result (standing self.new states.now ≡ ahead (standing self.old states.now) coming) }
-        ensures served { IfOk result (RoutesBatch (standing self.old states.now) (ahead (standing self.old states.now) coming) (map settled_in settled.now)) }
+        ensures served { IfOk result (RoutesBatch (standing self.old states.now) (ahead (standing self.old states.now) coming)
+            (map settled_in settled.now)) }
     {
         let mut coming = coming.into_vec();
         self.later.append(&mut coming)?;

@@ -32,7 +32,8 @@ impl Model for Crew {
 
     ghost view = { λ c. routing (length c.workers) (entry_plan c.first) (drop 1 (plans_of c.teller)) };
 
-    ghost invariant = { λ c. IsCrew (plans_of c.teller) c.teller.nodes (length c.workers) (entry_plan c.first) (drop 1 (plans_of c.teller)) × All (λ w. w.place.nodes ≡ c.teller.nodes) c.workers };
+    ghost invariant = { λ c. IsCrew (plans_of c.teller) c.teller.nodes (length c.workers) (entry_plan c.first) (drop 1 (plans_of c.teller))
+        × All (λ w. w.place.nodes ≡ c.teller.nodes) c.workers };
 }
 
 /// Makes a message that is to be routed the next job.
@@ -136,7 +137,8 @@ impl Crew {
         ensures first { self.new.first ≡ self.old.first }
         ensures plans { IsRouting self.new }
         ensures at { OnOk result (standing self.new states.now ≡ ahead (standing self.old states.now) coming) }
-        ensures served { IfOk result (RoutesBatch (standing self.old states.now) (ahead (standing self.old states.now) coming) (map settled_in settled.now)) }
+        ensures served { IfOk result (RoutesBatch (standing self.old states.now) (ahead (standing self.old states.now) coming)
+            (map settled_in settled.now)) }
     {
         // This call ensures that the plans are sound.
         let _first = self.first();

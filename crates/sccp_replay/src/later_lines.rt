@@ -4,7 +4,8 @@ ghost use Rattle.plan_model.specs.Network.{IsPlan};
 ghost use Rattle.plan_text.specs.Faults.{is_memory};
 ghost use Rattle.plan_verify.specs.Lawful.{IsLawful, plan_of};
 ghost use Rattle.sccp_report.specs.Verdicts.{verdict_text};
-ghost use Rattle.sccp_replay.specs.LaterPlans.{numbered_plan, first_plan_line, accepted_plan_line, refused_plan_head, bad_plan_line, other_nodes_line};
+ghost use Rattle.sccp_replay.specs.LaterPlans.{numbered_plan, first_plan_line, accepted_plan_line, refused_plan_head, bad_plan_line};
+ghost use Rattle.sccp_replay.specs.LaterPlans.{other_nodes_line};
 ghost use Rattle.sccp_work.specs.Plans.{bad_plan};
 
 use plan_check::Accepted;

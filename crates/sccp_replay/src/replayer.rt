@@ -105,7 +105,8 @@ impl Replayer {
         requires plans { HasRoom self.now.first (ahead self.now coming.old).later }
         requires same { SameNodes self.now.first plan.plan }
         ensures plans { OnOk result (AtMostOneMore self.now.first (ahead self.now coming.old).later (ahead self.now coming.new).later) }
-        ensures ok { OnOk result (ahead self.now coming.new ≡ record (ahead self.now coming.old) { later = (ahead self.now coming.old).later ++ plan.plan ∷ [] }) }
+        ensures ok { OnOk result (ahead self.now coming.new
+            ≡ record (ahead self.now coming.old) { later = (ahead self.now coming.old).later ++ plan.plan ∷ [] }) }
     {
         // This call ensures that the plan is sound.
         let _plan = plan.plan();
@@ -138,8 +139,10 @@ impl Replayer {
         journey: &Journey,
     ) -> Result<List<Outcome>, OutOfMemory>
         requires { CanBeDone (length self.old.first.nodes) (due_after (incoming entry origin octets.now) journey.now.path journey.now.end) }
-        ensures ok { OnOk result (self.new ≡ record self.old { states = (applied_after self.old.first self.old.states (incoming entry origin octets.now) journey.now).states }) }
-        ensures outcomes { IfOk result (λ os. os ≡ (applied_after self.old.first self.old.states (incoming entry origin octets.now) journey.now).outcomes) }
+        ensures ok { OnOk result (self.new ≡ record self.old
+            { states = (applied_after self.old.first self.old.states (incoming entry origin octets.now) journey.now).states }) }
+        ensures outcomes { IfOk result
+            (λ os. os ≡ (applied_after self.old.first self.old.states (incoming entry origin octets.now) journey.now).outcomes) }
     {
         let first = self.by.first();
         self.net

@@ -84,7 +84,8 @@ fn replay_accepted<R: Threads + Wait + Sync, G: Gate + Sync, F: Files, K: Sink>(
     files: &mut F,
     out: &mut K,
 ) -> Result<Status, Stop>
-    ensures { Works (print (first_plan_line plan.now accepted.bound) (read trace.now (λ octets. trace_work (start workers.now.count accepted.plan) (trace_of octets)))) result
+    ensures { Works (print (first_plan_line plan.now accepted.bound)
+        (read trace.now (λ octets. trace_work (start workers.now.count accepted.plan) (trace_of octets)))) result
         (moment F.contents F.sound F.faults K.taken K.faults files.old out.old)
         (moment F.contents F.sound F.faults K.taken K.faults files.new out.new) }
 {

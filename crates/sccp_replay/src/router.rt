@@ -89,7 +89,8 @@ impl Router {
         ensures first { (routing_of self.new).first ≡ (routing_of self.old).first }
         ensures plans { IsRouting (routing_of self.new) }
         ensures at { OnOk result (standing (routing_of self.new) states.now ≡ ahead (standing (routing_of self.old) states.now) coming) }
-        ensures served { IfOk result (RoutesBatch (standing (routing_of self.old) states.now) (ahead (standing (routing_of self.old) states.now) coming) (map settled_in settled.now)) }
+        ensures served { IfOk result (RoutesBatch (standing (routing_of self.old) states.now)
+            (ahead (standing (routing_of self.old) states.now) coming) (map settled_in settled.now)) }
     {
         match self {
             Router::Alone(alone) => alone.route(alloc, states, settled, coming),

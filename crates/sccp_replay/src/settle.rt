@@ -41,8 +41,12 @@ fn accept_later(
     requires plans { HasRoom at.now.first (ahead at.now coming.old).later }
     requires same { SameNodes at.now.first plan.plan }
     ensures plans { OnOk result (AtMostOneMore at.now.first (ahead at.now coming.old).later (ahead at.now coming.new).later) }
-    ensures text { IfOk result (λ s. settled_in s ≡ prints (accepted_plan_line line (accepted (ahead at.now coming.old) + 1) name.now plan.bound)) }
-    ensures at { OnOk result (ahead at.now coming.new ≡ record (ahead at.now coming.old) { later = (ahead at.now coming.old).later ++ plan.plan ∷ [] }) }
+    ensures text { IfOk result (λ s. settled_in s ≡ prints
+        (accepted_plan_line line (accepted (ahead at.now coming.old) + 1) name.now plan.bound)) }
+    ensures at { OnOk result (ahead at.now coming.new ≡ record (ahead at.now coming.old) {
+      later = (ahead at.now coming.old).later
+          ++ plan.plan ∷ [];
+    }) }
     ensures fits { IfOk result (ComesToNode at.now.first) }
 {
     match accepted_plan_line(alloc, line, at.accepted(coming) + 1, name, &plan) {
@@ -113,7 +117,8 @@ fn read_later(
 ) -> Result<Settled, OutOfMemory>
     requires plans { HasRoom at.now.first (ahead at.now coming.old).later }
     ensures plans { OnOk result (AtMostOneMore at.now.first (ahead at.now coming.old).later (ahead at.now coming.new).later) }
-    ensures gives { IfOk result (λ s. GivesPlanLine (ahead at.now coming.old) line name.now (read_plan text.now) (ahead at.now coming.new) (settled_in s)) }
+    ensures gives { IfOk result (λ s. GivesPlanLine (ahead at.now coming.old) line name.now (read_plan text.now) (ahead at.now coming.new)
+        (settled_in s)) }
     ensures fits { IfOk result (ComesToNode at.now.first) }
 {
     match plan_text::read(alloc, text) {

@@ -84,7 +84,8 @@ fn alone_text(
 ) -> Result<Octets, OutOfMemory>
     requires { StandsIn at.old.first (alone (option_map as_due due)) }
     ensures at { OnOk result (at.new ≡ record at.old { states = (done_alone at.old (option_map as_due due)).states }) }
-    ensures text { IfOk result (λ whole. whole ≡ text ++ event_text at.old.first line.now (done_alone at.old (option_map as_due due)).outcomes) }
+    ensures text { IfOk result (λ whole. whole ≡ text ++ event_text at.old.first line.now
+        (done_alone at.old (option_map as_due due)).outcomes) }
 {
     let outcomes = at.apply_alone(due)?;
     let told = put_event(alloc, &mut text, at.first(), line, &outcomes);

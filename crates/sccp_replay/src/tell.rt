@@ -23,9 +23,15 @@ fn tell_served(
     octets: &[u8],
     served: &Served,
 ) -> Result<(), OutOfMemory>
-    requires { CanBeDone (length at.old.first.nodes) (due_after (incoming entry origin octets.now) served.now.journey.path served.now.journey.end) }
-    ensures text { OnOk result (text.new ≡ text.old ++ (told_of at.old.first at.old.states (routes line (incoming entry origin octets.now) 0) (served.now ∷ [])).text) }
-    ensures at { OnOk result (at.new ≡ record at.old { states = (told_of at.old.first at.old.states (routes line (incoming entry origin octets.now) 0) (served.now ∷ [])).states }) }
+    requires { CanBeDone (length at.old.first.nodes) (due_after
+        (incoming entry origin octets.now) served.now.journey.path served.now.journey.end) }
+    ensures text { OnOk result (text.new ≡ text.old ++ (told_of at.old.first at.old.states
+        (routes line (incoming entry origin octets.now) 0) (served.now ∷ [])).text) }
+    ensures at { OnOk result (at.new
+        ≡ record at.old {
+          states = (told_of at.old.first at.old.states (routes line (incoming entry origin octets.now) 0)
+              (served.now ∷ [])).states;
+        }) }
 {
     let outcomes = at.apply_after(entry, origin, octets, &served.journey)?;
     put_served(text, at.first(), line, served, &outcomes)
@@ -40,7 +46,8 @@ fn tell_line<'a>(
 ) -> Result<&'a [Served], OutOfMemory>
     requires { CanFollow (length at.old.first.nodes) (settled_in settled.now) served.now }
     ensures text { OnOk result (text.new ≡ text.old ++ (told_of at.old.first at.old.states (settled_in settled.now) served.now).text) }
-    ensures at { OnOk result (at.new ≡ record at.old { states = (told_of at.old.first at.old.states (settled_in settled.now) served.now).states }) }
+    ensures at { OnOk result (at.new
+        ≡ record at.old { states = (told_of at.old.first at.old.states (settled_in settled.now) served.now).states }) }
     ensures left { IfOk result (λ left. left.now ≡ left_of (settled_in settled.now) served.now) }
 {
     match settled {
@@ -73,7 +80,8 @@ pub fn tell(
 ) -> Result<Text, OutOfMemory>
     requires { AreRouted at.old (markings_of at.old.states) (map settled_in settled.now) served.now }
     ensures text { IfOk result (λ text. text ≡ (told_at at.old (map settled_in settled.now) (map number_in served.now)).text) }
-    ensures at { OnOk result (at.new ≡ record at.old { states = (told_at at.old (map settled_in settled.now) (map number_in served.now)).states }) }
+    ensures at { OnOk result (at.new
+        ≡ record at.old { states = (told_at at.old (map settled_in settled.now) (map number_in served.now)).states }) }
 {
     let mut text = Text::new(alloc);
     let mut left = served;

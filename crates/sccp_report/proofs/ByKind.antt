@@ -8,7 +8,8 @@ use Rattle.sccp_report.specs.MessageText.{message_lines, lines_if, is_unit, has_
 last : (xs : List ℕ) → xs ++ [] ≡ xs
 last xs = append-nil xs
 
-pub by_kind : (m : Message) → lines_if is_unit m ++ (lines_if has_parameters m ++ (lines_if is_of_data m ++ lines_if is_of_references m)) ≡ message_lines m
+pub by_kind : (m : Message) → lines_if is_unit m ++ (lines_if has_parameters m ++ (lines_if is_of_data m ++ lines_if is_of_references m))
+    ≡ message_lines m
 by_kind (messages.Cr slr class to params) = last (message_lines (messages.Cr slr class to params))
 by_kind (messages.Cc dlr slr class params) = last (message_lines (messages.Cc dlr slr class params))
 by_kind (messages.Cref dlr cause params) = last (message_lines (messages.Cref dlr cause params))

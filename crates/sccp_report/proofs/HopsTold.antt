@@ -44,7 +44,8 @@ by_test (c ∷ cs) h =
 decimal_in_line : (n : ℕ) → All InLine (decimal n)
 decimal_in_line n = λ k d lt e. let p = decimal_digits n k d lt in omega (arith, p.0, e)
 
-node_in_line : (plan : Network) (node : ℕ) → All (λ n. IsName n.name) plan.nodes → node < length plan.nodes → All InLine (node_text plan node)
+node_in_line : (plan : Network) (node : ℕ) → All (λ n. IsName n.name) plan.nodes → node < length plan.nodes
+    → All InLine (node_text plan node)
 node_in_line plan node names h =
     let n = node_named plan node h in
     let is : IsName n.0.name = subst (λ (x : Node). IsName x.name) (get_or_from_slice_get plan.nodes node n.0 n.0 n.2) (names node n.0 h) in
@@ -58,31 +59,43 @@ point_code_in_line pc =
 
 destination_in_line : (pc ssn : ℕ) → All InLine (destination_text pc ssn)
 unfolding destination_text
-destination_in_line pc ssn = All-append InLine _ _ (All-append InLine _ _ (point_code_in_line pc) (by_test (codes "/") refl)) (decimal_in_line ssn)
+destination_in_line pc ssn = All-append InLine _ _ (All-append InLine _ _ (point_code_in_line pc) (by_test (codes "/") refl))
+    (decimal_in_line ssn)
 
 target_in_line : (place : ℕ) → All InLine (target_text place)
 unfolding target_text numbered
 target_in_line place = All-append InLine (codes " target ") (decimal place) (by_test (codes " target ") refl) (decimal_in_line place)
 
 -- it begins with a blank
-step_begins : (plan : Network) (s : Step) → All (λ n. IsName n.name) plan.nodes → StaysIn plan s → (w : List ℕ) × (step_text plan s ≡ 32 ∷ w) × All InLine w
+step_begins : (plan : Network) (s : Step) → All (λ n. IsName n.name) plan.nodes → StaysIn plan s
+    → (w : List ℕ) × (step_text plan s ≡ 32 ∷ w) × All InLine w
 unfolding step_text numbered
 step_begins plan (Sent next place) names h = (
   codes "sent " ++ node_text plan next.node ++ target_text place,
   refl,
   All-append InLine (codes "sent " ++ node_text plan next.node) (target_text place)
-      (All-append InLine (codes "sent ") (node_text plan next.node) (by_test (codes "sent ") refl) (node_in_line plan next.node names h)) (target_in_line place),
+      (All-append InLine (codes "sent ") (node_text plan next.node) (by_test (codes "sent ") refl) (node_in_line plan next.node names h))
+      (target_in_line place),
 )
 step_begins plan (Ended pc ssn place) names h = (
   codes "ended " ++ destination_text pc ssn ++ target_text place,
   refl,
   All-append InLine (codes "ended " ++ destination_text pc ssn) (target_text place)
-      (All-append InLine (codes "ended ") (destination_text pc ssn) (by_test (codes "ended ") refl) (destination_in_line pc ssn)) (target_in_line place),
+      (All-append InLine (codes "ended ") (destination_text pc ssn) (by_test (codes "ended ") refl) (destination_in_line pc ssn))
+      (target_in_line place),
 )
-step_begins plan (Blocked cause marks) names h =
-    (codes "blocked " ++ decimal cause, refl, All-append InLine (codes "blocked ") (decimal cause) (by_test (codes "blocked ") refl) (decimal_in_line cause))
-step_begins plan (NoRow cause) names h =
-    (codes "no row " ++ decimal cause, refl, All-append InLine (codes "no row ") (decimal cause) (by_test (codes "no row ") refl) (decimal_in_line cause))
+step_begins plan (Blocked cause marks) names h = (
+  codes "blocked " ++ decimal cause,
+  refl,
+  All-append InLine (codes "blocked ") (decimal cause) (by_test (codes "blocked ") refl)
+      (decimal_in_line cause),
+)
+step_begins plan (NoRow cause) names h = (
+  codes "no row " ++ decimal cause,
+  refl,
+  All-append InLine (codes "no row ") (decimal cause) (by_test (codes "no row ") refl)
+      (decimal_in_line cause),
+)
 step_begins plan Overgrown names h = (codes "overgrown", refl, by_test (codes "overgrown") refl)
 
 -- ---- hops that happen
@@ -100,12 +113,15 @@ AreHopsUnder plan [] markings = Unit {0}
 AreHopsUnder plan (hop ∷ hops) [] = ⊥
 AreHopsUnder plan (hop ∷ hops) (marking ∷ markings) = IsHopUnder plan hop marking × AreHopsUnder plan hops markings
 
-onward_under : (plan : Network) (o : Option Spot) (ms : List (List Mark)) → ((next : Spot) → All (λ hop. IsSpotOf plan hop.spot) (route plan next ms) → AreHopsUnder plan (route plan next ms) ms)
-    → All (λ hop. IsSpotOf plan hop.spot) (onward o (λ next. route plan next ms)) → AreHopsUnder plan (onward o (λ next. route plan next ms)) ms
+onward_under : (plan : Network) (o : Option Spot) (ms : List (List Mark))
+    → ((next : Spot) → All (λ hop. IsSpotOf plan hop.spot) (route plan next ms) → AreHopsUnder plan (route plan next ms) ms)
+    → All (λ hop. IsSpotOf plan hop.spot) (onward o (λ next. route plan next ms))
+    → AreHopsUnder plan (onward o (λ next. route plan next ms)) ms
 onward_under plan None ms each spots = tt
 onward_under plan (Some next) ms each spots = each next spots
 
-route_under : (plan : Network) (s : Spot) (ms : List (List Mark)) → IsPlan plan → All IsMarking ms → All (λ hop. IsSpotOf plan hop.spot) (route plan s ms) → AreHopsUnder plan (route plan s ms) ms
+route_under : (plan : Network) (s : Spot) (ms : List (List Mark)) → IsPlan plan → All IsMarking ms
+    → All (λ hop. IsSpotOf plan hop.spot) (route plan s ms) → AreHopsUnder plan (route plan s ms) ms
 route_under plan s [] is marks spots = tt
 route_under plan s (m ∷ ms) is marks spots =
     let rest : List Hop = onward (next_of (step plan s m)) (λ next. route plan next ms) in (
@@ -121,7 +137,9 @@ route_under plan s (m ∷ ms) is marks spots =
 
 -- ---- a line, and what follows it
 
-line_more : (plan : Network) (hop : Hop) (marking : List Mark) (r : List ℕ) → hop_line plan hop marking ++ r ≡ spot_text plan hop.spot ++ 32 ∷ 104 ∷ 101 ∷ 108 ∷ 100 ∷ 32 ∷ (marks_text marking ++ (step_text plan hop.step ++ 10 ∷ r))
+line_more : (plan : Network) (hop : Hop) (marking : List Mark) (r : List ℕ)
+    → hop_line plan hop marking ++ r ≡ spot_text plan hop.spot ++ 32 ∷ 104 ∷ 101 ∷ 108 ∷ 100 ∷ 32
+    ∷ (marks_text marking ++ (step_text plan hop.step ++ 10 ∷ r))
 unfolding hop_line
 line_more plan hop marking r =
     let spot : List ℕ = spot_text plan hop.spot in
@@ -132,14 +150,17 @@ line_more plan hop marking r =
     ∙ append_assoc (spot ++ codes " held ") marks (does ++ 10 ∷ r)
     ∙ append_assoc spot (codes " held ") (marks ++ (does ++ 10 ∷ r))
 
-line_parted : (plan : Network) (hop other : Hop) (m n : List Mark) (r s : List ℕ) → IsPlan plan → All (λ node. IsName node.name) plan.nodes → IsHopUnder plan hop m → IsHopUnder plan other n
+line_parted : (plan : Network) (hop other : Hop) (m n : List Mark) (r s : List ℕ) → IsPlan plan → All (λ node. IsName node.name) plan.nodes
+    → IsHopUnder plan hop m → IsHopUnder plan other n
     → hop_line plan hop m ++ r ≡ hop_line plan other n ++ s → (hop ≡ other) × (m ≡ n) × (r ≡ s)
 line_parted plan hop other m n r s is names h k e =
     let a = step_begins plan hop.step names h.stays in
     let b = step_begins plan other.step names k.stays in
-    let spot = spot_parted plan hop.spot other.spot _ _ names is.names h.spot k.spot (sym (line_more plan hop m r) ∙ e ∙ line_more plan other n s) in
+    let spot = spot_parted plan hop.spot other.spot _ _ names is.names h.spot k.spot (sym (line_more plan hop m r) ∙ e
+    ∙ line_more plan other n s) in
     let held = rest_same 32 32 _ _ (rest_same 100 100 _ _ (rest_same 108 108 _ _ (rest_same 101 101 _ _ (rest_same 104 104 _ _ spot.1)))) in
-    let begun = sym (ap (λ (w : List ℕ). marks_text m ++ (w ++ 10 ∷ r)) a.1) ∙ held ∙ ap (λ (w : List ℕ). marks_text n ++ (w ++ 10 ∷ s)) b.1 in
+    let begun = sym (ap (λ (w : List ℕ). marks_text m ++ (w ++ 10 ∷ r)) a.1) ∙ held
+    ∙ ap (λ (w : List ℕ). marks_text n ++ (w ++ 10 ∷ s)) b.1 in
     let marks = marks_parted m n (a.0 ++ 10 ∷ r) (b.0 ++ 10 ∷ s) h.marks k.marks begun in
     let ends = parted InLine a.0 b.0 (10 ∷ r) (10 ∷ s) a.2 b.2 (feed_ends r) (feed_ends s) marks.1 in
     let does : hop.step ≡ other.step = h.does ∙ (λ i. step plan (spot.0 i) (marks.0 i)) ∙ sym k.does in
@@ -150,7 +171,8 @@ some_line : (plan : Network) (hop : Hop) (m : List Mark) (r : List ℕ) → hop_
 unfolding hop_line spot_text
 some_line plan hop m r e = omega (arith, ap length e)
 
-text_tells_hops : (plan : Network) (hops others : List Hop) (ms ns : List (List Mark)) → IsPlan plan → All (λ node. IsName node.name) plan.nodes → AreHopsUnder plan hops ms → AreHopsUnder plan others ns
+text_tells_hops : (plan : Network) (hops others : List Hop) (ms ns : List (List Mark)) → IsPlan plan
+    → All (λ node. IsName node.name) plan.nodes → AreHopsUnder plan hops ms → AreHopsUnder plan others ns
     → hops_text plan hops ms ≡ hops_text plan others ns → (hops ≡ others) × (take (length hops) ms ≡ take (length others) ns)
 text_tells_hops plan [] [] ms ns is names h k e = (refl, refl)
 text_tells_hops plan [] (other ∷ others) ms [] is names h k e = absurd k
@@ -165,4 +187,5 @@ text_tells_hops plan (hop ∷ hops) (other ∷ others) (m ∷ ms) (n ∷ ns) is 
 
 pub text_tells_route : TextTellsRoute
 text_tells_route plan s t ms ns is names h k e =
-    text_tells_hops plan (route plan s ms) (route plan t ns) ms ns is names (route_under plan s ms is h.markings h.spots) (route_under plan t ns is k.markings k.spots) e
+    text_tells_hops plan (route plan s ms) (route plan t ns) ms ns is names (route_under plan s ms is h.markings h.spots)
+    (route_under plan t ns is k.markings k.spots) e

@@ -27,11 +27,16 @@ longest_begins plan v is holds same = covered_node plan v.longest.spot is (subst
 has_node : (plan : Network) (number : ℕ) (spot : Spot) → IsPlan plan → HasSpot plan number spot → spot.node < length plan.nodes
 has_node plan number spot is has =
     let at = some_of (slice_get plan.covers number) (λ c. Covers c spot) has in
-    covered_node plan spot is (number, at.0, slice_get_within plan.covers number at.0 at.1, get_or_from_slice_get plan.covers number at.0 at.0 at.1, at.2)
+    covered_node plan spot is
+    (number, at.0, slice_get_within plan.covers number at.0 at.1, get_or_from_slice_get plan.covers number at.0 at.0 at.1, at.2)
 
-witness_in : (plan : Network) (w : Witness) → IsPlan plan → IsWitness plan w → All (IsHopIn plan) w.hops × (length w.hops ≤ length w.markings)
-witness_in plan w is shows =
-    (subst (All (IsHopIn plan)) (sym shows.bad.is_route) (route_in plan w.spot w.markings is (has_node plan w.cover w.spot is shows.bad.covered)), omega (arith, shows.bad.each))
+witness_in : (plan : Network) (w : Witness) → IsPlan plan → IsWitness plan w
+    → All (IsHopIn plan) w.hops × (length w.hops ≤ length w.markings)
+witness_in plan w is shows = (
+  subst (All (IsHopIn plan)) (sym shows.bad.is_route)
+      (route_in plan w.spot w.markings is (has_node plan w.cover w.spot is shows.bad.covered)),
+  omega (arith, shows.bad.each),
+)
 
 -- the hops that a verdict shows are in the plan that it is true of
 pub lawful_in : (plan : Network) (v : Verdict) → IsPlan plan → IsLawful plan v → HasHopsIn plan v

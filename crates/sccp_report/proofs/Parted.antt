@@ -40,8 +40,10 @@ glyph_is_decimal d h = rw (lt-ltb d 10 h) (omega arith, omega (arith, h))
 digits_are_decimal : (k n : ℕ) (acc : List ℕ) → All IsDecimal acc → All IsDecimal (digits_onto k 10 false n acc)
 digits_are_decimal zero n acc h = h
 digits_are_decimal (suc k) n acc h =
-    let more : All IsDecimal (digit_glyph false (n % 10) ∷ acc) = All-cons IsDecimal (digit_glyph false (n % 10)) acc (glyph_is_decimal (n % 10) (omega arith)) h in
-    elim (n / 10 == 0) as (λ b. All IsDecimal (if b then digit_glyph false (n % 10) ∷ acc else digits_onto k 10 false (n / 10) (digit_glyph false (n % 10) ∷ acc))) [
+    let more : All IsDecimal (digit_glyph false (n % 10) ∷ acc) = All-cons IsDecimal (digit_glyph false (n % 10)) acc
+    (glyph_is_decimal (n % 10) (omega arith)) h in
+    elim (n / 10 == 0) as (λ b. All IsDecimal (if b then digit_glyph false (n % 10) ∷ acc
+    else digits_onto k 10 false (n / 10) (digit_glyph false (n % 10) ∷ acc))) [
       | true ↦ more
       | false ↦ digits_are_decimal k (n / 10) (digit_glyph false (n % 10) ∷ acc) more
     ]
@@ -50,7 +52,8 @@ pub decimal_digits : (n : ℕ) → All IsDecimal (decimal n)
 unfolding digits
 decimal_digits n = digits_are_decimal 64 n [] (All-nil IsDecimal)
 
-pub number_parted : (a b : ℕ) (r s : List ℕ) → a < 2 ^ 64 → b < 2 ^ 64 → Stops IsDecimal r → Stops IsDecimal s → decimal a ++ r ≡ decimal b ++ s → (a ≡ b) × (r ≡ s)
+pub number_parted : (a b : ℕ) (r s : List ℕ) → a < 2 ^ 64 → b < 2 ^ 64 → Stops IsDecimal r → Stops IsDecimal s
+    → decimal a ++ r ≡ decimal b ++ s → (a ≡ b) × (r ≡ s)
 number_parted a b r s ha hb er es e =
     let p = parted IsDecimal (decimal a) (decimal b) r s (decimal_digits a) (decimal_digits b) er es e in
     (decimal_injective a b ha hb p.0, p.1)
@@ -72,7 +75,8 @@ pub no_blank : IsDecimal 32 → ⊥
 no_blank h = omega (arith, h.0)
 
 -- a number before an octet that is no digit
-pub number_before : (c a b : ℕ) (r s : List ℕ) → a < 2 ^ 64 → b < 2 ^ 64 → (IsDecimal c → ⊥) → decimal a ++ c ∷ r ≡ decimal b ++ c ∷ s → (a ≡ b) × (r ≡ s)
+pub number_before : (c a b : ℕ) (r s : List ℕ) → a < 2 ^ 64 → b < 2 ^ 64 → (IsDecimal c → ⊥) → decimal a ++ c ∷ r ≡ decimal b ++ c ∷ s
+    → (a ≡ b) × (r ≡ s)
 number_before c a b r s ha hb apart e =
     let p = number_parted a b (c ∷ r) (c ∷ s) ha hb apart apart e in
     (p.0, rest_same c c r s p.1)
@@ -81,13 +85,15 @@ number_before c a b r s ha hb apart e =
 pub glued : (t : List ℕ) (c : ℕ) (p r : List ℕ) → t ++ (c ∷ []) ++ p ++ r ≡ t ++ c ∷ (p ++ r)
 glued t c p r = append_assoc (t ++ c ∷ []) p r ∙ append_assoc t (c ∷ []) (p ++ r)
 
-point_code_more : (pc : ℕ) (r : List ℕ) → point_code_text pc ++ r ≡ decimal (pc / 2048) ++ 45 ∷ (decimal (pc / 8 % 256) ++ 45 ∷ (decimal (pc % 8) ++ r))
+point_code_more : (pc : ℕ) (r : List ℕ) → point_code_text pc ++ r ≡ decimal (pc / 2048) ++ 45
+    ∷ (decimal (pc / 8 % 256) ++ 45 ∷ (decimal (pc % 8) ++ r))
 unfolding point_code_text
 point_code_more pc r =
     glued (decimal (pc / 2048) ++ (45 ∷ []) ++ decimal (pc / 8 % 256)) 45 (decimal (pc % 8)) r
     ∙ glued (decimal (pc / 2048)) 45 (decimal (pc / 8 % 256)) (45 ∷ (decimal (pc % 8) ++ r))
 
-pub point_code_parted : (a b : ℕ) (r s : List ℕ) → a < 2 ^ 64 → b < 2 ^ 64 → Stops IsDecimal r → Stops IsDecimal s → point_code_text a ++ r ≡ point_code_text b ++ s → (a ≡ b) × (r ≡ s)
+pub point_code_parted : (a b : ℕ) (r s : List ℕ) → a < 2 ^ 64 → b < 2 ^ 64 → Stops IsDecimal r → Stops IsDecimal s
+    → point_code_text a ++ r ≡ point_code_text b ++ s → (a ≡ b) × (r ≡ s)
 point_code_parted a b r s ha hb er es e =
     let whole = sym (point_code_more a r) ∙ e ∙ point_code_more b s in
     let zone = number_before 45 (a / 2048) (b / 2048) _ _ (omega arith) (omega arith) no_dash whole in

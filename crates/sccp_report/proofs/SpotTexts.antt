@@ -1,5 +1,6 @@
 -- The text of a title at a node gives the node, the selector, the subsystem number and the digits.
-use Rattle.std.specs.Prelude.{ℕ, ◌+◌, ◌<◌, ◌≤◌, ◌≢◌, true, List, [], ◌∷◌, ◌++◌, length, map, slice_index, slice_get, codes, decimal, Some, is_some}
+use Rattle.std.specs.Prelude.{ℕ, ◌+◌, ◌<◌, ◌≤◌, ◌≢◌, true, List, [], ◌∷◌, ◌++◌, length, map, slice_index, slice_get, codes, decimal, Some}
+use Rattle.std.specs.Prelude.{is_some}
 use Rattle.std.specs.List.{All, AllPairs}
 use Rattle.std.specs.Option.{option_map_or, unwrap_or}
 use Rattle.std.proofs.Common.{◌≡◌, refl, sym, subst, ◌∙◌, ap, arith, get_or, append_assoc}
@@ -23,7 +24,8 @@ use Rattle.sccp_report.proofs.Parted.{Stops, first_same, rest_same, parted, numb
 -- ---- the selector
 
 by_kind : {X : Type 0} (s : Numbers) → IsSelector s
-    → (s.kind ≡ 1 → s.translation ≡ 0 → s.plan ≡ 0 → X) → (s.kind ≡ 2 → s.plan ≡ 0 → s.nature ≡ 0 → X) → (s.kind ≡ 3 → s.nature ≡ 0 → X) → (s.kind ≡ 4 → X) → X
+    → (s.kind ≡ 1 → s.translation ≡ 0 → s.plan ≡ 0 → X) → (s.kind ≡ 2 → s.plan ≡ 0 → s.nature ≡ 0 → X) → (s.kind ≡ 3 → s.nature ≡ 0 → X)
+    → (s.kind ≡ 4 → X) → X
 by_kind s is one two three four = ⊎_elim (λ h. one h.0 h.1 h.2) (⊎_elim (λ h. two h.0 h.1 h.2) (⊎_elim (λ h. three h.0 h.1) four)) is.used
 
 text_of_one : (s : Numbers) (r : List ℕ) → s.kind ≡ 1 → selector_text s ++ r ≡ 49 ∷ 58 ∷ (decimal s.nature ++ r)
@@ -34,11 +36,13 @@ text_of_two : (s : Numbers) (r : List ℕ) → s.kind ≡ 2 → selector_text s 
 unfolding selector_text
 text_of_two s r h = rw h refl
 
-text_of_three : (s : Numbers) (r : List ℕ) → s.kind ≡ 3 → selector_text s ++ r ≡ 51 ∷ 58 ∷ (decimal s.translation ++ 58 ∷ (decimal s.plan ++ r))
+text_of_three : (s : Numbers) (r : List ℕ) → s.kind ≡ 3 → selector_text s ++ r ≡ 51 ∷ 58
+    ∷ (decimal s.translation ++ 58 ∷ (decimal s.plan ++ r))
 unfolding selector_text
 text_of_three s r h = rw h (ap (λ (t : List ℕ). 51 ∷ 58 ∷ t) (glued (decimal s.translation) 58 (decimal s.plan) r))
 
-text_of_four : (s : Numbers) (r : List ℕ) → s.kind ≡ 4 → selector_text s ++ r ≡ 52 ∷ 58 ∷ (decimal s.translation ++ 58 ∷ (decimal s.plan ++ 58 ∷ (decimal s.nature ++ r)))
+text_of_four : (s : Numbers) (r : List ℕ) → s.kind ≡ 4 → selector_text s ++ r ≡ 52 ∷ 58
+    ∷ (decimal s.translation ++ 58 ∷ (decimal s.plan ++ 58 ∷ (decimal s.nature ++ r)))
 unfolding selector_text
 text_of_four s r h =
     rw h (ap (λ (t : List ℕ). 52 ∷ 58 ∷ t) (glued (decimal s.translation ++ (58 ∷ []) ++ decimal s.plan) 58 (decimal s.nature) r
@@ -56,9 +60,14 @@ kind_first s r is =
 same_numbers : (a b : Numbers) → a.kind ≡ b.kind → a.translation ≡ b.translation → a.plan ≡ b.plan → a.nature ≡ b.nature → a ≡ b
 same_numbers a b k t p n = λ i. record { kind = k i; translation = t i; plan = p i; nature = n i }
 
-pub selector_parted : (a b : Numbers) (q t : List ℕ) → IsSelector a → IsSelector b → selector_text a ++ 32 ∷ q ≡ selector_text b ++ 32 ∷ t → (a ≡ b) × (q ≡ t)
+pub selector_parted : (a b : Numbers) (q t : List ℕ) → IsSelector a → IsSelector b → selector_text a ++ 32 ∷ q ≡ selector_text b ++ 32 ∷ t
+    → (a ≡ b) × (q ≡ t)
 selector_parted a b q t ha hb e =
-    let kinds : a.kind ≡ b.kind = omega (arith, sym (kind_first a (32 ∷ q) ha) ∙ ap (λ (x : List ℕ). get_or x 0 0) e ∙ kind_first b (32 ∷ t) hb) in
+    let kinds : a.kind ≡ b.kind = omega (
+      arith,
+      sym (kind_first a (32 ∷ q) ha) ∙ ap (λ (x : List ℕ). get_or x 0 0) e
+          ∙ kind_first b (32 ∷ t) hb,
+    ) in
     by_kind a ha
     (λ k z p. by_kind b hb
     (λ l y o.
@@ -70,22 +79,26 @@ selector_parted a b q t ha hb e =
     (λ l y o. absurd (omega (arith, kinds, k, l)))
     (λ l o m.
     let whole = append_cancel_left (codes "2:") _ _ (sym (text_of_two a (32 ∷ q) k) ∙ e ∙ text_of_two b (32 ∷ t) l) in
-    let translation = number_before 32 a.translation b.translation q t (omega (arith, ha.translation)) (omega (arith, hb.translation)) no_blank whole in
+    let translation = number_before 32 a.translation b.translation q t (omega (arith, ha.translation))
+    (omega (arith, hb.translation)) no_blank whole in
     (same_numbers a b kinds translation.0 (p ∙ sym o) (n ∙ sym m), translation.1))
     (λ l m. absurd (omega (arith, kinds, k, l))) (λ l. absurd (omega (arith, kinds, k, l))))
     (λ k n. by_kind b hb
     (λ l y o. absurd (omega (arith, kinds, k, l))) (λ l o m. absurd (omega (arith, kinds, k, l)))
     (λ l m.
     let whole = append_cancel_left (codes "3:") _ _ (sym (text_of_three a (32 ∷ q) k) ∙ e ∙ text_of_three b (32 ∷ t) l) in
-    let translation = number_before 58 a.translation b.translation _ _ (omega (arith, ha.translation)) (omega (arith, hb.translation)) no_colon whole in
+    let translation = number_before 58 a.translation b.translation _ _ (omega (arith, ha.translation))
+    (omega (arith, hb.translation)) no_colon whole in
     let plan = number_before 32 a.plan b.plan q t (omega (arith, ha.plan)) (omega (arith, hb.plan)) no_blank translation.1 in
     (same_numbers a b kinds translation.0 plan.0 (n ∙ sym m), plan.1))
     (λ l. absurd (omega (arith, kinds, k, l))))
     (λ k. by_kind b hb
-    (λ l y o. absurd (omega (arith, kinds, k, l))) (λ l o m. absurd (omega (arith, kinds, k, l))) (λ l m. absurd (omega (arith, kinds, k, l)))
+    (λ l y o. absurd (omega (arith, kinds, k, l))) (λ l o m. absurd (omega (arith, kinds, k, l)))
+    (λ l m. absurd (omega (arith, kinds, k, l)))
     (λ l.
     let whole = append_cancel_left (codes "4:") _ _ (sym (text_of_four a (32 ∷ q) k) ∙ e ∙ text_of_four b (32 ∷ t) l) in
-    let translation = number_before 58 a.translation b.translation _ _ (omega (arith, ha.translation)) (omega (arith, hb.translation)) no_colon whole in
+    let translation = number_before 58 a.translation b.translation _ _ (omega (arith, ha.translation))
+    (omega (arith, hb.translation)) no_colon whole in
     let plan = number_before 58 a.plan b.plan _ _ (omega (arith, ha.plan)) (omega (arith, hb.plan)) no_colon translation.1 in
     let nature = number_before 32 a.nature b.nature q t (omega (arith, ha.nature)) (omega (arith, hb.nature)) no_blank plan.1 in
     (same_numbers a b kinds translation.0 plan.0 nature.0, nature.1)))
@@ -101,7 +114,8 @@ glyph = slice_index upper_digits
 glyphs_are_hex : (ds : List ℕ) → All (λ d. d < 16) ds → All IsHex (map glyph ds)
 glyphs_are_hex [] h = All-nil IsHex
 glyphs_are_hex (d ∷ ds) h =
-    All-cons IsHex (glyph d) (map glyph ds) (ap is_some (IsDigits-upper_digits d (All-head (λ x. x < 16) d ds h))) (glyphs_are_hex ds (All-tail (λ x. x < 16) d ds h))
+    All-cons IsHex (glyph d) (map glyph ds) (ap is_some (IsDigits-upper_digits d (All-head (λ x. x < 16) d ds h)))
+    (glyphs_are_hex ds (All-tail (λ x. x < 16) d ds h))
 
 glyph_same : (d e : ℕ) → d < 16 → e < 16 → glyph d ≡ glyph e → d ≡ e
 glyph_same d e hd he same =
@@ -122,13 +136,17 @@ not_dash c h e = false≢true (subst IsHex e h)
 blank_is_no_hex : (q : List ℕ) → Stops IsHex (32 ∷ q)
 blank_is_no_hex q h = false≢true h
 
-pub digits_parted : (ds es : List ℕ) (q t : List ℕ) → All (λ d. d < 16) ds → All (λ d. d < 16) es → digits_text ds ++ 32 ∷ q ≡ digits_text es ++ 32 ∷ t → (ds ≡ es) × (q ≡ t)
+pub digits_parted : (ds es : List ℕ) (q t : List ℕ) → All (λ d. d < 16) ds → All (λ d. d < 16) es
+    → digits_text ds ++ 32 ∷ q ≡ digits_text es ++ 32 ∷ t → (ds ≡ es) × (q ≡ t)
 unfolding digits_text
 digits_parted [] [] q t hd he e = (refl, rest_same 32 32 q t (rest_same 45 45 _ _ e))
-digits_parted [] (d ∷ ds) q t hd he e = absurd (not_dash (glyph d) (All-head IsHex _ _ (glyphs_are_hex (d ∷ ds) he)) (sym (first_same 45 (glyph d) _ _ e)))
-digits_parted (d ∷ ds) [] q t hd he e = absurd (not_dash (glyph d) (All-head IsHex _ _ (glyphs_are_hex (d ∷ ds) hd)) (first_same (glyph d) 45 _ _ e))
+digits_parted [] (d ∷ ds) q t hd he e = absurd (not_dash (glyph d) (All-head IsHex _ _ (glyphs_are_hex (d ∷ ds) he))
+    (sym (first_same 45 (glyph d) _ _ e)))
+digits_parted (d ∷ ds) [] q t hd he e = absurd (not_dash (glyph d) (All-head IsHex _ _ (glyphs_are_hex (d ∷ ds) hd))
+    (first_same (glyph d) 45 _ _ e))
 digits_parted (d ∷ ds) (f ∷ fs) q t hd he e =
-    let p = parted IsHex (map glyph (d ∷ ds)) (map glyph (f ∷ fs)) (32 ∷ q) (32 ∷ t) (glyphs_are_hex (d ∷ ds) hd) (glyphs_are_hex (f ∷ fs) he) (blank_is_no_hex q) (blank_is_no_hex t) e in
+    let p = parted IsHex (map glyph (d ∷ ds)) (map glyph (f ∷ fs)) (32 ∷ q) (32 ∷ t) (glyphs_are_hex (d ∷ ds) hd)
+    (glyphs_are_hex (f ∷ fs) he) (blank_is_no_hex q) (blank_is_no_hex t) e in
     (glyphs_same (d ∷ ds) (f ∷ fs) hd he p.0, rest_same 32 32 q t p.1)
 
 -- ---- the node
@@ -140,7 +158,8 @@ blank_is_no_name : (q : List ℕ) → Stops IsNameOctet (32 ∷ q)
 blank_is_no_name q h = false≢true h
 
 -- the name of a node that is there
-pub node_named : (plan : Network) (node : ℕ) → node < length plan.nodes → (n : Node) × (node_text plan node ≡ n.name) × (slice_get plan.nodes node ≡ Some n)
+pub node_named : (plan : Network) (node : ℕ) → node < length plan.nodes → (n : Node) × (node_text plan node ≡ n.name)
+    × (slice_get plan.nodes node ≡ Some n)
 unfolding node_text
 node_named plan node h =
     ⊎_elim
@@ -150,7 +169,8 @@ node_named plan node h =
     (slice_get_cases plan.nodes node).1
 
 -- names differ, so nodes do
-pub node_parted : (plan : Network) (a b : ℕ) (q t : List ℕ) → All (λ n. IsName n.name) plan.nodes → AllPairs (λ x y. x.name ≢ y.name) plan.nodes → a < length plan.nodes → b < length plan.nodes
+pub node_parted : (plan : Network) (a b : ℕ) (q t : List ℕ) → All (λ n. IsName n.name) plan.nodes
+    → AllPairs (λ x y. x.name ≢ y.name) plan.nodes → a < length plan.nodes → b < length plan.nodes
     → node_text plan a ++ 32 ∷ q ≡ node_text plan b ++ 32 ∷ t → (a ≡ b) × (q ≡ t)
 node_parted plan a b q t names apart ha hb e =
     let n = node_named plan a ha in
@@ -161,16 +181,19 @@ node_parted plan a b q t names apart ha hb e =
     let is_m : IsName m.0.name = subst (λ (x : Node). IsName x.name) at_b (names b n.0 hb) in
     let p = parted IsNameOctet n.0.name m.0.name (32 ∷ q) (32 ∷ t) is_n.each is_m.each (blank_is_no_name q) (blank_is_no_name t)
     (sym (ap (λ (x : List ℕ). x ++ 32 ∷ q) n.1) ∙ e ∙ ap (λ (x : List ℕ). x ++ 32 ∷ t) m.1) in
-    let same : (get_or plan.nodes a n.0).name ≡ (get_or plan.nodes b n.0).name = ap (λ (x : Node). x.name) at_a ∙ p.0 ∙ sym (ap (λ (x : Node). x.name) at_b) in (
+    let same : (get_or plan.nodes a n.0).name ≡ (get_or plan.nodes b n.0).name = ap (λ (x : Node). x.name) at_a ∙ p.0
+    ∙ sym (ap (λ (x : Node). x.name) at_b) in (
       ⊎_elim (λ (below : a < b). absurd (apart a b n.0 below hb same))
-          (λ (le : b ≤ a). ⊎_elim (λ (below : b < a). absurd (apart b a n.0 below ha (sym same))) (λ (other : a ≤ b). omega arith) (cases_lt b a))
+          (λ (le : b ≤ a). ⊎_elim (λ (below : b < a). absurd (apart b a n.0 below ha (sym same))) (λ (other : a ≤ b). omega arith)
+          (cases_lt b a))
           (cases_lt a b),
       rest_same 32 32 q t p.1,
     )
 
 -- ---- the title at a node
 
-spot_more : (plan : Network) (s : Spot) (r : List ℕ) → spot_text plan s ++ r ≡ 97 ∷ 116 ∷ 32 ∷ (node_text plan s.node ++ 32 ∷ (selector_text s.selector ++ 32 ∷ (decimal s.ssn ++ 32 ∷ (digits_text s.digits ++ r))))
+spot_more : (plan : Network) (s : Spot) (r : List ℕ) → spot_text plan s ++ r ≡ 97 ∷ 116 ∷ 32
+    ∷ (node_text plan s.node ++ 32 ∷ (selector_text s.selector ++ 32 ∷ (decimal s.ssn ++ 32 ∷ (digits_text s.digits ++ r))))
 unfolding spot_text numbered
 spot_more plan s r =
     let head : List ℕ = 97 ∷ 116 ∷ 32 ∷ node_text plan s.node in
@@ -182,7 +205,8 @@ spot_more plan s r =
 same_spots : (a b : Spot) → a.node ≡ b.node → a.selector ≡ b.selector → a.ssn ≡ b.ssn → a.digits ≡ b.digits → a ≡ b
 same_spots a b n s m d = λ i. record { node = n i; selector = s i; ssn = m i; digits = d i }
 
-pub spot_parted : (plan : Network) (a b : Spot) (q t : List ℕ) → All (λ n. IsName n.name) plan.nodes → AllPairs (λ x y. x.name ≢ y.name) plan.nodes → IsSpotOf plan a → IsSpotOf plan b
+pub spot_parted : (plan : Network) (a b : Spot) (q t : List ℕ) → All (λ n. IsName n.name) plan.nodes
+    → AllPairs (λ x y. x.name ≢ y.name) plan.nodes → IsSpotOf plan a → IsSpotOf plan b
     → spot_text plan a ++ 32 ∷ q ≡ spot_text plan b ++ 32 ∷ t → (a ≡ b) × (q ≡ t)
 spot_parted plan a b q t names apart ha hb e =
     let whole = append_cancel_left (codes "at ") _ _ (sym (spot_more plan a (32 ∷ q)) ∙ e ∙ spot_more plan b (32 ∷ t)) in

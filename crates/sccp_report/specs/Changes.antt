@@ -56,7 +56,8 @@ longest_hops_text old new (Some spot) turns = mixed_hops_text old (tagged (mixed
 -- The answer, and the mixed route that shows it: the longest one of a mixture that is kept, the bad one of a broken one.
 abbrev pub change_text : Network → Network → Change → List ℕ
 change_text old new (Kept bound spot turns) = kept_line bound ++ longest_hops_text old new spot turns
-change_text old new (Broken old_cover new_cover spot turns hops kind) = broken_line old_cover new_cover kind ++ mixed_hops_text old hops turns
+change_text old new (Broken old_cover new_cover spot turns hops kind) = broken_line old_cover new_cover kind
+    ++ mixed_hops_text old hops turns
 change_text old new TooWide = wide_change_line
 
 -- the hop is at a node of the plan, and leads to one if anywhere

@@ -8,7 +8,8 @@ use Rattle.sccp_message.specs.declared.message.Message.TheVariants as messages
 use Rattle.sccp_message.specs.Unitdata.{called_of}
 use Rattle.sccp_manage.specs.Statuses.{status_of}
 use Rattle.sccp_manage.specs.declared.status.StatusKind.{StatusKind}
-use Rattle.sccp_manage.specs.declared.status.StatusKind.TheVariants.{Allowed, Prohibited, Test, OutOfServiceRequest, OutOfServiceGrant, Congested}
+use Rattle.sccp_manage.specs.declared.status.StatusKind.TheVariants.{Allowed, Prohibited, Test, OutOfServiceRequest, OutOfServiceGrant}
+use Rattle.sccp_manage.specs.declared.status.StatusKind.TheVariants.{Congested}
 use Rattle.sccp_manage.specs.declared.status.StatusMessage.{StatusMessage}
 use Rattle.plan_model.specs.Network.{Network}
 use Rattle.relay_net.specs.declared.outcome.Outcome.{Outcome}

@@ -37,7 +37,8 @@ node_text plan node = option_map_or (λ n. n.name) (slice_get plan.nodes node) [
 -- a title at a node
 unfoldable pub spot_text : Network → Spot → List ℕ
 spot_text plan spot =
-    codes "at " ++ node_text plan spot.node ++ codes " " ++ selector_text spot.selector ++ numbered (codes " ") spot.ssn ++ codes " " ++ digits_text spot.digits
+    codes "at " ++ node_text plan spot.node ++ codes " " ++ selector_text spot.selector ++ numbered (codes " ") spot.ssn ++ codes " "
+    ++ digits_text spot.digits
 
 -- the place of the target that was taken, from 0
 unfoldable pub target_text : ℕ → List ℕ

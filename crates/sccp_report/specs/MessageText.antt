@@ -6,16 +6,20 @@ use Rattle.sccp_message.specs.declared.fault.DecodeFault.{DecodeFault}
 use Rattle.sccp_message.specs.declared.message.Message.{Message}
 use Rattle.sccp_message.specs.declared.message.Message.TheVariants as messages
 use Rattle.sccp_report.specs.Faults.{fault_words}
-use Rattle.sccp_report.specs.Fields.{source, destination, class_line, return_cause, refusal_cause, error_cause, release_cause, reset_cause, more_line, send, receive, credit, hops, called, calling, data_line, parameter_lines}
+use Rattle.sccp_report.specs.Fields.{source, destination, class_line, return_cause, refusal_cause, error_cause, release_cause, reset_cause}
+use Rattle.sccp_report.specs.Fields.{more_line, send, receive, credit, hops, called, calling, data_line, parameter_lines}
 
 abbrev pub message_lines : Message → List ℕ
 message_lines (messages.Cr slr class to params) = codes "CR\n" ++ source slr ++ class_line class ++ called to ++ parameter_lines params
-message_lines (messages.Cc dlr slr class params) = codes "CC\n" ++ destination dlr ++ source slr ++ class_line class ++ parameter_lines params
+message_lines (messages.Cc dlr slr class params) = codes "CC\n" ++ destination dlr ++ source slr ++ class_line class
+    ++ parameter_lines params
 message_lines (messages.Cref dlr cause params) = codes "CREF\n" ++ destination dlr ++ refusal_cause cause ++ parameter_lines params
-message_lines (messages.Rlsd dlr slr cause params) = codes "RLSD\n" ++ destination dlr ++ source slr ++ release_cause cause ++ parameter_lines params
+message_lines (messages.Rlsd dlr slr cause params) = codes "RLSD\n" ++ destination dlr ++ source slr ++ release_cause cause
+    ++ parameter_lines params
 message_lines (messages.Rlc dlr slr) = codes "RLC\n" ++ destination dlr ++ source slr
 message_lines (messages.Dt1 dlr more payload) = codes "DT1\n" ++ destination dlr ++ more_line more ++ data_line payload
-message_lines (messages.Dt2 dlr sent received more payload) = codes "DT2\n" ++ destination dlr ++ send sent ++ receive received ++ more_line more ++ data_line payload
+message_lines (messages.Dt2 dlr sent received more payload) = codes "DT2\n" ++ destination dlr ++ send sent ++ receive received
+    ++ more_line more ++ data_line payload
 message_lines (messages.Ak dlr received window) = codes "AK\n" ++ destination dlr ++ receive received ++ credit window
 message_lines (messages.Udt class to from payload) = codes "UDT\n" ++ class_line class ++ called to ++ calling from ++ data_line payload
 message_lines (messages.Udts cause to from payload) = codes "UDTS\n" ++ return_cause cause ++ called to ++ calling from ++ data_line payload
@@ -24,11 +28,16 @@ message_lines (messages.Ea dlr) = codes "EA\n" ++ destination dlr
 message_lines (messages.Rsr dlr slr cause) = codes "RSR\n" ++ destination dlr ++ source slr ++ reset_cause cause
 message_lines (messages.Rsc dlr slr) = codes "RSC\n" ++ destination dlr ++ source slr
 message_lines (messages.Err dlr cause) = codes "ERR\n" ++ destination dlr ++ error_cause cause
-message_lines (messages.It dlr slr class sent received more window) = codes "IT\n" ++ destination dlr ++ source slr ++ class_line class ++ send sent ++ receive received ++ more_line more ++ credit window
-message_lines (messages.Xudt class counter to from payload params) = codes "XUDT\n" ++ class_line class ++ hops counter ++ called to ++ calling from ++ data_line payload ++ parameter_lines params
-message_lines (messages.Xudts cause counter to from payload params) = codes "XUDTS\n" ++ return_cause cause ++ hops counter ++ called to ++ calling from ++ data_line payload ++ parameter_lines params
-message_lines (messages.Ludt class counter to from payload params) = codes "LUDT\n" ++ class_line class ++ hops counter ++ called to ++ calling from ++ data_line payload ++ parameter_lines params
-message_lines (messages.Ludts cause counter to from payload params) = codes "LUDTS\n" ++ return_cause cause ++ hops counter ++ called to ++ calling from ++ data_line payload ++ parameter_lines params
+message_lines (messages.It dlr slr class sent received more window) = codes "IT\n" ++ destination dlr ++ source slr ++ class_line class
+    ++ send sent ++ receive received ++ more_line more ++ credit window
+message_lines (messages.Xudt class counter to from payload params) = codes "XUDT\n" ++ class_line class ++ hops counter ++ called to
+    ++ calling from ++ data_line payload ++ parameter_lines params
+message_lines (messages.Xudts cause counter to from payload params) = codes "XUDTS\n" ++ return_cause cause ++ hops counter ++ called to
+    ++ calling from ++ data_line payload ++ parameter_lines params
+message_lines (messages.Ludt class counter to from payload params) = codes "LUDT\n" ++ class_line class ++ hops counter ++ called to
+    ++ calling from ++ data_line payload ++ parameter_lines params
+message_lines (messages.Ludts cause counter to from payload params) = codes "LUDTS\n" ++ return_cause cause ++ hops counter ++ called to
+    ++ calling from ++ data_line payload ++ parameter_lines params
 
 -- The kinds of types whose lines are put by one function each.
 

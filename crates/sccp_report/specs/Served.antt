@@ -94,7 +94,8 @@ end_words plan back outcomes (ends.Undecodable fault) = []
 
 -- a line of its own for each message that is sent
 unfoldable pub sent_line : ℕ → Outcome → List ℕ
-sent_line line (Sent sent) = decimal line ++ codes " sends " ++ point_code_text sent.to ++ codes " " ++ octets_text sent.octets ++ codes "\n"
+sent_line line (Sent sent) = decimal line ++ codes " sends " ++ point_code_text sent.to ++ codes " " ++ octets_text sent.octets
+    ++ codes "\n"
 sent_line line (Segment taken) = []
 sent_line line PoolFull = []
 
@@ -104,7 +105,8 @@ sent_lines line outcomes = flat_map (sent_line line) outcomes
 -- the number of its line in the trace, the number of its plan, the relays that it reached, and its end
 unfoldable pub journey_line : Network → ℕ → ℕ → Journey → List Outcome → List ℕ
 journey_line plan line number j outcomes =
-    decimal line ++ numbered (codes " by ") number ++ codes " via " ++ path_text plan j.path ++ end_words plan j.back outcomes j.end ++ codes "\n"
+    decimal line ++ numbered (codes " by ") number ++ codes " via " ++ path_text plan j.path ++ end_words plan j.back outcomes j.end
+    ++ codes "\n"
 
 abbrev pub served_text : Network → ℕ → ℕ → Journey → List Outcome → List ℕ
 served_text plan line number j outcomes = journey_line plan line number j outcomes ++ sent_lines line outcomes

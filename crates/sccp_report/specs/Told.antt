@@ -18,6 +18,7 @@ TextTellsPointCode = (a b : ℕ) → a < 2 ^ 64 → b < 2 ^ 64 → point_code_te
 -- The plan's nodes have names, as those of every plan have that is built.
 abbrev pub TextTellsRoute : Type 0
 TextTellsRoute =
-    (plan : Network) (s t : Spot) (ms ns : List (List Mark)) → IsPlan plan → All (λ node. IsName node.name) plan.nodes → IsInRange plan s ms → IsInRange plan t ns
+    (plan : Network) (s t : Spot) (ms ns : List (List Mark)) → IsPlan plan → All (λ node. IsName node.name) plan.nodes → IsInRange plan s ms
+    → IsInRange plan t ns
     → hops_text plan (route plan s ms) ms ≡ hops_text plan (route plan t ns) ns
     → (route plan s ms ≡ route plan t ns) × (take (length (route plan s ms)) ms ≡ take (length (route plan t ns)) ns)

@@ -1,6 +1,7 @@
 //! The lines of the called and the calling address.
 ghost use Rattle.std.specs.Prelude.{◌≡◌, ◌++◌, OnOk};
-ghost use Rattle.sccp_report.specs.Fields.{raw_title_text, title_text, route_words, national_words, address_line, called as called_line, calling as calling_line};
+ghost use Rattle.sccp_report.specs.Fields.{raw_title_text, title_text, route_words, national_words, address_line, called as called_line};
+ghost use Rattle.sccp_report.specs.Fields.{calling as calling_line};
 
 use crate::text::Text;
 use crate::values::{put_digits, put_number_or_dash, put_point_code_or_dash, put_selector};

@@ -5,7 +5,8 @@ ghost use Rattle.plan_model.specs.Network.{IsPlan};
 ghost use Rattle.plan_model.specs.SameNodes.{SameNodes};
 ghost use Rattle.plan_change.specs.Changes.{IsLawfulChange, IsLongestOf};
 ghost use Rattle.plan_change.specs.Mixture.{mixed, tagged};
-ghost use Rattle.sccp_report.specs.Changes.{which_words, mixed_hop_line, mixed_hops_text, kept_line, broken_words, covers_words, broken_line, wide_change_line, longest_hops_text, change_text, IsMixedHopIn};
+ghost use Rattle.sccp_report.specs.Changes.{which_words, mixed_hop_line, mixed_hops_text, kept_line, broken_words, covers_words};
+ghost use Rattle.sccp_report.specs.Changes.{broken_line, wide_change_line, longest_hops_text, change_text, IsMixedHopIn};
 
 use crate::hop::put_hop;
 use crate::text::Text;
@@ -122,7 +123,8 @@ fn put_mixed_route(
     requires old { IsPlan old.now }
     requires new { IsPlan new.now }
     requires covered { Covered old.now spot.now }
-    ensures { OnOk result (text.new ≡ text.old ++ mixed_hops_text old.now (tagged (mixed old.now new.now spot.now turns.now) turns.now) turns.now) }
+    ensures { OnOk result (text.new ≡ text.old ++ mixed_hops_text old.now
+        (tagged (mixed old.now new.now spot.now turns.now) turns.now) turns.now) }
 {
     let hops = mixed_hops(alloc, old, new, spot, turns)?;
     put_mixed_hops(text, old, hops.as_slice(), turns)

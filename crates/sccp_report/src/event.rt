@@ -4,7 +4,9 @@ ghost use Rattle.std.specs.Option.{option_and_then, option_copied};
 ghost use Rattle.sccp_manage.specs.Statuses.{status_of};
 ghost use Rattle.sccp_message.specs.Reading.{reading};
 ghost use Rattle.sccp_report.specs.Roles.{named, management_data};
-ghost use Rattle.sccp_report.specs.Events.{connection_words, kind_word, status_words, management_words, coupling_words, message_words, message_line, at_node, point_words, ssn_words, tick_words, node_in, line_words, event_line, event_text};
+ghost use Rattle.sccp_report.specs.Events.{connection_words, kind_word, status_words, management_words, coupling_words, message_words};
+ghost use Rattle.sccp_report.specs.Events.{message_line, at_node, point_words, ssn_words, tick_words, node_in, line_words, event_line};
+ghost use Rattle.sccp_report.specs.Events.{event_text};
 
 use crate::mark::put_destination;
 use crate::message_parts::management_data;

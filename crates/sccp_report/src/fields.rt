@@ -1,7 +1,9 @@
 //! The line of each field of a message, with its line feed.
 ghost use Rattle.std.specs.Prelude.{◌≡◌, ◌++◌, OnOk};
 ghost use Rattle.std.specs.Option.{option_copied};
-ghost use Rattle.sccp_report.specs.Fields.{number_line, source, destination, send, receive, credit, hops, more_line, class_line, after_blank, cause_line, return_cause, refusal_cause, error_cause, release_cause, reset_cause, data_line, parameter_line, parameter_lines};
+ghost use Rattle.sccp_report.specs.Fields.{number_line, source, destination, send, receive, credit, hops, more_line, class_line};
+ghost use Rattle.sccp_report.specs.Fields.{after_blank, cause_line, return_cause, refusal_cause, error_cause, release_cause, reset_cause};
+ghost use Rattle.sccp_report.specs.Fields.{data_line, parameter_line, parameter_lines};
 
 use crate::text::Text;
 use sccp_base::{List, Octets, OutOfMemory, Reference, Seven};

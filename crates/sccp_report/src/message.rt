@@ -38,7 +38,8 @@ fn put_counted_unit(
     payload: &Octets,
     params: &List<Param>,
 ) -> Result<(), OutOfMemory>
-    ensures { OnOk result (text.new ≡ text.old ++ (hops_line hops ++ called_line called.now ++ calling_line calling.now ++ data_line payload.now ++ parameter_lines params.now)) }
+    ensures { OnOk result (text.new ≡ text.old ++ (hops_line hops ++ called_line called.now ++ calling_line calling.now
+        ++ data_line payload.now ++ parameter_lines params.now)) }
 {
     put_hops(text, hops)?;
     put_unit(text, called, calling, payload)?;
@@ -48,7 +49,8 @@ fn put_counted_unit(
 // What is appended for a message of a kind: a line for each type, with its name and what is put for its fields in order.
 // The last of these, after the arrow, gives the answer. Nothing is appended for another kind.
 macro_rules! by_type {
-    ($text:ident, $message:ident; $($variant:ident { $($field:ident),* } $name:literal: $($put:ident($($value:expr),*)),* => $last:ident($($end:expr),*);)*) => {
+    ($text:ident, $message:ident; $($variant:ident
+        { $($field:ident),* } $name:literal: $($put:ident($($value:expr),*)),* => $last:ident($($end:expr),*);)*) => {
         match $message {
             $(Message::$variant { $($field),* } => {
                 $text.put($name)?;
@@ -66,10 +68,14 @@ fn put_unit_type(text: &mut Text, message: &Message) -> Result<(), OutOfMemory>
     by_type! { text, message;
         Udt { class, called, calling, payload } b"UDT\n": put_class(*class) => put_unit(called, calling, payload);
         Udts { cause, called, calling, payload } b"UDTS\n": put_return_cause(*cause) => put_unit(called, calling, payload);
-        Xudt { class, hops, called, calling, payload, params } b"XUDT\n": put_class(*class) => put_counted_unit(*hops, called, calling, payload, params);
-        Xudts { cause, hops, called, calling, payload, params } b"XUDTS\n": put_return_cause(*cause) => put_counted_unit(*hops, called, calling, payload, params);
-        Ludt { class, hops, called, calling, payload, params } b"LUDT\n": put_class(*class) => put_counted_unit(*hops, called, calling, payload, params);
-        Ludts { cause, hops, called, calling, payload, params } b"LUDTS\n": put_return_cause(*cause) => put_counted_unit(*hops, called, calling, payload, params);
+        Xudt { class, hops, called, calling, payload, params } b"XUDT\n": put_class(*class) => put_counted_unit(*hops, called, calling,
+            payload, params);
+        Xudts { cause, hops, called, calling, payload, params } b"XUDTS\n": put_return_cause(*cause) => put_counted_unit(*hops, called,
+            calling, payload, params);
+        Ludt { class, hops, called, calling, payload, params } b"LUDT\n": put_class(*class) => put_counted_unit(*hops, called, calling,
+            payload, params);
+        Ludts { cause, hops, called, calling, payload, params } b"LUDTS\n": put_return_cause(*cause) => put_counted_unit(*hops, called,
+            calling, payload, params);
     }
 }
 
@@ -80,7 +86,8 @@ fn put_with_parameters(text: &mut Text, message: &Message) -> Result<(), OutOfMe
         Cr { slr, class, called, params } b"CR\n": put_source(*slr), put_class(*class), put_called(called) => put_parameters(params);
         Cc { dlr, slr, class, params } b"CC\n": put_destination(*dlr), put_source(*slr), put_class(*class) => put_parameters(params);
         Cref { dlr, cause, params } b"CREF\n": put_destination(*dlr), put_refusal_cause(*cause) => put_parameters(params);
-        Rlsd { dlr, slr, cause, params } b"RLSD\n": put_destination(*dlr), put_source(*slr), put_release_cause(*cause) => put_parameters(params);
+        Rlsd { dlr, slr, cause, params } b"RLSD\n": put_destination(*dlr), put_source(*slr),
+            put_release_cause(*cause) => put_parameters(params);
     }
 }
 
@@ -89,10 +96,12 @@ fn put_of_data(text: &mut Text, message: &Message) -> Result<(), OutOfMemory>
 {
     by_type! { text, message;
         Dt1 { dlr, more, payload } b"DT1\n": put_destination(*dlr), put_more(*more) => put_data(payload);
-        Dt2 { dlr, send, receive, more, payload } b"DT2\n": put_destination(*dlr), put_send(*send), put_receive(*receive), put_more(*more) => put_data(payload);
+        Dt2 { dlr, send, receive, more, payload } b"DT2\n": put_destination(*dlr), put_send(*send), put_receive(*receive),
+            put_more(*more) => put_data(payload);
         Ak { dlr, receive, credit } b"AK\n": put_destination(*dlr), put_receive(*receive) => put_credit(*credit);
         Ed { dlr, payload } b"ED\n": put_destination(*dlr) => put_data(payload);
-        It { dlr, slr, class, send, receive, more, credit } b"IT\n": put_destination(*dlr), put_source(*slr), put_class(*class), put_send(*send), put_receive(*receive), put_more(*more) => put_credit(*credit);
+        It { dlr, slr, class, send, receive, more, credit } b"IT\n": put_destination(*dlr), put_source(*slr), put_class(*class),
+            put_send(*send), put_receive(*receive), put_more(*more) => put_credit(*credit);
     }
 }
 

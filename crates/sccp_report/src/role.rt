@@ -4,7 +4,8 @@ ghost use Rattle.std.specs.Option.{option_copied, option_map};
 ghost use Rattle.sccp_message.specs.Reading.{reading};
 ghost use Rattle.sccp_message.specs.Reads.{Reads};
 ghost use Rattle.sccp_message.specs.Unitdata.{called_of};
-ghost use Rattle.sccp_report.specs.Roles.{StandsIn, alone, as_role, event_role, incoming, named, is_for_management, role_by_called, role_of, role_of_message, status_at};
+ghost use Rattle.sccp_report.specs.Roles.{StandsIn, alone, as_role, event_role, incoming, named, is_for_management, role_by_called};
+ghost use Rattle.sccp_report.specs.Roles.{role_of, role_of_message, status_at};
 
 use crate::message_parts::management_data;
 use plan_model::Plan;

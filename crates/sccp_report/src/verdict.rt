@@ -3,7 +3,8 @@ ghost use Rattle.std.specs.Prelude.{◌≡◌, ◌≤◌, ◌++◌, length, All,
 ghost use Rattle.plan_verify.specs.Lawful.{plan_of};
 ghost use Rattle.plan_model.specs.Routes.{route};
 ghost use Rattle.sccp_report.specs.Hops.{IsHopIn};
-ghost use Rattle.sccp_report.specs.Verdicts.{kind_words, steady_words, refused_line, accepted_line, too_wide_line, refused_lines, accepted_lines, verdict_text, HasHopsIn};
+ghost use Rattle.sccp_report.specs.Verdicts.{kind_words, steady_words, refused_line, accepted_line, too_wide_line, refused_lines};
+ghost use Rattle.sccp_report.specs.Verdicts.{accepted_lines, verdict_text, HasHopsIn};
 
 use crate::hop::put_hops;
 use crate::mark::put_destination;
@@ -79,7 +80,8 @@ fn put_longest(
     accepted: &Accepted,
 ) -> Result<(), OutOfMemory>
     requires { accepted.now.plan ≡ plan.now }
-    ensures { OnOk result (text.new ≡ text.old ++ accepted_lines plan.now accepted.now.bound (route plan.now accepted.now.longest.spot accepted.now.longest.markings) accepted.now.longest.markings) }
+    ensures { OnOk result (text.new ≡ text.old ++ accepted_lines plan.now accepted.now.bound
+        (route plan.now accepted.now.longest.spot accepted.now.longest.markings) accepted.now.longest.markings) }
 {
     put_accepted(text, accepted.bound())?;
     let longest = accepted.longest();
@@ -94,7 +96,8 @@ fn put_longest(
 fn put_witness(text: &mut Text, plan: &Plan, witness: &Witness) -> Result<(), OutOfMemory>
     requires nodes { All (IsHopIn plan.now) witness.now.hops }
     requires enough { length witness.now.hops ≤ length witness.now.markings }
-    ensures { OnOk result (text.new ≡ text.old ++ refused_lines plan.now witness.now.cover witness.now.kind witness.now.steady witness.now.hops witness.now.markings) }
+    ensures { OnOk result (text.new ≡ text.old
+        ++ refused_lines plan.now witness.now.cover witness.now.kind witness.now.steady witness.now.hops witness.now.markings) }
 {
     put_refused(text, witness.cover, witness.kind, witness.steady)?;
     put_hops(

@@ -1,5 +1,6 @@
 -- the called address after a step
-use Rattle.std.specs.Prelude.{◌≡◌, ℕ, zero, suc, ◌+◌, ◌-◌, ◌*◌, ◌%◌, ◌<◌, ◌≤◌, ◌==◌, ◌&&◌, Bool, true, false, List, [], ◌∷◌, ◌++◌, length, drop, Option, Some, None, slice_get, IfSome, unwrap_or, refl, nat_eq, if◌then◌else◌}
+use Rattle.std.specs.Prelude.{◌≡◌, ℕ, zero, suc, ◌+◌, ◌-◌, ◌*◌, ◌%◌, ◌<◌, ◌≤◌, ◌==◌, ◌&&◌, Bool, true, false, List, [], ◌∷◌, ◌++◌, length}
+use Rattle.std.specs.Prelude.{drop, Option, Some, None, slice_get, IfSome, unwrap_or, refl, nat_eq, if◌then◌else◌}
 use Rattle.std.specs.List.{AllByRecursion, All, starts_with}
 use Rattle.std.proofs.Common.{sym, ◌∙◌, ap, subst, arith, length-append}
 use Rattle.std.proofs.lemmas.Bool.{and_parts, ltb-false, eqb-true}
@@ -37,22 +38,29 @@ length-packed (d ∷ e ∷ ds) n le =
 pub length-heading : (s : Numbers) (odd : Bool) → length (heading s odd) ≤ 3
 length-heading s odd = chosen (s.kind == 1) (s.kind == 2) (s.kind == 3)
   where
-    chosen : (a b c : Bool) → length (if a then (s.nature + 128 * flag odd) ∷ [] else if b then s.translation ∷ [] else if c then s.translation ∷ (16 * s.plan + (if odd then 1 else 2)) ∷ [] else s.translation ∷ (16 * s.plan + (if odd then 1 else 2)) ∷ s.nature ∷ []) ≤ 3
+    chosen : (a b c : Bool) → length (if a then (s.nature + 128 * flag odd) ∷ [] else if b then s.translation ∷ [] else if c
+        then s.translation ∷ (16 * s.plan + (if odd then 1 else 2)) ∷ [] else s.translation ∷ (16 * s.plan + (if odd then 1 else 2))
+        ∷ s.nature ∷ []) ≤ 3
     chosen true b c = omega arith
     chosen false true c = omega arith
     chosen false false true = omega arith
     chosen false false false = omega arith
 
 -- with a global title of up to 32 digits and no point code it has at most 21 octets
-pub few_octets : (national by_ssn : Bool) (ssn : Option ℕ) (s : Numbers) (digits : List ℕ) → length digits ≤ 32 → length (written (record { national = national; by_ssn = by_ssn; pc = None; ssn = ssn; title = Global s digits })) ≤ 21
+pub few_octets : (national by_ssn : Bool) (ssn : Option ℕ) (s : Numbers) (digits : List ℕ) → length digits ≤ 32
+    → length (written (record { national = national; by_ssn = by_ssn; pc = None; ssn = ssn; title = Global s digits })) ≤ 21
 few_octets national by_ssn None s digits le =
     let odd : Bool = length digits % 2 == 1 in
-    let sum : length (heading s odd ++ packed digits) ≡ length (heading s odd) + length (packed digits) = length-append (heading s odd) (packed digits) in
-    let goal : suc (length (heading s odd ++ packed digits)) ≤ 21 = omega (arith, sum, length-heading s odd, length-packed digits 16 le) in goal
+    let sum : length (heading s odd ++ packed digits) ≡ length (heading s odd) + length (packed digits) =
+    length-append (heading s odd) (packed digits) in
+    let goal : suc (length (heading s odd ++ packed digits)) ≤ 21 =
+    omega (arith, sum, length-heading s odd, length-packed digits 16 le) in goal
 few_octets national by_ssn (Some n) s digits le =
     let odd : Bool = length digits % 2 == 1 in
-    let sum : length (heading s odd ++ packed digits) ≡ length (heading s odd) + length (packed digits) = length-append (heading s odd) (packed digits) in
-    let goal : suc (suc (length (heading s odd ++ packed digits))) ≤ 21 = omega (arith, sum, length-heading s odd, length-packed digits 16 le) in goal
+    let sum : length (heading s odd ++ packed digits) ≡ length (heading s odd) + length (packed digits) =
+    length-append (heading s odd) (packed digits) in
+    let goal : suc (suc (length (heading s odd ++ packed digits))) ≤ 21 =
+    omega (arith, sum, length-heading s odd, length-packed digits 16 le) in goal
 
 -- ---- the SSN
 
@@ -89,13 +97,15 @@ small None h = tt
 small (Some n) h = omega (arith, h.1)
 
 -- what a node's targets keep
-pub target_in : (plan : Network) (node : Node) (row : Rule) (t : Target) → IsPlan plan → Among node plan.nodes → Among row node.table → Among t row.targets → IsTarget t × IfSome (ssn_of t) IsSubsystem
+pub target_in : (plan : Network) (node : Node) (row : Rule) (t : Target) → IsPlan plan → Among node plan.nodes → Among row node.table
+    → Among t row.targets → IsTarget t × IfSome (ssn_of t) IsSubsystem
 target_in plan node row t is in_nodes in_table in_targets =
     let table : IsTable node.table = All-among (λ (n : Node). IsTable n.table) node plan.nodes is.tables in_nodes in
     let rule : IsRule row = All-among IsRule row node.table table.rules in_table in
     let own : IsNode node = All-among IsNode node plan.nodes is.nodes in_nodes in (
       All-among IsTarget t row.targets rule.targets in_targets,
-      All-among (λ (t : Target). IfSome (ssn_of t) IsSubsystem) t row.targets (All-among NamesSubsystems row node.table own.named in_table).targets in_targets,
+      All-among (λ (t : Target). IfSome (ssn_of t) IsSubsystem) t row.targets
+          (All-among NamesSubsystems row node.table own.named in_table).targets in_targets,
     )
 
 halves_drop : (n : ℕ) (ds : List ℕ) → AllByRecursion (λ d. d < 16) ds → AllByRecursion (λ d. d < 16) (drop n ds)
@@ -103,7 +113,8 @@ halves_drop zero ds h = h
 halves_drop (suc n) [] h = tt
 halves_drop (suc n) (d ∷ ds) h = halves_drop n ds h.1
 
-halves_append : (xs ys : List ℕ) → AllByRecursion (λ d. d < 16) xs → AllByRecursion (λ d. d < 16) ys → AllByRecursion (λ d. d < 16) (xs ++ ys)
+halves_append : (xs ys : List ℕ) → AllByRecursion (λ d. d < 16) xs → AllByRecursion (λ d. d < 16) ys
+    → AllByRecursion (λ d. d < 16) (xs ++ ys)
 halves_append [] ys h k = k
 halves_append (x ∷ xs) ys h k = (h.0, halves_append xs ys h.1 k)
 
@@ -123,16 +134,23 @@ IsSpot-sent plan s next is h t =
     let table : IsTable t.node.table = All-among (λ (n : Node). IsTable n.table) t.node plan.nodes is.tables within in
     let kept : IsTarget d × IfSome (ssn_of d) IsSubsystem = target_in plan t.node t.row d is within t.among t.target in
     let parts = and_parts (has_selector s.selector t.row && takes_ssn s.ssn t.row) (starts_with nat_eq s.digits t.row.prefix) t.matching in
-    let same : t.row.selector ≡ s.selector = same_selector-≡ t.row.selector s.selector (and_parts (has_selector s.selector t.row) (takes_ssn s.ssn t.row) parts.0).0 in
-    let strips : strips_more (length t.row.prefix) d ≡ false = list_any-none (strips_more (length t.row.prefix)) d t.row.targets (position-None strips_too_long t.row t.node.table table.strips t.among) t.target in
+    let same : t.row.selector ≡ s.selector = same_selector-≡ t.row.selector s.selector
+    (and_parts (has_selector s.selector t.row) (takes_ssn s.ssn t.row) parts.0).0 in
+    let strips : strips_more (length t.row.prefix) d ≡ false = list_any-none (strips_more (length t.row.prefix)) d t.row.targets
+    (position-None strips_too_long t.row t.node.table table.strips t.among) t.target in
     let short : t.strip ≤ length t.row.prefix = ltb-false (length t.row.prefix) t.strip strips in
     let le : t.strip ≤ length s.digits = omega (arith, short, fits-starts_with s.digits t.row.prefix parts.1) in
-    let evens : target_makes_odd t.row.selector.kind d ≡ false = list_any-none (target_makes_odd t.row.selector.kind) d t.row.targets (position-None makes_odd t.row t.node.table table.even t.among) t.target in
+    let evens : target_makes_odd t.row.selector.kind d ≡ false = list_any-none (target_makes_odd t.row.selector.kind) d t.row.targets
+    (position-None makes_odd t.row t.node.table table.even t.among) t.target in
     record {
       selector = subst IsSelector (sym t.selected) (selector_fits t.selector s.selector kept.0.selector h.selector);
       few = t.few;
-      halves = subst (AllByRecursion (λ d. d < 16)) (sym t.digits) (halves_append t.put (drop t.strip s.digits) (all_each (λ d. d < 16) t.put kept.0.halves) (halves_drop t.strip s.digits h.halves));
-      even = λ two. subst (λ (ds : List ℕ). length ds % 2 ≡ 0) (sym t.digits) (stays_even t.selector s.selector t.row.selector.kind t.strip t.put s.digits (ap (λ (n : Numbers). n.kind) same) evens le h.even (sym (ap (λ (n : Numbers). n.kind) t.selected) ∙ two));
+      halves = subst (AllByRecursion (λ d. d < 16)) (sym t.digits)
+          (halves_append t.put (drop t.strip s.digits) (all_each (λ d. d < 16) t.put kept.0.halves)
+          (halves_drop t.strip s.digits h.halves));
+      even = λ two. subst (λ (ds : List ℕ). length ds % 2 ≡ 0) (sym t.digits)
+          (stays_even t.selector s.selector t.row.selector.kind t.strip t.put s.digits (ap (λ (n : Numbers). n.kind) same) evens le h.even
+          (sym (ap (λ (n : Numbers). n.kind) t.selected) ∙ two));
       ssn = subst (λ n. n < 256) (sym t.ssn) (named_fits t.named s.ssn (small t.named kept.1) h.ssn);
     }
   where
@@ -148,4 +166,5 @@ pub IsAddress-place : (a : Address) (ssn : ℕ) → IsAddress a → ssn < 256 �
 IsAddress-place a ssn h lt = record { pc = tt; ssn = lt; title = h.title }
 
 pub spot-relay : (a : Address) (next : Spot) → spot_of next.node (to_relay a next) ≡ Some next
-spot-relay a next = ap (λ n. Some (record { node = next.node; selector = next.selector; ssn = n; digits = next.digits })) (ssn_again a.ssn next.ssn)
+spot-relay a next = ap (λ n. Some (record { node = next.node; selector = next.selector; ssn = n; digits = next.digits }))
+    (ssn_again a.ssn next.ssn)

@@ -1,5 +1,6 @@
 -- the arrival of a message that routes on a global title
-use Rattle.std.specs.Prelude.{◌≡◌, ◌≢◌, ℕ, ◌-◌, ◌<◌, ◌≤◌, ◌==◌, Bool, true, false, nat_le, List, [], ◌∷◌, length, Option, Some, None, IfSome, option_map, slice_get, unwrap_or, refl, get_or, if◌then◌else◌, Ok}
+use Rattle.std.specs.Prelude.{◌≡◌, ◌≢◌, ℕ, ◌-◌, ◌<◌, ◌≤◌, ◌==◌, Bool, true, false, nat_le, List, [], ◌∷◌, length, Option, Some, None}
+use Rattle.std.specs.Prelude.{IfSome, option_map, slice_get, unwrap_or, refl, get_or, if◌then◌else◌, Ok}
 use Rattle.std.specs.List.{find, All}
 use Rattle.std.specs.Option.{option_map_or}
 use Rattle.std.proofs.Common.{suc, sym, ◌∙◌, ap, subst, inl, inr, ⊎_elim, arith}
@@ -32,7 +33,8 @@ use Rattle.plan_model.proofs.Leading.{IsSentBy, IsEndedBy}
 use Rattle.sccp_scrc.specs.Unitdata.{redirected, octets_of, Room}
 use Rattle.sccp_scrc.specs.Rewriting.{one_less, to_relay, to_place, spot_of, title_spot}
 use Rattle.sccp_scrc.specs.Arriving.{point_of, after_step, translated, is_last_hop, at_title, by_called, of_message, arrival, at_subsystem}
-use Rattle.sccp_scrc.proofs.Redirected.{Sound-redirected, IsMessage-redirected, Writable-redirected, Room-redirected, called-redirected, reads_again, octets_written, called_kept}
+use Rattle.sccp_scrc.proofs.Redirected.{Sound-redirected, IsMessage-redirected, Writable-redirected, Room-redirected, called-redirected}
+use Rattle.sccp_scrc.proofs.Redirected.{reads_again, octets_written, called_kept}
 use Rattle.sccp_scrc.proofs.Addresses.{few_octets, IsSpot, IsAddress-relay, spot-relay, named_fits, small, target_in}
 
 -- a message whose called address routes on the title of a spot
@@ -49,17 +51,20 @@ pub record Carries (m : Message) (a : Address) (s : Spot) : Type 0 where
   pub titled : IsTitled m a s
   pub room : Room m
 
-title_is : (node : ℕ) (ssn : Option ℕ) (title : Title) (s : Spot) → title_spot node ssn title ≡ Some s → (title ≡ Global s.selector s.digits) × (unwrap_or ssn 0 ≡ s.ssn) × (node ≡ s.node)
+title_is : (node : ℕ) (ssn : Option ℕ) (title : Title) (s : Spot) → title_spot node ssn title ≡ Some s
+    → (title ≡ Global s.selector s.digits) × (unwrap_or ssn 0 ≡ s.ssn) × (node ≡ s.node)
 title_is node ssn Absent s e = absurd cc
 title_is node ssn (Raw kind octets) s e = absurd cc
 title_is node ssn (Global selector digits) s e =
-    let whole : record { node = node; selector = selector; ssn = unwrap_or ssn 0; digits = digits } ≡ s = same (record { node = node; selector = selector; ssn = unwrap_or ssn 0; digits = digits }) s e in
+    let whole : record { node = node; selector = selector; ssn = unwrap_or ssn 0; digits = digits } ≡ s =
+    same (record { node = node; selector = selector; ssn = unwrap_or ssn 0; digits = digits }) s e in
     ((λ i. Global (whole i).selector (whole i).digits), ap (λ (z : Spot). z.ssn) whole, ap (λ (z : Spot). z.node) whole)
   where
     same : (x y : Spot) → Some x ≡ Some y → x ≡ y
     same x y e = cc
 
-pub spot_title : (node : ℕ) (a : Address) (s : Spot) → spot_of node a ≡ Some s → (a.title ≡ Global s.selector s.digits) × (unwrap_or a.ssn 0 ≡ s.ssn) × (node ≡ s.node)
+pub spot_title : (node : ℕ) (a : Address) (s : Spot) → spot_of node a ≡ Some s
+    → (a.title ≡ Global s.selector s.digits) × (unwrap_or a.ssn 0 ≡ s.ssn) × (node ≡ s.node)
 spot_title node a s e = title_is node a.ssn a.title s e
 
 -- ---- the counter
@@ -82,7 +87,9 @@ pub if_false : {X : Type 0} (b : Bool) (x y : X) → b ≡ false → (if b then 
 if_false true x y e = absurd (cc)
 if_false false x y e = refl
 
-pub arrives : (plan : Network) (marking : List Mark) (origin : ℕ) (b : List ℕ) (m : Message) (a : Address) (s : Spot) → reading b ≡ Ok m → IsTitled m a s → is_last_hop (hops_of m) ≡ false → arrival plan s.node marking origin b ≡ after_step plan s.node marking origin m a (step plan s marking)
+pub arrives : (plan : Network) (marking : List Mark) (origin : ℕ) (b : List ℕ) (m : Message) (a : Address) (s : Spot) → reading b ≡ Ok m
+    → IsTitled m a s → is_last_hop (hops_of m) ≡ false → arrival plan s.node marking origin b
+    ≡ after_step plan s.node marking origin m a (step plan s marking)
 arrives plan marking origin b m a s reads c counter =
     ap (of_message plan s.node marking origin) reads
     ∙ (ap (by_called plan s.node marking origin m) c.called
@@ -92,12 +99,15 @@ arrives plan marking origin b m a s reads c counter =
 
 -- ---- on to a relay
 
-pub relayed_octets : (m : Message) (a : Address) (s next : Spot) → Carries m a s → IsSpot next → octets_of (redirected (to_relay a next) one_less m) ≡ Some (message_octets (redirected (to_relay a next) one_less m))
+pub relayed_octets : (m : Message) (a : Address) (s next : Spot) → Carries m a s → IsSpot next
+    → octets_of (redirected (to_relay a next) one_less m) ≡ Some (message_octets (redirected (to_relay a next) one_less m))
 relayed_octets m a s next c is =
     octets_written (redirected (to_relay a next) one_less m)
-    (Writable-redirected (to_relay a next) one_less m (few_octets a.national false (to_relay a next).ssn next.selector next.digits is.few) c.room)
+    (Writable-redirected (to_relay a next) one_less m (few_octets a.national false
+    (to_relay a next).ssn next.selector next.digits is.few) c.room)
 
-pub IsTitled-relayed : (m : Message) (a : Address) (s next : Spot) → IsTitled m a s → IsSpot next → IsTitled (redirected (to_relay a next) one_less m) (to_relay a next) next
+pub IsTitled-relayed : (m : Message) (a : Address) (s next : Spot) → IsTitled m a s → IsSpot next
+    → IsTitled (redirected (to_relay a next) one_less m) (to_relay a next) next
 IsTitled-relayed m a s next c is = record {
   called = called-redirected (to_relay a next) a one_less m c.called;
   by_title = refl;
@@ -107,8 +117,13 @@ IsTitled-relayed m a s next c is = record {
   sound = Sound-redirected (to_relay a next) one_less m c.sound;
 }
 
-pub Carries-relayed : (m : Message) (a : Address) (s next : Spot) → Carries m a s → IsSpot next → Carries (redirected (to_relay a next) one_less m) (to_relay a next) next
-Carries-relayed m a s next c is = record { titled = IsTitled-relayed m a s next c.titled is; room = Room-redirected (to_relay a next) one_less m c.room }
+pub Carries-relayed : (m : Message) (a : Address) (s next : Spot) → Carries m a s → IsSpot next
+    → Carries (redirected (to_relay a next) one_less m) (to_relay a next) next
+Carries-relayed m a s next c is = record {
+  titled = IsTitled-relayed m a s next c.titled is;
+  room = Room-redirected
+      (to_relay a next) one_less m c.room;
+}
 
 pub IsTitled-reads : (m : Message) (a : Address) (s : Spot) → IsTitled m a s → reading (message_octets m) ≡ Ok m
 IsTitled-reads m a s c = reads_again m c.message c.sound
@@ -124,7 +139,8 @@ is_spot node a s address at =
     fits None k = omega arith
     fits (Some n) k = k
 
-pub IsTitled-read : (b : List ℕ) (node : ℕ) (m : Message) (a : Address) (s : Spot) → AreOctets b → reading b ≡ Ok m → called_of m ≡ Some a → a.by_ssn ≡ false → spot_of node a ≡ Some s → IsTitled m a s
+pub IsTitled-read : (b : List ℕ) (node : ℕ) (m : Message) (a : Address) (s : Spot) → AreOctets b → reading b ≡ Ok m → called_of m ≡ Some a
+    → a.by_ssn ≡ false → spot_of node a ≡ Some s → IsTitled m a s
 IsTitled-read b node m a s octets reads called by_title at =
     let r : Reads b m = message_takes b m reads in
     let message : IsMessage m = reads_kept b m octets r in
@@ -146,8 +162,10 @@ there plan pc lt =
     let i : ℕ = node_of plan.nodes pc in
     ⊎_elim
     (λ (at : (c : Node) × (i < length plan.nodes) × (slice_get plan.nodes i ≡ Some c) × (get_or plan.nodes i c ≡ c)).
-    ap (λ o. option_map_or (λ (n : Node). n.pc) o 0) at.2 ∙ eqb-true at.0.pc pc (sym (ap (has_point pc) at.3) ∙ passes_at_first (has_point pc) plan.nodes at.0 lt))
-    (λ (beyond : (length plan.nodes ≤ i) × (slice_get plan.nodes i ≡ None)). let le : length plan.nodes ≤ i = beyond.0 in absurd (omega (arith, le, lt)))
+    ap (λ o. option_map_or (λ (n : Node). n.pc) o 0) at.2
+    ∙ eqb-true at.0.pc pc (sym (ap (has_point pc) at.3) ∙ passes_at_first (has_point pc) plan.nodes at.0 lt))
+    (λ (beyond : (length plan.nodes ≤ i) × (slice_get plan.nodes i ≡ None)). let le : length plan.nodes
+    ≤ i = beyond.0 in absurd (omega (arith, le, lt)))
     (slice_get_cases plan.nodes i).1
 
 -- each node is found again by its point code
@@ -159,9 +177,11 @@ node_again plan node is lt =
     let own : (get_or plan.nodes node at.0).pc ≡ at.0.pc = ap (λ (n : Node). n.pc) at.3 in
     ap (λ o. node_of plan.nodes (option_map_or (λ (n : Node). n.pc) o 0)) at.2
     ∙ position_or_len_is (has_point at.0.pc) plan.nodes node at.0 le
-      (λ k before. false_from_ne_true (has_point at.0.pc (get_or plan.nodes k at.0)) (λ e. is.points k node at.0 before lt (eqb-true (get_or plan.nodes k at.0).pc at.0.pc e ∙ sym own)))
-      (λ within. eq-eqb (get_or plan.nodes node at.0).pc at.0.pc own))
-    (λ (beyond : (length plan.nodes ≤ node) × (slice_get plan.nodes node ≡ None)). let le : length plan.nodes ≤ node = beyond.0 in absurd (omega (arith, le, lt)))
+    (λ k before. false_from_ne_true (has_point at.0.pc (get_or plan.nodes k at.0))
+    (λ e. is.points k node at.0 before lt (eqb-true (get_or plan.nodes k at.0).pc at.0.pc e ∙ sym own)))
+    (λ within. eq-eqb (get_or plan.nodes node at.0).pc at.0.pc own))
+    (λ (beyond : (length plan.nodes ≤ node) × (slice_get plan.nodes node ≡ None)). let le : length plan.nodes
+    ≤ node = beyond.0 in absurd (omega (arith, le, lt)))
     (slice_get_cases plan.nodes node).1
 
 -- the next node of a title: the one with the target's point code, which is another one of the plan
@@ -176,7 +196,9 @@ sent_on plan s next is t =
     let within : Among t.node plan.nodes = Among-slice_get plan.nodes s.node t.node t.at in
     let on : LeadsOn plan.nodes t.node (Relay t.pc t.strip t.put t.selector t.named) =
     All-among (LeadsOn plan.nodes t.node) (Relay t.pc t.strip t.put t.selector t.named) t.row.targets
-    (All-among (λ (r : Rule). All (LeadsOn plan.nodes t.node) r.targets) t.row t.node.table (All-among (λ (n : Node). All (λ r. All (LeadsOn plan.nodes n) r.targets) n.table) t.node plan.nodes is.relays within) t.among) t.target in
+    (All-among (λ (r : Rule). All (LeadsOn plan.nodes t.node) r.targets) t.row t.node.table
+    (All-among (λ (n : Node). All
+    (λ r. All (LeadsOn plan.nodes n) r.targets) n.table) t.node plan.nodes is.relays within) t.among) t.target in
     record {
       within = subst (λ n. n < length plan.nodes) (sym t.there) on.0;
       point = ap (point_of plan) t.there ∙ there plan t.pc on.0;
@@ -185,7 +207,8 @@ sent_on plan s next is t =
     }
 
 -- the relay with the point code of the next node is the next node
-pub next_again : (plan : Network) (s next : Spot) → IsPlan plan → IsSentBy plan s next → node_of plan.nodes (point_of plan next.node) ≡ next.node
+pub next_again : (plan : Network) (s next : Spot) → IsPlan plan → IsSentBy plan s next
+    → node_of plan.nodes (point_of plan next.node) ≡ next.node
 next_again plan s next is t = let n = sent_on plan s next is t in ap (node_of plan.nodes) n.point ∙ n.again
 
 pub next_within : (plan : Network) (s next : Spot) → IsPlan plan → IsSentBy plan s next → next.node < length plan.nodes
@@ -199,16 +222,21 @@ next_other plan s next is t = let n = sent_on plan s next is t in λ same. n.oth
 pub Writable-placed : (m : Message) (a : Address) (s : Spot) (ssn : ℕ) → Carries m a s → Writable (redirected (to_place a ssn) one_less m)
 Writable-placed m a s ssn c =
     Writable-redirected (to_place a ssn) one_less m
-    (subst (λ (t : Title). length (written (record { national = a.national; by_ssn = true; pc = None; ssn = Some ssn; title = t })) ≤ 21) (sym (spot_title s.node a s c.titled.at).0)
+    (subst (λ (t : Title). length (written (record { national = a.national; by_ssn = true; pc = None; ssn = Some ssn; title = t })) ≤ 21)
+    (sym (spot_title s.node a s c.titled.at).0)
     (few_octets a.national true (Some ssn) s.selector s.digits c.titled.spot.few)) c.room
 
-pub placed_reads : (m : Message) (a : Address) (s : Spot) (ssn : ℕ) → IsTitled m a s → ssn < 256 → reading (message_octets (redirected (to_place a ssn) one_less m)) ≡ Ok (redirected (to_place a ssn) one_less m)
+pub placed_reads : (m : Message) (a : Address) (s : Spot) (ssn : ℕ) → IsTitled m a s → ssn < 256
+    → reading (message_octets (redirected (to_place a ssn) one_less m)) ≡ Ok (redirected (to_place a ssn) one_less m)
 placed_reads m a s ssn c lt =
-    let title : IsTitle a.title = subst IsTitle (sym (spot_title s.node a s c.at).0) (c.spot.selector, c.spot.few, c.spot.halves, c.spot.even) in
+    let title : IsTitle a.title = subst IsTitle (sym (spot_title s.node a s c.at).0)
+    (c.spot.selector, c.spot.few, c.spot.halves, c.spot.even) in
     let address : IsAddress (to_place a ssn) = record { pc = tt; ssn = lt; title = title } in
-    reads_again (redirected (to_place a ssn) one_less m) (IsMessage-redirected (to_place a ssn) one_less m address c.message) (Sound-redirected (to_place a ssn) one_less m c.sound)
+    reads_again (redirected (to_place a ssn) one_less m) (IsMessage-redirected (to_place a ssn) one_less m address c.message)
+    (Sound-redirected (to_place a ssn) one_less m c.sound)
 
-pub ended_ssn : (plan : Network) (s : Spot) (marking : List Mark) (pc ssn : ℕ) → IsPlan plan → IsSpot s → IsEndedBy plan s marking pc ssn → ssn < 256
+pub ended_ssn : (plan : Network) (s : Spot) (marking : List Mark) (pc ssn : ℕ) → IsPlan plan → IsSpot s → IsEndedBy plan s marking pc ssn
+    → ssn < 256
 ended_ssn plan s marking pc ssn is h t =
     let within : Among t.node plan.nodes = Among-slice_get plan.nodes s.node t.node t.at in
     let kept = target_in plan t.node t.row (Final pc t.named) is within t.among t.target in
@@ -219,13 +247,19 @@ pub record IsOpen (plan : Network) (z : Spot) (marking : List Mark) (pc ssn : �
   pub subsystem : holds marking (Subsystem pc ssn) ≡ false
   pub point : (pc == point_of plan z.node) ≡ false → (holds marking (PointCode pc) ≡ false) × (holds marking (Sccp pc) ≡ false)
 
-unmarked : (marking : List Mark) (pc ssn : ℕ) (b : Bool) → find (holds marking) (if b then Subsystem pc ssn ∷ [] else PointCode pc ∷ Sccp pc ∷ Subsystem pc ssn ∷ []) ≡ None → (holds marking (Subsystem pc ssn) ≡ false) × (b ≡ false → (holds marking (PointCode pc) ≡ false) × (holds marking (Sccp pc) ≡ false))
+unmarked : (marking : List Mark) (pc ssn : ℕ) (b : Bool)
+    → find (holds marking) (if b then Subsystem pc ssn ∷ [] else PointCode pc ∷ Sccp pc ∷ Subsystem pc ssn ∷ []) ≡ None
+    → (holds marking (Subsystem pc ssn) ≡ false) × (b ≡ false → (holds marking (PointCode pc) ≡ false) × (holds marking (Sccp pc) ≡ false))
 unmarked marking pc ssn true e = (find-None (holds marking) (Subsystem pc ssn) (Subsystem pc ssn ∷ []) e (inl refl), λ f. absurd (cc))
 unmarked marking pc ssn false e =
-    let all : List Mark = PointCode pc ∷ Sccp pc ∷ Subsystem pc ssn ∷ [] in
-    (find-None (holds marking) (Subsystem pc ssn) all e (inr (inr (inl refl))), λ f. (find-None (holds marking) (PointCode pc) all e (inl refl), find-None (holds marking) (Sccp pc) all e (inr (inl refl))))
+    let all : List Mark = PointCode pc ∷ Sccp pc ∷ Subsystem pc ssn ∷ [] in (
+      find-None (holds marking) (Subsystem pc ssn) all e (inr (inr (inl refl))),
+      λ f.
+          (find-None (holds marking) (PointCode pc) all e (inl refl), find-None (holds marking) (Sccp pc) all e (inr (inl refl))),
+    )
 
-pub open_place : (plan : Network) (s : Spot) (marking : List Mark) (pc ssn : ℕ) → IsEndedBy plan s marking pc ssn → IsOpen plan s marking pc ssn
+pub open_place : (plan : Network) (s : Spot) (marking : List Mark) (pc ssn : ℕ) → IsEndedBy plan s marking pc ssn
+    → IsOpen plan s marking pc ssn
 open_place plan s marking pc ssn t =
     let own : t.node.pc ≡ point_of plan s.node = sym (ap (λ o. option_map_or (λ (n : Node). n.pc) o 0) t.at) in
     let u = unmarked marking pc (unwrap_or t.named s.ssn) (pc == t.node.pc) t.is_open in

@@ -1,5 +1,6 @@
 -- what a message with another called address keeps
-use Rattle.std.specs.Prelude.{⊤, ◌≡◌, ℕ, ◌≤◌, false, length, Option, Some, None, is_none, option_map, unwrap_or, refl, if◌then◌else◌, Ok, Err}
+use Rattle.std.specs.Prelude.{⊤, ◌≡◌, ℕ, ◌≤◌, false, length, Option, Some, None, is_none, option_map, unwrap_or, refl, if◌then◌else◌, Ok}
+use Rattle.std.specs.Prelude.{Err}
 use Rattle.std.specs.Bool.{MatchBool}
 use Rattle.std.proofs.Common.{sym, ap, subst}
 use Rattle.sccp_address.specs.declared.address.Address.{Address}
@@ -72,7 +73,8 @@ hops-redirected x f (Ludts c j a b d p) = refl
 hops-redirected x f m = refl
 
 -- changed twice
-pub redirected-twice : (x y : Address) (n k : ℕ) (f : ℕ → ℕ) (m : Message) → f n ≡ k → redirected x f (redirected y (λ h. n) m) ≡ redirected x (λ h. k) m
+pub redirected-twice : (x y : Address) (n k : ℕ) (f : ℕ → ℕ) (m : Message) → f n ≡ k
+    → redirected x f (redirected y (λ h. n) m) ≡ redirected x (λ h. k) m
 redirected-twice x y n k f (Udt c a b d) e = refl
 redirected-twice x y n k f (Udts c a b d) e = refl
 redirected-twice x y n k f (Xudt c j a b d p) e = ap (λ i. Xudt c i x b d p) e
@@ -111,7 +113,8 @@ unwritten m never = by_fault (write_fault m) never
     by_fault (Some f) never = refl
 
 -- a fault other than want of memory says that a message cannot be written
-pub unwritten_for : (m : Message) (f : EncodeFault) → is_memory f ≡ false → (Writable m → MatchBool (is_memory f) ⊤ (Ok (message_octets m) ≡ Err f)) → octets_of m ≡ None
+pub unwritten_for : (m : Message) (f : EncodeFault) → is_memory f ≡ false
+    → (Writable m → MatchBool (is_memory f) ⊤ (Ok (message_octets m) ≡ Err f)) → octets_of m ≡ None
 unwritten_for m f is only = unwritten m (λ w. apart (subst (λ b. MatchBool b ⊤ (Ok (message_octets m) ≡ Err f)) is (only w)))
   where
     apart : Ok (message_octets m) ≡ Err f → ⊥
@@ -148,7 +151,8 @@ redirected_none x f (Ludts c j a b d p) e = absurd cc
 redirected_none x f m e = refl
 
 -- there and back
-pub redirected_back : (x y : Address) (f : ℕ → ℕ) (m : Message) → called_of m ≡ Some x → redirected x (λ n. unwrap_or (hops_of m) 0) (redirected y f m) ≡ m
+pub redirected_back : (x y : Address) (f : ℕ → ℕ) (m : Message) → called_of m ≡ Some x
+    → redirected x (λ n. unwrap_or (hops_of m) 0) (redirected y f m) ≡ m
 redirected_back x y f (Udt c a b d) e = let same : a ≡ x = cc in ap (λ z. Udt c z b d) (sym same)
 redirected_back x y f (Udts c a b d) e = let same : a ≡ x = cc in ap (λ z. Udts c z b d) (sym same)
 redirected_back x y f (Xudt c j a b d p) e = let same : a ≡ x = cc in ap (λ z. Xudt c j z b d p) (sym same)

@@ -1,5 +1,6 @@
 -- What a relay does with a message: SCCP routing control (ITU-T Q.714 section 2).
-use Rattle.std.specs.Prelude.{ℕ, Bool, false, ◌==◌, nat_le, not, List, [], ◌∷◌, Option, Some, None, if◌then◌else◌, slice_get, Result, Ok, Err}
+use Rattle.std.specs.Prelude.{ℕ, Bool, false, ◌==◌, nat_le, not, List, [], ◌∷◌, Option, Some, None, if◌then◌else◌, slice_get, Result, Ok}
+use Rattle.std.specs.Prelude.{Err}
 use Rattle.std.specs.List.{list_any}
 use Rattle.std.specs.Option.{option_map_or}
 use Rattle.sccp_base.specs.Marks.{holds}

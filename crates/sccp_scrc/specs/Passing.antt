@@ -75,7 +75,8 @@ pub record IsStepped (plan : Network) (node : ℕ) (marking : List Mark) (arrive
 -- The message goes on, or it stays. In the second case, a hop that is given was looked up for it.
 abbrev pub IsPassed : Network → ℕ → List Mark → (ℕ → Arrival) → Option Message → Message → Message → Passed → Type 0
 IsPassed plan node marking arrived sent old new (passes.On next) = PassesOn plan arrived sent new next
-IsPassed plan node marking arrived sent old new (passes.Stays hop) = IsKept arrived old new × IfSome hop (IsStepped plan node marking arrived old)
+IsPassed plan node marking arrived sent old new (passes.Stays hop) = IsKept arrived old new
+    × IfSome hop (IsStepped plan node marking arrived old)
 
 -- a message that reads again once it is written
 pub record ReadsAgain (m : Message) : Type 0 where

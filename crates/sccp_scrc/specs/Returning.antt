@@ -1,5 +1,6 @@
 -- The return of a message that cannot be delivered (ITU-T Q.714 section 4.2).
-use Rattle.std.specs.Prelude.{ℕ, Bool, false, ◌==◌, not, ◌&&◌, List, [], ◌∷◌, Option, Some, None, is_some, if◌then◌else◌, unwrap_or, option_map}
+use Rattle.std.specs.Prelude.{ℕ, Bool, false, ◌==◌, not, ◌&&◌, List, [], ◌∷◌, Option, Some, None, is_some, if◌then◌else◌, unwrap_or}
+use Rattle.std.specs.Prelude.{option_map}
 use Rattle.std.specs.List.{find}
 use Rattle.std.specs.Option.{option_map_or, option_and_then}
 use Rattle.sccp_base.specs.Bits.{bits}
@@ -47,11 +48,14 @@ service_message cause m = None
 
 -- the octets and the way of a service message, if it can be written; its called address is the old calling one
 abbrev pub service_by : List Mark → ℕ → Message → Option Service
-service_by marking origin m = option_map (λ octets. record { octets = octets; way = option_map_or (way_back marking origin) (called_of m) (Direct origin) }) (octets_of m)
+service_by marking origin m =
+    option_map (λ octets. record { octets = octets; way = option_map_or (way_back marking origin) (called_of m) (Direct origin) })
+    (octets_of m)
 
 -- the service message of a message, if the sender asks for it and it can be written
 abbrev pub service_for : List Mark → ℕ → ℕ → Message → Option Service
-service_for marking origin cause m = if asks_for_return m then option_and_then (service_by marking origin) (service_message cause m) else None
+service_for marking origin cause m = if asks_for_return m then option_and_then (service_by marking origin) (service_message cause m)
+    else None
 
 -- the message is returned, for a cause and with the marks that close its targets
 

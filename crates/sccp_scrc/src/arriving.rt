@@ -88,7 +88,8 @@ fn after(
     requires called { IsSome (called_of message) }
     requires stays { StaysIn plan.now step }
     requires to { IfNone to (next_place step ≡ false) }
-    ensures { (address : Address) → called_of message ≡ Some address → to ≡ onward_address step address → IfOk result (λ a. a ≡ after_step plan.now node marking.now origin message address step) }
+    ensures { (address : Address) → called_of message ≡ Some address → to ≡ onward_address step address
+        → IfOk result (λ a. a ≡ after_step plan.now node marking.now origin message address step) }
 {
     match step {
         Step::Sent { next, .. } => match to {
@@ -142,7 +143,8 @@ fn at_title(
 ) -> Result<Arrival, OutOfMemory>
     requires node { node < length plan.now.nodes }
     requires called { IsSome (called_of message) }
-    ensures { (address : Address) → called_of message ≡ Some address → IfOk result (λ a. a ≡ at_title plan.now node marking.now origin message address) }
+    ensures { (address : Address) → called_of message ≡ Some address
+        → IfOk result (λ a. a ≡ at_title plan.now node marking.now origin message address) }
 {
     if is_last_hop(message.hops()) {
         return returned(alloc, marking, origin, message, 12, List::new(alloc));
@@ -210,7 +212,8 @@ pub fn arrive_stepped(
     hop: Hop,
 ) -> Result<Arrival, OutOfMemory>
     requires node { node < length plan.now.nodes }
-    requires stepped { IsStepped plan.now node marking.now (λ from. by_called plan.now node marking.now from message (called_of message)) message hop }
+    requires stepped { IsStepped plan.now node marking.now
+        (λ from. by_called plan.now node marking.now from message (called_of message)) message hop }
     ensures { IfOk result (λ a. a ≡ by_called plan.now node marking.now origin message (called_of message)) }
 {
     let Hop { spot, step } = hop;
@@ -250,13 +253,17 @@ pub fn arrive(
     requires node { node < length plan.now.nodes }
     ensures exact { IfOk result (λ a. a ≡ arrival plan.now node marking.now origin octets.now) }
     // A relayed message goes to another relay of the plan, with nothing changed but its called address and hop counter.
-    ensures relayed { IfOk result (λ a. (pc : ℕ) (sent : List ℕ) → a ≡ Arrival.Relayed pc sent → IsRelayed plan.now node octets.now pc sent) }
+    ensures relayed { IfOk result (λ a. (pc : ℕ) (sent : List ℕ) → a ≡ Arrival.Relayed pc sent
+        → IsRelayed plan.now node octets.now pc sent) }
     // One with a destination goes to a point of which no mark is held; again nothing else is changed.
-    ensures ended { IfOk result (λ a. (pc ssn : ℕ) (sent : List ℕ) → a ≡ Arrival.Ended pc ssn sent → IsEnded plan.now node marking.now octets.now pc ssn sent) }
+    ensures ended { IfOk result (λ a. (pc ssn : ℕ) (sent : List ℕ) → a ≡ Arrival.Ended pc ssn sent
+        → IsEnded plan.now node marking.now octets.now pc ssn sent) }
     // One for the node itself is for one of its subsystems that is not prohibited.
-    ensures local { IfOk result (λ a. (ssn : ℕ) (new : Message) → a ≡ Arrival.Local ssn new → IsLocal plan.now node marking.now octets.now ssn new) }
+    ensures local { IfOk result (λ a. (ssn : ℕ) (new : Message) → a ≡ Arrival.Local ssn new
+        → IsLocal plan.now node marking.now octets.now ssn new) }
     // A return names marks that are held, and its cause is that of the last one.
-    ensures names { IfOk result (λ a. (cause : ℕ) (marks : List Mark) (service : Option Service) → a ≡ Arrival.Returned cause marks service → IsReturned marking.now cause marks) }
+    ensures names { IfOk result (λ a. (cause : ℕ) (marks : List Mark) (service : Option Service) → a ≡ Arrival.Returned cause marks service
+        → IsReturned marking.now cause marks) }
 {
     // The call ensures that the plan is sound, which the clauses need.
     let _nodes = plan.nodes();

@@ -109,7 +109,8 @@ pub(crate) fn place(
 ) -> Result<Arrival, OutOfMemory>
     requires called { IsSome (called_of message) }
     ensures { IfOk result (λ a. a
-        ≡ (if pc == own then Local ssn (redirected to one_less message) else leaving marking.now origin message (Ended pc ssn) (octets_of (redirected to one_less message)))) }
+        ≡ (if pc == own then Local ssn (redirected to one_less message) else leaving marking.now origin message (Ended pc ssn)
+        (octets_of (redirected to one_less message)))) }
 {
     if pc == own {
         let (message, _) = rewrite(message, to);

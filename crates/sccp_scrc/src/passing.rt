@@ -36,8 +36,10 @@ fn can_be_written(alloc: Global, message: &Message) -> Result<bool, OutOfMemory>
 /// Gives the message another called address and a hop counter one less, if it can be written so; otherwise it stays. It is
 /// written to find out.
 fn pass_written(alloc: Global, message: &mut Message, to: Address) -> Result<bool, OutOfMemory>
-    ensures passed { IfOk result (λ passed. passed ≡ true → (message.new ≡ redirected to one_less message.old) × Writable (redirected to one_less message.old)) }
-    ensures kept { IfOk result (λ passed. passed ≡ false → (message.new ≡ message.old) × (octets_of (redirected to one_less message.old) ≡ None)) }
+    ensures passed { IfOk result (λ passed. passed ≡ true → (message.new ≡ redirected to one_less message.old)
+        × Writable (redirected to one_less message.old)) }
+    ensures kept { IfOk result (λ passed. passed ≡ false
+        → (message.new ≡ message.old) × (octets_of (redirected to one_less message.old) ≡ None)) }
 {
     let before = message.hops().unwrap_or(0);
     let old = rewrite_in_place(message, to);
@@ -50,8 +52,10 @@ fn pass_written(alloc: Global, message: &mut Message, to: Address) -> Result<boo
 
 /// The same, without writing if the lengths already show that the message can be written, as nearly always.
 fn pass_to(alloc: Global, message: &mut Message, to: Address) -> Result<bool, OutOfMemory>
-    ensures passed { IfOk result (λ passed. passed ≡ true → (message.new ≡ redirected to one_less message.old) × Writable (redirected to one_less message.old)) }
-    ensures kept { IfOk result (λ passed. passed ≡ false → (message.new ≡ message.old) × (octets_of (redirected to one_less message.old) ≡ None)) }
+    ensures passed { IfOk result (λ passed. passed ≡ true → (message.new ≡ redirected to one_less message.old)
+        × Writable (redirected to one_less message.old)) }
+    ensures kept { IfOk result (λ passed. passed ≡ false
+        → (message.new ≡ message.old) × (octets_of (redirected to one_less message.old) ≡ None)) }
 {
     if fits(message, &to) {
         rewrite_in_place(message, to);
@@ -72,7 +76,8 @@ fn pass_by_step(
 ) -> Result<Option<u8>, OutOfMemory>
     requires stays { StaysIn plan.now step.now }
     ensures { (address : Address) → called_of message.old ≡ Some address →
-        IfOk result (λ next. IsSent plan.now (λ origin. after_step plan.now node marking.now origin message.old address step.now) (sent_by address message.old step.now) message.old message.new next) }
+        IfOk result (λ next. IsSent plan.now (λ origin. after_step plan.now node marking.now origin message.old address step.now)
+        (sent_by address message.old step.now) message.old message.new next) }
 {
     match step {
         Step::Sent { next, .. } => match relay_address(message, *next) {
@@ -99,7 +104,8 @@ fn pass_by_title(
 ) -> Result<Passed, OutOfMemory>
     requires node { node < length plan.now.nodes }
     ensures { (address : Address) → called_of message.old ≡ Some address →
-        IfOk result (IsPassed plan.now node marking.now (λ origin. at_title plan.now node marking.now origin message.old address) (sent_from plan.now node marking.now message.old address) message.old message.new) }
+        IfOk result (IsPassed plan.now node marking.now (λ origin. at_title plan.now node marking.now origin message.old address)
+        (sent_from plan.now node marking.now message.old address) message.old message.new) }
 {
     if is_last_hop(message.hops()) {
         return Ok(Passed::Stays(None));
@@ -146,7 +152,9 @@ pub fn pass_on(
     message: &mut Message,
 ) -> Result<Passed, OutOfMemory>
     requires node { node < length plan.now.nodes }
-    ensures { IfOk result (IsPassed plan.now node marking.now (λ origin. by_called plan.now node marking.now origin message.old (called_of message.old)) (sent_on plan.now node marking.now message.old) message.old message.new) }
+    ensures { IfOk result (IsPassed plan.now node marking.now
+        (λ origin. by_called plan.now node marking.now origin message.old (called_of message.old))
+        (sent_on plan.now node marking.now message.old) message.old message.new) }
 {
     if is_titled(message) {
         pass_by_title(alloc, plan, node, marking, message)

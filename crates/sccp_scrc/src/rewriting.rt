@@ -122,7 +122,8 @@ pub(crate) fn rewrite_in_place(message: &mut Message, called: Address) -> Option
 /// The message with the called address and the hop counter that it had, in place.
 #[tactic(auto, using(crate::proofs::Redirected::redirected_back, crate::proofs::Redirected::redirected_none))]
 pub(crate) fn restore_in_place(message: &mut Message, old: Option<Address>, before: u8)
-    ensures { (x : Address) (f : ℕ → ℕ) (m : Message) → called_of m ≡ old → before ≡ unwrap_or (hops_of m) 0 → message.old ≡ redirected x f m → message.new ≡ m }
+    ensures { (x : Address) (f : ℕ → ℕ) (m : Message) → called_of m ≡ old → before ≡ unwrap_or (hops_of m) 0
+        → message.old ≡ redirected x f m → message.new ≡ m }
 {
     match old {
         Some(called) => {
@@ -136,7 +137,8 @@ pub(crate) fn restore_in_place(message: &mut Message, old: Option<Address>, befo
 #[tactic(auto, using(crate::proofs::Redirected::redirected_back))]
 pub(crate) fn restore(message: Message, old: Option<Address>, before: u8) -> Message
     requires { IsSome old }
-    ensures { (x : Address) (f : ℕ → ℕ) (m : Message) → called_of m ≡ old → before ≡ unwrap_or (hops_of m) 0 → message ≡ redirected x f m → result ≡ m }
+    ensures { (x : Address) (f : ℕ → ℕ) (m : Message) → called_of m ≡ old → before ≡ unwrap_or (hops_of m) 0 → message ≡ redirected x f m
+        → result ≡ m }
 {
     match old {
         Some(called) => {

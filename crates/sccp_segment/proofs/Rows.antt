@@ -36,10 +36,12 @@ seventeen : split_data_of (range_with_len 0 17) 1 9 false ≡ Err TooMany
 seventeen = refl
 
 -- first of two, reference 1
-contents : segment_of (0x81 ∷ 0x01 ∷ 0x00 ∷ 0x00 ∷ []) five ≡ record { first = true; in_sequence = false; remaining = 1; reference = 1; payload = five }
+contents : segment_of (0x81 ∷ 0x01 ∷ 0x00 ∷ 0x00 ∷ []) five
+    ≡ record { first = true; in_sequence = false; remaining = 1; reference = 1; payload = five }
 contents = refl
 
-contents_again : segmentation_octets (record { first = true; in_sequence = true; remaining = 5; reference = 0x030201; payload = five }) ≡ 0xC5 ∷ 0x01 ∷ 0x02 ∷ 0x03 ∷ []
+contents_again : segmentation_octets (record { first = true; in_sequence = true; remaining = 5; reference = 0x030201; payload = five })
+    ≡ 0xC5 ∷ 0x01 ∷ 0x02 ∷ 0x03 ∷ []
 contents_again = refl
 
 -- the keys of two calling addresses and of two references

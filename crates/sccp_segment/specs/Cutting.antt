@@ -1,5 +1,6 @@
 -- How data is cut into segments (ITU-T Q.714 section 4.1).
-use Rattle.std.specs.Prelude.{ℕ, ◌*◌, ◌==◌, nat_lt, max, Bool, true, false, if◌then◌else◌, List, [], ◌∷◌, length, take, drop, map, Result, Ok, Err}
+use Rattle.std.specs.Prelude.{ℕ, ◌*◌, ◌==◌, nat_lt, max, Bool, true, false, if◌then◌else◌, List, [], ◌∷◌, length, take, drop, map, Result}
+use Rattle.std.specs.Prelude.{Ok, Err}
 use Rattle.std.specs.Int.{div_ceil}
 use Rattle.std.specs.List.{range_with_len}
 use Rattle.sccp_base.specs.Answers.{Answers}
@@ -23,7 +24,8 @@ pieces payload size = map (piece payload size) (range_with_len 0 (piece_count pa
 abbrev pub segments : Bool → Bool → ℕ → List (List ℕ) → List Segment
 segments first in_sequence reference [] = []
 segments first in_sequence reference (p ∷ ps) =
-    record { first = first; in_sequence = in_sequence; remaining = length ps; reference = reference; payload = p } ∷ segments false in_sequence reference ps
+    record { first = first; in_sequence = in_sequence; remaining = length ps; reference = reference; payload = p }
+    ∷ segments false in_sequence reference ps
 
 -- the segments of data; a fault if the size is 0, or else if there would be more than 16
 abbrev pub split_data_of : List ℕ → ℕ → ℕ → Bool → Result (List Segment) SplitDataFault

@@ -34,7 +34,8 @@ same_title (Raw kind octets) (Global t others) = false
 
 -- two calling addresses are the same, and two keys are
 unfoldable pub same_address : Address → Address → Bool
-same_address a b = same_flag a.national b.national && same_flag a.by_ssn b.by_ssn && same_number a.pc b.pc && same_number a.ssn b.ssn && same_title a.title b.title
+same_address a b = same_flag a.national b.national && same_flag a.by_ssn b.by_ssn && same_number a.pc b.pc && same_number a.ssn b.ssn
+    && same_title a.title b.title
 
 unfoldable pub same_key : Key → Key → Bool
 same_key a b = a.reference == b.reference && same_address a.calling b.calling

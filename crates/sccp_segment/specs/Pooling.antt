@@ -1,6 +1,7 @@
 -- How messages are put together from their segments (ITU-T Q.714 section 4.1). Profile: 64 messages at most, and what is
 -- given up and answered for segments out of step.
-use Rattle.std.specs.Prelude.{◌≡◌, ℕ, ◌+◌, ◌≤◌, ◌==◌, nat_le, Bool, true, false, not, if◌then◌else◌, List, [], ◌∷◌, ◌++◌, length, filter, find, Option, Some, None, Result, Ok, Err}
+use Rattle.std.specs.Prelude.{◌≡◌, ℕ, ◌+◌, ◌≤◌, ◌==◌, nat_le, Bool, true, false, not, if◌then◌else◌, List, [], ◌∷◌, ◌++◌, length, filter}
+use Rattle.std.specs.Prelude.{find, Option, Some, None, Result, Ok, Err}
 use Rattle.std.specs.List.{list_any}
 use Rattle.sccp_base.specs.Answers.{Answers}
 use Rattle.sccp_segment.specs.declared.key.Key.{Key}
@@ -58,7 +59,8 @@ started runs key s (Some old) = answering (others runs key ++ run key s.remainin
 
 -- a first segment: if none follows it is whole, and an older run of its key is ended
 abbrev pub first_taken : List Run → Key → Segment → Outcome
-first_taken runs key s = if s.remaining == 0 then answering (others runs key) (Ok (Whole s.payload)) else started runs key s (under_way runs key)
+first_taken runs key s = if s.remaining == 0 then answering (others runs key) (Ok (Whole s.payload))
+    else started runs key s (under_way runs key)
 
 -- another segment, in step: it is appended to what arrived before, and the message is whole if none follows
 abbrev pub appended : List Run → Key → Segment → Run → Outcome

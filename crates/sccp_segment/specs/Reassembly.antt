@@ -1,5 +1,6 @@
 -- Which lists of segments end in a whole message, and what a pool was given of a key.
-use Rattle.std.specs.Prelude.{◌≡◌, ℕ, ◌+◌, ◌==◌, Bool, false, not, ◌&&◌, if◌then◌else◌, is_err, List, [], ◌∷◌, ◌++◌, Option, Some, None, Result, Ok, map, slice_get, ◌⊎◌, Err}
+use Rattle.std.specs.Prelude.{◌≡◌, ℕ, ◌+◌, ◌==◌, Bool, false, not, ◌&&◌, if◌then◌else◌, is_err, List, [], ◌∷◌, ◌++◌, Option, Some, None}
+use Rattle.std.specs.Prelude.{Result, Ok, map, slice_get, ◌⊎◌, Err}
 use Rattle.std.specs.List.{flat_map, last_or, list_any}
 use Rattle.sccp_segment.specs.declared.key.Key.{Key}
 use Rattle.sccp_segment.specs.declared.segment.Segment.{Segment}

@@ -15,7 +15,14 @@ use Rattle.sccp_segment.specs.declared.arrival.Arrival.{Arrival}
 -- reference.
 abbrev pub segment_of : List ℕ → List ℕ → Segment
 segment_of contents payload =
-    record { first = bit (octet contents 0) 8; in_sequence = bit (octet contents 0) 7; remaining = bits (octet contents 0) 1 4; reference = reference_at contents 1; payload = payload }
+    record {
+      first = bit (octet contents 0) 8;
+      in_sequence = bit (octet contents 0) 7;
+      remaining = bits
+          (octet contents 0) 1 4;
+      reference = reference_at contents 1;
+      payload = payload;
+    }
 
 -- the contents of the parameter, with the spare bits 0
 abbrev pub segmentation_octets : Segment → List ℕ

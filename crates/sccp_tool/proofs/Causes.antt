@@ -18,11 +18,13 @@ pub record Causes (task : Option Task) : Type 0 where
   pub usage : (contents : Option Contents) (text : List ℕ) → Ends contents (work_of task) Usage text → task ≡ None
   -- if a cause gives an answer for sure, the work ends with no other
   pub always : (c : Contents) (t s : Status) (text : List ℕ) → SureCause c task t → Ends (Some c) (work_of task) s text → s ≡ t
-  pub refused : (c : Contents) (s : Status) (text : List ℕ) → Cause c task Refused → Ends (Some c) (work_of task) s text → (s ≡ Refused) ⊎ (s ≡ TooWide)
+  pub refused : (c : Contents) (s : Status) (text : List ℕ) → Cause c task Refused → Ends (Some c) (work_of task) s text
+      → (s ≡ Refused) ⊎ (s ≡ TooWide)
   -- what is written on a verdict is its text
   pub tells : (c : Contents) (s : Status) (text : List ℕ) (taken taken' : Option (List ℕ)) → taken' ≡ append_known taken text
       → (IsOnVerdict s → Ends (Some c) (work_of task) s text) → TellsAnswer c task s taken taken'
   -- what is written of a replay gives the journey of each message
-  pub journeys : (c : Contents) (s : Status) (b a : Moment) → b.contents ≡ Some c → Outcome (work_of task) s b a → TellsJourneys c task s b.taken a.taken
+  pub journeys : (c : Contents) (s : Status) (b a : Moment) → b.contents ≡ Some c → Outcome (work_of task) s b a
+      → TellsJourneys c task s b.taken a.taken
   -- the work reads no other files than those that the words and the trace name
   pub files : (c : Contents) → HasNamedFiles c task → HasFiles c (work_of task)

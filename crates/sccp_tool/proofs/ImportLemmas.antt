@@ -29,26 +29,31 @@ IsTold contents plan text octets s = Ends contents (answered (import_answer plan
 abbrev OnFile : Option Contents → List ℕ → List ℕ → Network → Status → Type 0
 OnFile contents name text plan s = FileEnds contents name (IsTold contents plan text) s
 
-ends : (contents : Option Contents) (plan name : List ℕ) (s : Status) (text : List ℕ) → Ends contents (import_work plan name) s text → PlanEnds contents plan (OnFile contents name text) s
+ends : (contents : Option Contents) (plan name : List ℕ) (s : Status) (text : List ℕ) → Ends contents (import_work plan name) s text
+    → PlanEnds contents plan (OnFile contents name text) s
 ends contents plan name s text h =
     Ends-with_plan (OnFile contents name text) contents plan (λ p. within_limit name (λ octets. answered (import_answer p octets))) s text
-    (λ p e. Ends-within_limit (IsTold contents p text) contents name (λ octets. answered (import_answer p octets)) s text (λ octets f. f) e) h
+    (λ p e. Ends-within_limit (IsTold contents p text) contents name (λ octets. answered (import_answer p octets)) s text
+    (λ octets f. f) e) h
 
 -- ---- an answer has its cause
 
-caused : (contents : Option Contents) (plan name octets : List ℕ) (p : Network) (r : Result (List ℕ) LineFault) → HasPlan contents plan (λ q. q ≡ p) → trace_of p octets ≡ r
+caused : (contents : Option Contents) (plan name octets : List ℕ) (p : Network) (r : Result (List ℕ) LineFault)
+    → HasPlan contents plan (λ q. q ≡ p) → trace_of p octets ≡ r
     → Reads contents name octets → length octets ≤ 1048576 → ImportCause contents plan name (answer_for r).0
 caused contents plan name octets p (Ok text) h e reads few =
     (h.0, h.1, h.2, (p, h.3.1 ∙ ap Ok h.3.2, (octets, reads, few, ap is_ok e)))
 caused contents plan name octets p (Err fault) h e reads few =
     (h.0, h.1, h.2, (p, h.3.1 ∙ ap Ok h.3.2, (octets, reads, few, ap is_err e)))
 
-only_on : (contents : Option Contents) (plan name text : List ℕ) (p : Network) (s : Status) → HasPlan contents plan (λ q. q ≡ p) → OnFile contents name text p s → ImportCause contents plan name s
+only_on : (contents : Option Contents) (plan name text : List ℕ) (p : Network) (s : Status) → HasPlan contents plan (λ q. q ≡ p)
+    → OnFile contents name text p s → ImportCause contents plan name s
 only_on contents plan name text p TooLong h (file.long l) = inr (h.0, h.1, h.2, (p, h.3.1 ∙ ap Ok h.3.2, l))
 only_on contents plan name text p s h (file.within w) =
     subst (ImportCause contents plan name) (sym w.3.2.0) (caused contents plan name w.0 p (trace_of p w.0) h refl w.1 w.2)
 
-only : (contents : Option Contents) (plan name text : List ℕ) (s : Status) → PlanEnds contents plan (OnFile contents name text) s → ImportCause contents plan name s
+only : (contents : Option Contents) (plan name text : List ℕ) (s : Status) → PlanEnds contents plan (OnFile contents name text) s
+    → ImportCause contents plan name s
 only contents plan name text TooLong (long h) = inl h
 only contents plan name text BadPlan (bad h) = h
 only contents plan name text s (good h) = only_on contents plan name text h.3.0 s (h.0, h.1, h.2, (h.3.0, h.3.1, refl)) h.3.2
@@ -64,22 +69,27 @@ if_err (Ok text) err = cc
 if_err (Err fault) err = refl
 
 -- the answer for the octets that the file is known to have
-at_octets : (c : Contents) (name text : List ℕ) (p : Network) (P : List ℕ → Type 0) (s : Status) → OnFile (Some c) name text p s → (has : HasFile (Some c) name P) → s ≡ (import_answer p has.0).0
+at_octets : (c : Contents) (name text : List ℕ) (p : Network) (P : List ℕ → Type 0) (s : Status) → OnFile (Some c) name text p s
+    → (has : HasFile (Some c) name P) → s ≡ (import_answer p has.0).0
 at_octets c name text p P TooLong (file.long l) has = absurd (not_long c name P has l)
 at_octets c name text p P s (file.within w) has = (at_file c name (λ octets. IsTold (Some c) p text octets s) P w has).2.0
 
-if_file_long : (c : Contents) (name text : List ℕ) (p : Network) (s : Status) → OnFile (Some c) name text p s → HasLongFile (Some c) name → s ≡ TooLong
+if_file_long : (c : Contents) (name text : List ℕ) (p : Network) (s : Status) → OnFile (Some c) name text p s → HasLongFile (Some c) name
+    → s ≡ TooLong
 if_file_long c name text p TooLong (file.long l) has = refl
 if_file_long c name text p s (file.within w) has = absurd (not_long c name (λ octets. IsTold (Some c) p text octets s) w has)
 
-always : (c : Contents) (plan name text : List ℕ) (t s : Status) → ImportCause (Some c) plan name t → PlanEnds (Some c) plan (OnFile (Some c) name text) s → s ≡ t
+always : (c : Contents) (plan name text : List ℕ) (t s : Status) → ImportCause (Some c) plan name t
+    → PlanEnds (Some c) plan (OnFile (Some c) name text) s → s ≡ t
 always c plan name text Done s has e =
     let p = has.3.0 in
-    at_octets c name text p (λ octets. IsOk (trace_of p octets)) s (at_plan c plan (OnFile (Some c) name text) (λ q. HasFile (Some c) name (λ octets. IsOk (trace_of q octets))) s e has) has.3.2
+    at_octets c name text p (λ octets. IsOk (trace_of p octets)) s
+    (at_plan c plan (OnFile (Some c) name text) (λ q. HasFile (Some c) name (λ octets. IsOk (trace_of q octets))) s e has) has.3.2
     ∙ if_ok (trace_of p has.3.2.0) has.3.2.3
 always c plan name text BadTrace s has e =
     let p = has.3.0 in
-    at_octets c name text p (λ octets. IsErr (trace_of p octets)) s (at_plan c plan (OnFile (Some c) name text) (λ q. HasFile (Some c) name (λ octets. IsErr (trace_of q octets))) s e has) has.3.2
+    at_octets c name text p (λ octets. IsErr (trace_of p octets)) s
+    (at_plan c plan (OnFile (Some c) name text) (λ q. HasFile (Some c) name (λ octets. IsErr (trace_of q octets))) s e has) has.3.2
     ∙ if_err (trace_of p has.3.2.0) has.3.2.3
 always c plan name text BadPlan s has e = if_bad c plan (OnFile (Some c) name text) s e has
 always c plan name text TooLong s (inl has) e = if_long c plan (OnFile (Some c) name text) s e has
@@ -89,22 +99,36 @@ always c plan name text t s has e = absurd has
 
 -- what is printed
 
-all_told : (r : Result (List ℕ) LineFault) (contents : Option Contents) (text : List ℕ) → Ends contents (answered (answer_for r)) Done text → r ≡ Ok text
+all_told : (r : Result (List ℕ) LineFault) (contents : Option Contents) (text : List ℕ) → Ends contents (answered (answer_for r)) Done text
+    → r ≡ Ok text
 all_told (Ok trace) contents text h = ap Ok (sym (h.1 ∙ ap (λ l. trace ++ l) h.2.1 ∙ append-nil trace))
 all_told (Err fault) contents text h = cc
 
-told_on : (c : Contents) (plan name text : List ℕ) (taken taken' : Option (List ℕ)) (p : Network) → taken' ≡ append_known taken text → HasPlan (Some c) plan (λ q. q ≡ p) → (s : Status) → s ≡ Done
-    → OnFile (Some c) name text p s → HasBoth (Some c) plan name (λ p octets. (text : List ℕ) × (taken' ≡ append_known taken text) × IsTraceOf p octets text)
+told_on : (c : Contents) (plan name text : List ℕ) (taken taken' : Option (List ℕ)) (p : Network) → taken' ≡ append_known taken text
+    → HasPlan (Some c) plan (λ q. q ≡ p) → (s : Status) → s ≡ Done
+    → OnFile (Some c) name text p s → HasBoth (Some c) plan name (λ p octets. (text : List ℕ) × (taken' ≡ append_known taken text)
+    × IsTraceOf p octets text)
 told_on c plan name text taken taken' p is h TooLong e (file.long l) = cc
 told_on c plan name text taken taken' p is h s e (file.within w) =
-    let done : IsTold (Some c) p text w.0 Done = subst (IsTold (Some c) p text w.0) e w.3 in
-    (h.0, h.1, h.2, (p, h.3.1 ∙ ap Ok h.3.2, (w.0, w.1, w.2, (text, is, is_traced p w.0 text (all_told (trace_of p w.0) (Some c) text done)))))
+    let done : IsTold (Some c) p text w.0 Done = subst (IsTold (Some c) p text w.0) e w.3 in (
+      h.0,
+      h.1,
+      h.2,
+      (
+        p,
+        h.3.1
+            ∙ ap Ok h.3.2,
+        (w.0, w.1, w.2, (text, is, is_traced p w.0 text (all_told (trace_of p w.0) (Some c) text done))),
+      ),
+    )
 
-told : (c : Contents) (plan name text : List ℕ) (taken taken' : Option (List ℕ)) (s : Status) → taken' ≡ append_known taken text → s ≡ Done → PlanEnds (Some c) plan (OnFile (Some c) name text) s
+told : (c : Contents) (plan name text : List ℕ) (taken taken' : Option (List ℕ)) (s : Status) → taken' ≡ append_known taken text → s ≡ Done
+    → PlanEnds (Some c) plan (OnFile (Some c) name text) s
     → HasBoth (Some c) plan name (λ p octets. (text : List ℕ) × (taken' ≡ append_known taken text) × IsTraceOf p octets text)
 told c plan name text taken taken' TooLong is e (long h) = cc
 told c plan name text taken taken' BadPlan is e (bad h) = cc
-told c plan name text taken taken' s is e (good h) = told_on c plan name text taken taken' h.3.0 is (h.0, h.1, h.2, (h.3.0, h.3.1, refl)) s e h.3.2
+told c plan name text taken taken' s is e (good h) = told_on c plan name text taken taken' h.3.0 is
+    (h.0, h.1, h.2, (h.3.0, h.3.1, refl)) s e h.3.2
 
 pub import_causes : (plan name : List ℕ) → Causes (Some (Import plan name))
 import_causes plan name = record {
@@ -112,7 +136,9 @@ import_causes plan name = record {
   usage = λ contents text h. absurd (only contents plan name text Usage (ends contents plan name Usage text h));
   always = λ c t s text cause h. always c plan name text t s cause (ends (Some c) plan name s text h);
   refused = λ c s text cause h. absurd cause;
-  tells = λ c s text taken taken' is own done. told c plan name text taken taken' s is done (ends (Some c) plan name s text (own (subst IsOnVerdict (sym done) tt)));
+  tells = λ c s text taken taken' is own done. told c plan name text taken taken' s is done
+      (ends (Some c) plan name s text (own (subst IsOnVerdict (sym done) tt)));
   journeys = λ c s b a is o. tt;
-  files = λ c there. plan_files c plan (λ p. trace_work p name) (λ p. limit_files c name (λ octets. answered (import_answer p octets)) (λ octets. tt) there.1) there.0;
+  files = λ c there. plan_files c plan (λ p. trace_work p name)
+      (λ p. limit_files c name (λ octets. answered (import_answer p octets)) (λ octets. tt) there.1) there.0;
 }

@@ -24,8 +24,10 @@ use Rattle.sccp_work.proofs.VerdictLemmas.{not_cut, done_if_safe, refused_if_bad
 use Rattle.sccp_work.proofs.WorkLemmas.{Works-answered, Works-judge}
 
 -- what the verdict asks for is printed, and that is all
-pub Works-loaded : (number size : ℕ) (verdict : Verdict) (result : Result Status Stop) (b a : Moment) → IsJudged (load_plan number) verdict → Writes (load_text number size verdict) result b.taken a.taken b.write_faults a.write_faults
-    → IfOk result (λ s. s ≡ status_of verdict) → a.contents ≡ b.contents → a.sound ≡ b.sound → a.read_faults ≡ b.read_faults → Works (load_work number size) result b a
+pub Works-loaded : (number size : ℕ) (verdict : Verdict) (result : Result Status Stop) (b a : Moment) → IsJudged (load_plan number) verdict
+    → Writes (load_text number size verdict) result b.taken a.taken b.write_faults a.write_faults
+    → IfOk result (λ s. s ≡ status_of verdict) → a.contents ≡ b.contents → a.sound ≡ b.sound → a.read_faults ≡ b.read_faults
+    → Works (load_work number size) result b a
 Works-loaded number size verdict result b a judged writes is contents sound read_faults =
     Works-judge (load_plan number) (λ v. answered (status_of v, load_text number size v)) verdict result b a judged
     (Works-answered (status_of verdict, load_text number size verdict) result b a (not_cut verdict) writes is contents sound read_faults)
@@ -37,7 +39,8 @@ record Loaded (number size : ℕ) (s : Status) (text : List ℕ) : Type 0 where
   pub status : s ≡ status_of verdict
   pub whole : text ≡ load_text number size verdict
 
-load_ends : (contents : Option Contents) (number size : ℕ) (s : Status) (text : List ℕ) → Ends contents (load_work number size) s text → Loaded number size s text
+load_ends : (contents : Option Contents) (number size : ℕ) (s : Status) (text : List ℕ) → Ends contents (load_work number size) s text
+    → Loaded number size s text
 load_ends contents number size s text h = record {
   verdict = h.0;
   lawful = h.1.1;
@@ -63,7 +66,8 @@ as_verdict number size (verdicts.Accepted accepted) given = absurd given
 as_verdict number size (verdicts.Refused same witness) given = refl
 as_verdict number size (verdicts.TooWide same) given = refl
 
-tells : (number size : ℕ) (s : Status) (text : List ℕ) (taken taken' : Option (List ℕ)) → taken' ≡ append_known taken text → IsOnRefusal s → Loaded number size s text → Tells (load_plan number) s taken taken'
+tells : (number size : ℕ) (s : Status) (text : List ℕ) (taken taken' : Option (List ℕ)) → taken' ≡ append_known taken text → IsOnRefusal s
+    → Loaded number size s text → Tells (load_plan number) s taken taken'
 tells number size s text taken taken' is given l = record {
   verdict = l.verdict;
   lawful = l.lawful;
@@ -76,8 +80,10 @@ load_causes number size workers = record {
   only = λ c s text h. only number size s text (load_ends (Some c) number size s text h);
   usage = λ contents text h. absurd (only number size Usage text (load_ends contents number size Usage text h));
   always = λ c t s text sure h. always number size t s text sure (load_ends (Some c) number size s text h);
-  refused = λ c s text cause h. let l = load_ends (Some c) number size s text h in refused_if_bad (load_plan number) l.verdict s l.lawful l.status cause;
-  tells = λ c s text taken taken' is ends. λ given. tells number size s text taken taken' is given (load_ends (Some c) number size s text (ends (on_verdict s given)));
+  refused = λ c s text cause h. let l = load_ends (Some c) number size s text h in refused_if_bad
+      (load_plan number) l.verdict s l.lawful l.status cause;
+  tells = λ c s text taken taken' is ends. λ given. tells number size s text taken taken' is given
+      (load_ends (Some c) number size s text (ends (on_verdict s given)));
   journeys = λ c s b a is o. tt;
   files = λ c has. λ v judged. tt;
 }

@@ -25,10 +25,12 @@ always c plan trace t s sure cause = absurd sure
 pub replay_causes : (plan trace : List ℕ) (workers : ℕ) → Causes (Some (Replay plan trace workers))
 replay_causes plan trace workers = record {
   only = λ c s text h. replay_ends goes_well c plan trace workers s text h;
-  usage = λ contents text h. absurd (answer_holds _ contents (replay_work plan trace workers) Usage text (replay_other plan trace workers) h refl);
+  usage = λ contents text h. absurd (answer_holds _ contents (replay_work plan trace workers) Usage text
+      (replay_other plan trace workers) h refl);
   always = λ c t s text sure h. always c plan trace t s sure (replay_ends goes_well c plan trace workers s text h);
   refused = λ c s text cause h. refused_must c plan trace s cause (replay_ends goes_well c plan trace workers s text h);
-  tells = λ c s text taken taken' is ends. verdict_ends goes_well c plan trace workers s text taken taken' is (λ on. ends (on_verdict s on));
+  tells = λ c s text taken taken' is ends. verdict_ends goes_well c plan trace workers s text taken taken' is
+      (λ on. ends (on_verdict s on));
   journeys = λ c s b a is o. (o.text, o.goes.taken, replay_told goes_well c plan trace workers s b a is o);
   files = λ c has. replay_files c plan trace workers has.0 has.1 has.2;
 }

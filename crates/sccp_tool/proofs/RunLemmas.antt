@@ -4,12 +4,14 @@ use Rattle.sccp_io.specs.Faults.{Rose}
 use Rattle.sccp_io.specs.Files.{Contents}
 use Rattle.sccp_work.specs.Ending.{IsCut, Answers, Outcome}
 use Rattle.sccp_work.specs.Moment.{Moment}
-use Rattle.sccp_tool.specs.Run.{work_of, Cause, SureCause, TellsAnswer, TellsJourneys, HasNamedFiles, UsageCause, ExactlyWhere, ComesWhere, RefusedWhere}
+use Rattle.sccp_tool.specs.Run.{work_of, Cause, SureCause, TellsAnswer, TellsJourneys, HasNamedFiles, UsageCause, ExactlyWhere, ComesWhere}
+use Rattle.sccp_tool.specs.Run.{RefusedWhere}
 use Rattle.sccp_tool.specs.Task.{Task, ShowHex, Show, Verify, Route, Replay, Load, Cuts, Import, Change, Connect, SendOn}
 use Rattle.sccp_work.specs.Verdict.{IsOnVerdict}
 use Rattle.sccp_work.specs.Work.{Work, Ends, HasFiles}
 use Rattle.sccp_work.specs.declared.status.Status.{Status}
-use Rattle.sccp_work.specs.declared.status.Status.TheVariants.{Done, Refused, Usage, BadPlan, BadTrace, TooWide, TooLong, OtherNodes, NoMemory, ReadFault, WriteFault}
+use Rattle.sccp_work.specs.declared.status.Status.TheVariants.{Done, Refused, Usage, BadPlan, BadTrace, TooWide, TooLong, OtherNodes}
+use Rattle.sccp_work.specs.declared.status.Status.TheVariants.{NoMemory, ReadFault, WriteFault}
 use Rattle.sccp_tool.proofs.Causes.{Causes}
 use Rattle.sccp_tool.proofs.CutsLemmas.{cuts_causes}
 use Rattle.sccp_tool.proofs.ImportLemmas.{import_causes}
@@ -65,20 +67,23 @@ cut_or_ends NoMemory work text b a h = inl tt
 cut_or_ends ReadFault work text b a h = inl tt
 cut_or_ends s work text b a h = inr h
 
-unless_cut : {P : Type 0} (s : Status) (work : Work) (text : List ℕ) (b a : Moment) → Answers work s text b a → (Ends b.contents work s text → P) → P ⊎ IsCut s
+unless_cut : {P : Type 0} (s : Status) (work : Work) (text : List ℕ) (b a : Moment) → Answers work s text b a
+    → (Ends b.contents work s text → P) → P ⊎ IsCut s
 unless_cut {P} s work text b a h f = by (cut_or_ends s work text b a h) where
   by : IsCut s ⊎ Ends b.contents work s text → P ⊎ IsCut s
   by (inl cut) = inr cut
   by (inr e) = inl (f e)
 
 -- an answer of a verdict is the work's own
-own_verdict : (s : Status) (work : Work) (text : List ℕ) (b a : Moment) → Answers work s text b a → IsOnVerdict s → Ends b.contents work s text
+own_verdict : (s : Status) (work : Work) (text : List ℕ) (b a : Moment) → Answers work s text b a → IsOnVerdict s
+    → Ends b.contents work s text
 own_verdict Done work text b a h given = h
 own_verdict Refused work text b a h given = h
 own_verdict TooWide work text b a h given = h
 own_verdict s work text b a h given = absurd given
 
-without_task : (contents : Option Contents) (task : Option Task) (s : Status) (text : List ℕ) → task ≡ None → Ends contents (work_of task) s text → s ≡ Usage
+without_task : (contents : Option Contents) (task : Option Task) (s : Status) (text : List ℕ) → task ≡ None
+    → Ends contents (work_of task) s text → s ≡ Usage
 without_task contents None s text e h = h.2.0
 without_task contents (Some t) s text e h = cc
 
@@ -89,15 +94,19 @@ module _ (task : Option Task) (s : Status) (b a : Moment) (o : Outcome (work_of 
   answers t e = subst (λ t. Answers (work_of task) t o.text b a) e o.answers
 
   -- an answer of the work's own is given only if its cause holds
-  only_where : (t : Status) (c : Contents) → b.contents ≡ Some c → (Answers (work_of task) t o.text b a → Ends b.contents (work_of task) t o.text) → s ≡ t → Cause c task t
+  only_where : (t : Status) (c : Contents) → b.contents ≡ Some c
+      → (Answers (work_of task) t o.text b a → Ends b.contents (work_of task) t o.text) → s ≡ t → Cause c task t
   only_where t c told own e = (causes task).only c t o.text (subst (λ k. Ends k (work_of task) t o.text) told (own (answers t e)))
 
   -- an answer is given unless the call was cut short
   always_where : (c : Contents) (Q : Type 0) → b.contents ≡ Some c → (Ends (Some c) (work_of task) s o.text → Q) → Q ⊎ IsCut s
-  always_where c Q told always = unless_cut s (work_of task) o.text b a o.answers (λ e. always (subst (λ k. Ends k (work_of task) s o.text) told e))
+  always_where c Q told always = unless_cut s (work_of task) o.text b a o.answers
+      (λ e. always (subst (λ k. Ends k (work_of task) s o.text) told e))
 
   -- an answer of the work's own is given only if its cause can give it; if one gives it for sure, it is given or the call is cut
-  comes : (t : Status) (c : Contents) → b.contents ≡ Some c → (Answers (work_of task) t o.text b a → Ends b.contents (work_of task) t o.text) → ComesWhere t s (Cause c task t) (SureCause c task t)
+  comes : (t : Status) (c : Contents) → b.contents ≡ Some c
+      → (Answers (work_of task) t o.text b a → Ends b.contents (work_of task) t o.text)
+      → ComesWhere t s (Cause c task t) (SureCause c task t)
   comes t c told own = record {
     only = only_where t c told own;
     always = λ cause. always_where c (s ≡ t) told ((causes task).always c t s o.text cause);
@@ -147,16 +156,20 @@ module _ (task : Option Task) (s : Status) (b a : Moment) (o : Outcome (work_of 
   write_cause e = (answers WriteFault e).0
 
   -- sound files that have each file which the work may read do not fail
-  spared : IsTrue b.sound → (c : Contents) → b.contents ≡ Some c → HasFiles c (work_of task) → (a.read_faults ≡ b.read_faults) × (b.read_faults < 2 ^ 64 - 1 → s ≢ ReadFault)
+  spared : IsTrue b.sound → (c : Contents) → b.contents ≡ Some c → HasFiles c (work_of task)
+      → (a.read_faults ≡ b.read_faults) × (b.read_faults < 2 ^ 64 - 1 → s ≢ ReadFault)
   spared h c told has =
-      let same : a.read_faults ≡ b.read_faults = subst (λ k. IfSome k (λ d. HasFiles d (work_of task) → a.read_faults ≡ b.read_faults)) told (o.spared h) has in
+      let same : a.read_faults ≡ b.read_faults = subst (λ k. IfSome k (λ d. HasFiles d (work_of task) → a.read_faults ≡ b.read_faults)) told
+      (o.spared h) has in
       (same, λ few e. stays same few (read_cause e)) where
         stays : a.read_faults ≡ b.read_faults → b.read_faults < 2 ^ 64 - 1 → Rose b.read_faults a.read_faults → ⊥
         stays same few (inl rose) = absurd (omega arith)
         stays same few (inr end) = absurd (omega arith)
 
-  pub sound_cause : IsTrue b.sound → IfSome b.contents (λ c. HasFiles c (work_of task) → (a.read_faults ≡ b.read_faults) × (b.read_faults < 2 ^ 64 - 1 → s ≢ ReadFault))
+  pub sound_cause : IsTrue b.sound → IfSome b.contents (λ c. HasFiles c (work_of task)
+      → (a.read_faults ≡ b.read_faults) × (b.read_faults < 2 ^ 64 - 1 → s ≢ ReadFault))
   sound_cause h = if_some b.contents _ (λ c told has. spared h c told has)
 
-  pub named_cause : IsTrue b.sound → IfSome b.contents (λ c. HasNamedFiles c task → (a.read_faults ≡ b.read_faults) × (b.read_faults < 2 ^ 64 - 1 → s ≢ ReadFault))
+  pub named_cause : IsTrue b.sound → IfSome b.contents (λ c. HasNamedFiles c task
+      → (a.read_faults ≡ b.read_faults) × (b.read_faults < 2 ^ 64 - 1 → s ≢ ReadFault))
   named_cause h = if_some b.contents _ (λ c told has. spared h c told ((causes task).files c has))

@@ -18,7 +18,8 @@ use Rattle.sccp_message.specs.declared.message.Message.TheVariants as messages
 use Rattle.sccp_message.specs.Unitdata.{called_of, hops_of}
 use Rattle.sccp_report.specs.Events.{connection_words, coupling_words}
 use Rattle.sccp_report.specs.MessageText.{decoded_text, message_text}
-use Rattle.sccp_scrc.specs.Arriving.{arrival, at_subsystem, at_title, after_step, by_called, is_last_hop, leaving, of_message, point_of, subsystems_of, translated}
+use Rattle.sccp_scrc.specs.Arriving.{arrival, at_subsystem, at_title, after_step, by_called, is_last_hop, leaving, of_message, point_of}
+use Rattle.sccp_scrc.specs.Arriving.{subsystems_of, translated}
 use Rattle.sccp_scrc.specs.Outcomes.{IsReturned}
 use Rattle.sccp_scrc.specs.Returning.{returned}
 use Rattle.sccp_scrc.specs.Rewriting.{rewritten, spot_of}
@@ -74,7 +75,8 @@ shown : (octets : List ℕ) (m : Message) → reading octets ≡ Ok m → messag
 unfolding message_text
 shown octets m is = ap (decoded_text octets) is
 
-pub connection_shown : (octets : List ℕ) (m : Message) → reading octets ≡ Ok m → called_of m ≡ None → type_line (first_line (message_text octets)) ≡ connection_line m
+pub connection_shown : (octets : List ℕ) (m : Message) → reading octets ≡ Ok m → called_of m ≡ None
+    → type_line (first_line (message_text octets)) ≡ connection_line m
 connection_shown octets m is e = ap (λ t. type_line (first_line t)) (shown octets m is) ∙ type_shown octets m e
 
 -- ---- an arrival is of its octets
@@ -89,52 +91,65 @@ SaysOctets b (Ended pc ssn octets) = Unit {0}
 SaysOctets b (Local ssn m) = Unit {0}
 SaysOctets b (Management m) = Unit {0}
 
-leaves : (b : List ℕ) (marking : List Mark) (origin : ℕ) (m : Message) (way : List ℕ → Arrival) (o : Option (List ℕ)) → ((octets : List ℕ) → SaysOctets b (way octets)) → SaysOctets b (leaving marking origin m way o)
+leaves : (b : List ℕ) (marking : List Mark) (origin : ℕ) (m : Message) (way : List ℕ → Arrival) (o : Option (List ℕ))
+    → ((octets : List ℕ) → SaysOctets b (way octets)) → SaysOctets b (leaving marking origin m way o)
 leaves b marking origin m way None says = tt
 leaves b marking origin m way (Some octets) says = says octets
 
-placed : (plan : Network) (node : ℕ) (marking : List Mark) (origin : ℕ) (b : List ℕ) (m new : Message) (pc ssn : ℕ) (own : Bool) (o : Option (List ℕ)) → SaysOctets b (if own then Local ssn new else leaving marking origin m (Ended pc ssn) o)
+placed : (plan : Network) (node : ℕ) (marking : List Mark) (origin : ℕ) (b : List ℕ) (m new : Message) (pc ssn : ℕ) (own : Bool)
+    (o : Option (List ℕ)) → SaysOctets b (if own then Local ssn new else leaving marking origin m (Ended pc ssn) o)
 placed plan node marking origin b m new pc ssn true o = tt
 placed plan node marking origin b m new pc ssn false o = leaves b marking origin m (Ended pc ssn) o (λ octets. tt)
 
-stepped : (plan : Network) (node : ℕ) (marking : List Mark) (origin : ℕ) (b : List ℕ) (m : Message) (a : Address) (x : Step) → SaysOctets b (after_step plan node marking origin m a x)
+stepped : (plan : Network) (node : ℕ) (marking : List Mark) (origin : ℕ) (b : List ℕ) (m : Message) (a : Address) (x : Step)
+    → SaysOctets b (after_step plan node marking origin m a x)
 stepped plan node marking origin b m a (steps.Sent next target) =
     leaves b marking origin m (Relayed (point_of plan next.node)) (octets_of (rewritten a (steps.Sent next target) m)) (λ octets. tt)
 stepped plan node marking origin b m a (steps.Ended pc ssn target) =
-    placed plan node marking origin b m (rewritten a (steps.Ended pc ssn target) m) pc ssn (pc == point_of plan node) (octets_of (rewritten a (steps.Ended pc ssn target) m))
+    placed plan node marking origin b m (rewritten a (steps.Ended pc ssn target) m) pc ssn (pc == point_of plan node)
+    (octets_of (rewritten a (steps.Ended pc ssn target) m))
 stepped plan node marking origin b m a (steps.Blocked cause marks) = tt
 stepped plan node marking origin b m a (steps.NoRow cause) = tt
 stepped plan node marking origin b m a steps.Overgrown = tt
 
-by_spot : (plan : Network) (node : ℕ) (marking : List Mark) (origin : ℕ) (b : List ℕ) (m : Message) (a : Address) (o : Option Spot) → SaysOctets b (translated plan node marking origin m a o)
+by_spot : (plan : Network) (node : ℕ) (marking : List Mark) (origin : ℕ) (b : List ℕ) (m : Message) (a : Address) (o : Option Spot)
+    → SaysOctets b (translated plan node marking origin m a o)
 by_spot plan node marking origin b m a None = tt
 by_spot plan node marking origin b m a (Some spot) = stepped plan node marking origin b m a (step plan spot marking)
 
-by_hops : (plan : Network) (node : ℕ) (marking : List Mark) (origin : ℕ) (b : List ℕ) (m : Message) (a : Address) (last : Bool) → SaysOctets b (if last then returned marking origin m 12 [] else translated plan node marking origin m a (spot_of node a))
+by_hops : (plan : Network) (node : ℕ) (marking : List Mark) (origin : ℕ) (b : List ℕ) (m : Message) (a : Address) (last : Bool)
+    → SaysOctets b (if last then returned marking origin m 12 [] else translated plan node marking origin m a (spot_of node a))
 by_hops plan node marking origin b m a true = tt
 by_hops plan node marking origin b m a false = by_spot plan node marking origin b m a (spot_of node a)
 
-on_ssn : (plan : Network) (node : ℕ) (marking : List Mark) (origin : ℕ) (b : List ℕ) (m : Message) (ssn : ℕ) (management equipped prohibited : Bool) →
-    SaysOctets b (if management then Management m else if not equipped then returned marking origin m 4 [] else if prohibited then returned marking origin m 3 (Subsystem (point_of plan node) ssn ∷ []) else Local ssn m)
+on_ssn : (plan : Network) (node : ℕ) (marking : List Mark) (origin : ℕ) (b : List ℕ) (m : Message) (ssn : ℕ)
+    (management equipped prohibited : Bool) →
+    SaysOctets b (if management then Management m else if not equipped then returned marking origin m 4 [] else if prohibited
+    then returned marking origin m 3 (Subsystem (point_of plan node) ssn ∷ []) else Local ssn m)
 on_ssn plan node marking origin b m ssn true equipped prohibited = tt
 on_ssn plan node marking origin b m ssn false false prohibited = tt
 on_ssn plan node marking origin b m ssn false true true = tt
 on_ssn plan node marking origin b m ssn false true false = tt
 
-by_ssn : (plan : Network) (node : ℕ) (marking : List Mark) (origin : ℕ) (b : List ℕ) (m : Message) (o : Option ℕ) → SaysOctets b (at_subsystem plan node marking origin m o)
+by_ssn : (plan : Network) (node : ℕ) (marking : List Mark) (origin : ℕ) (b : List ℕ) (m : Message) (o : Option ℕ)
+    → SaysOctets b (at_subsystem plan node marking origin m o)
 by_ssn plan node marking origin b m None = tt
 by_ssn plan node marking origin b m (Some ssn) =
-    on_ssn plan node marking origin b m ssn (ssn == 1) (list_any (λ own. own == ssn) (subsystems_of plan node)) (holds marking (Subsystem (point_of plan node) ssn))
+    on_ssn plan node marking origin b m ssn (ssn == 1) (list_any (λ own. own == ssn) (subsystems_of plan node))
+    (holds marking (Subsystem (point_of plan node) ssn))
 
-by_routing : (plan : Network) (node : ℕ) (marking : List Mark) (origin : ℕ) (b : List ℕ) (m : Message) (a : Address) (ssn : Bool) → SaysOctets b (if ssn then at_subsystem plan node marking origin m a.ssn else at_title plan node marking origin m a)
+by_routing : (plan : Network) (node : ℕ) (marking : List Mark) (origin : ℕ) (b : List ℕ) (m : Message) (a : Address) (ssn : Bool)
+    → SaysOctets b (if ssn then at_subsystem plan node marking origin m a.ssn else at_title plan node marking origin m a)
 by_routing plan node marking origin b m a true = by_ssn plan node marking origin b m a.ssn
 by_routing plan node marking origin b m a false = by_hops plan node marking origin b m a (is_last_hop (hops_of m))
 
-by_type : (plan : Network) (node : ℕ) (marking : List Mark) (origin : ℕ) (b : List ℕ) (m : Message) (o : Option Address) → reading b ≡ Ok m → called_of m ≡ o → SaysOctets b (by_called plan node marking origin m o)
+by_type : (plan : Network) (node : ℕ) (marking : List Mark) (origin : ℕ) (b : List ℕ) (m : Message) (o : Option Address) → reading b ≡ Ok m
+    → called_of m ≡ o → SaysOctets b (by_called plan node marking origin m o)
 by_type plan node marking origin b m None is e = (is, e)
 by_type plan node marking origin b m (Some a) is e = by_routing plan node marking origin b m a a.by_ssn
 
-by_reading : (plan : Network) (node : ℕ) (marking : List Mark) (origin : ℕ) (b : List ℕ) (r : Result Message DecodeFault) → reading b ≡ r → SaysOctets b (of_message plan node marking origin r)
+by_reading : (plan : Network) (node : ℕ) (marking : List Mark) (origin : ℕ) (b : List ℕ) (r : Result Message DecodeFault) → reading b ≡ r
+    → SaysOctets b (of_message plan node marking origin r)
 by_reading plan node marking origin b (Ok m) is = by_type plan node marking origin b m (called_of m) is refl
 by_reading plan node marking origin b (Err fault) is = is
 
@@ -143,7 +158,8 @@ none_held : (marks : List Mark) → list_all (holds []) marks ≡ true → marks
 none_held [] h = refl
 none_held (mark ∷ marks) h = absurd (cc)
 
-of_octets : (b : List ℕ) (a : Arrival) → SaysOctets b a → ((cause : ℕ) (marks : List Mark) (service : Option Service) → a ≡ Returned cause marks service → IsReturned [] cause marks) → IsOfOctets b a
+of_octets : (b : List ℕ) (a : Arrival) → SaysOctets b a → ((cause : ℕ) (marks : List Mark) (service : Option Service)
+    → a ≡ Returned cause marks service → IsReturned [] cause marks) → IsOfOctets b a
 of_octets b (Returned cause marks service) says names = none_held marks (names cause marks service refl).held
 of_octets b (Connection m) says names = says
 of_octets b (Undecodable fault) says names = says
@@ -152,8 +168,10 @@ of_octets b (Ended pc ssn octets) says names = tt
 of_octets b (Local ssn m) says names = tt
 of_octets b (Management m) says names = tt
 
-pub arrived : (plan : Network) (node : ℕ) (marking : List Mark) (origin : ℕ) (b : List ℕ) (a : Arrival) → marking ≡ [] → a ≡ arrival plan node marking origin b
-    → ((cause : ℕ) (marks : List Mark) (service : Option Service) → a ≡ Returned cause marks service → IsReturned marking cause marks) → IsOfOctets b a
+pub arrived : (plan : Network) (node : ℕ) (marking : List Mark) (origin : ℕ) (b : List ℕ) (a : Arrival) → marking ≡ []
+    → a ≡ arrival plan node marking origin b
+    → ((cause : ℕ) (marks : List Mark) (service : Option Service) → a ≡ Returned cause marks service → IsReturned marking cause marks)
+    → IsOfOctets b a
 arrived plan node marking origin b a none is names =
     of_octets b a (subst (SaysOctets b) (sym is) (by_reading plan node marking origin b (reading b) refl))
     (λ cause marks service e. subst (λ (held : List Mark). IsReturned held cause marks) none (names cause marks service e))

@@ -25,17 +25,21 @@ show_answer-own octets = own_answer (shown_lines 1 (lines_of octets))
 abbrev IsAnswerFor : List ℕ → Status → Type 0
 IsAnswerFor octets s = s ≡ (show_answer octets).0
 
-file_ends : (contents : Option Contents) (name : List ℕ) (s : Status) (text : List ℕ) → Ends contents (show_work name) s text → FileEnds contents name IsAnswerFor s
-file_ends contents name s text h = Ends-within_limit IsAnswerFor contents name (λ octets. answered (show_answer octets)) s text (λ octets e. e.2.0) h
+file_ends : (contents : Option Contents) (name : List ℕ) (s : Status) (text : List ℕ) → Ends contents (show_work name) s text
+    → FileEnds contents name IsAnswerFor s
+file_ends contents name s text h = Ends-within_limit IsAnswerFor contents name (λ octets. answered (show_answer octets)) s text
+    (λ octets e. e.2.0) h
 
-cause_of : (contents : Option Contents) (name octets : List ℕ) (r : Result (List ℕ) LineFault) → shown_lines 1 (lines_of octets) ≡ r → Reads contents name octets → length octets ≤ 1048576
+cause_of : (contents : Option Contents) (name octets : List ℕ) (r : Result (List ℕ) LineFault) → shown_lines 1 (lines_of octets) ≡ r
+    → Reads contents name octets → length octets ≤ 1048576
     → ShowCause contents name (answer_for r).0
 cause_of contents name octets (Ok text) e reads few = (octets, reads, few, ap is_ok e)
 cause_of contents name octets (Err fault) e reads few = (octets, reads, few, ap is_err e)
 
 only : (contents : Option Contents) (name : List ℕ) (s : Status) → FileEnds contents name IsAnswerFor s → ShowCause contents name s
 only contents name TooLong (long h) = h
-only contents name s (within h) = subst (ShowCause contents name) (sym h.3) (cause_of contents name h.0 (shown_lines 1 (lines_of h.0)) refl h.1 h.2)
+only contents name s (within h) = subst (ShowCause contents name) (sym h.3)
+    (cause_of contents name h.0 (shown_lines 1 (lines_of h.0)) refl h.1 h.2)
 
 if_ok : (r : Result (List ℕ) LineFault) → IsOk r → (answer_for r).0 ≡ Done
 if_ok (Ok text) ok = refl
@@ -53,9 +57,11 @@ IsFaulty octets = IsErr (shown_lines 1 (lines_of octets))
 
 always : (c : Contents) (name : List ℕ) (t s : Status) → ShowCause (Some c) name t → FileEnds (Some c) name IsAnswerFor s → s ≡ t
 always c name Done TooLong has (long h) = absurd (not_long c name IsShown has h)
-always c name Done s has (within h) = at_file c name (λ octets. IsAnswerFor octets s) IsShown h has ∙ if_ok (shown_lines 1 (lines_of has.0)) has.3
+always c name Done s has (within h) = at_file c name (λ octets. IsAnswerFor octets s) IsShown h has
+    ∙ if_ok (shown_lines 1 (lines_of has.0)) has.3
 always c name BadTrace TooLong has (long h) = absurd (not_long c name IsFaulty has h)
-always c name BadTrace s has (within h) = at_file c name (λ octets. IsAnswerFor octets s) IsFaulty h has ∙ if_err (shown_lines 1 (lines_of has.0)) has.3
+always c name BadTrace s has (within h) = at_file c name (λ octets. IsAnswerFor octets s) IsFaulty h has
+    ∙ if_err (shown_lines 1 (lines_of has.0)) has.3
 always c name TooLong TooLong has (long h) = refl
 always c name TooLong s has (within h) = absurd (not_long c name (λ octets. IsAnswerFor octets s) h has)
 always c name t s has ends = absurd has

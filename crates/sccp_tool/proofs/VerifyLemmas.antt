@@ -27,7 +27,8 @@ record Judged (text : List ℕ) (plan : Network) (s : Status) : Type 0 where
   pub status : s ≡ status_of verdict
   pub whole : text ≡ verdict_text plan verdict
 
-Ends-judged : (contents : Option Contents) (plan : Network) (s : Status) (text : List ℕ) → Ends contents (judged_work plan) s text → Judged text plan s
+Ends-judged : (contents : Option Contents) (plan : Network) (s : Status) (text : List ℕ) → Ends contents (judged_work plan) s text
+    → Judged text plan s
 Ends-judged contents plan s text h = record {
   verdict = h.0;
   lawful = h.1.1;
@@ -35,17 +36,21 @@ Ends-judged contents plan s text h = record {
   whole = h.2.1 ∙ ap (λ rest. verdict_text plan h.0 ++ rest) h.2.2.1 ∙ append-nil (verdict_text plan h.0);
 }
 
-plan_ends : (contents : Option Contents) (name : List ℕ) (s : Status) (text : List ℕ) → Ends contents (verify_work name) s text → PlanEnds contents name (Judged text) s
-plan_ends contents name s text h = Ends-with_plan (Judged text) contents name judged_work s text (λ plan e. Ends-judged contents plan s text e) h
+plan_ends : (contents : Option Contents) (name : List ℕ) (s : Status) (text : List ℕ) → Ends contents (verify_work name) s text
+    → PlanEnds contents name (Judged text) s
+plan_ends contents name s text h = Ends-with_plan (Judged text) contents name judged_work s text
+    (λ plan e. Ends-judged contents plan s text e) h
 
 -- ---- what each answer says of the plan
 
-pub cause_of : (contents : Option Contents) (name : List ℕ) (plan : Network) (v : Verdict) → ((P : Network → Type 0) → P plan → HasPlan contents name P) → IsLawful plan v → VerifyCause contents name (status_of v)
+pub cause_of : (contents : Option Contents) (name : List ℕ) (plan : Network) (v : Verdict)
+    → ((P : Network → Type 0) → P plan → HasPlan contents name P) → IsLawful plan v → VerifyCause contents name (status_of v)
 cause_of contents name plan (verdicts.Accepted accepted) here lawful = here IsSafe (accepted.bound, lawful.0)
 cause_of contents name plan (verdicts.Refused same witness) here lawful = here IsBad (witness, lawful)
 cause_of contents name plan (verdicts.TooWide same) here lawful = here IsWide lawful
 
-only : (contents : Option Contents) (name : List ℕ) (s : Status) (text : List ℕ) → PlanEnds contents name (Judged text) s → VerifyCause contents name s
+only : (contents : Option Contents) (name : List ℕ) (s : Status) (text : List ℕ) → PlanEnds contents name (Judged text) s
+    → VerifyCause contents name s
 only contents name TooLong text (long h) = h
 only contents name BadPlan text (bad h) = h
 only contents name s text (good h) =
@@ -54,7 +59,8 @@ only contents name s text (good h) =
 
 -- ---- what each answer follows from
 
-always : (c : Contents) (name : List ℕ) (t s : Status) (text : List ℕ) → VerifySure (Some c) name t → PlanEnds (Some c) name (Judged text) s → s ≡ t
+always : (c : Contents) (name : List ℕ) (t s : Status) (text : List ℕ) → VerifySure (Some c) name t → PlanEnds (Some c) name (Judged text) s
+    → s ≡ t
 always c name Done s text has ends =
     let j = at_plan c name (Judged text) (λ plan. IsSafe plan × (IsWide plan → ⊥)) s ends has in
     done_if_safe has.3.0 j.verdict s j.lawful j.status has.3.2.0 has.3.2.1
@@ -62,18 +68,34 @@ always c name BadPlan s text has ends = if_bad c name (Judged text) s ends has
 always c name TooLong s text has ends = if_long c name (Judged text) s ends has
 always c name t s text has ends = absurd has
 
-refused : (c : Contents) (name : List ℕ) (s : Status) (text : List ℕ) → HasPlan (Some c) name IsBad → PlanEnds (Some c) name (Judged text) s → (s ≡ Refused) ⊎ (s ≡ TooWide)
+refused : (c : Contents) (name : List ℕ) (s : Status) (text : List ℕ) → HasPlan (Some c) name IsBad → PlanEnds (Some c) name (Judged text) s
+    → (s ≡ Refused) ⊎ (s ≡ TooWide)
 refused c name s text has ends =
     let j = at_plan c name (Judged text) IsBad s ends has in
     refused_if_bad has.3.0 j.verdict s j.lawful j.status has.3.2
 
 -- the text gives the verdict
 
-tells : (contents : Option Contents) (name : List ℕ) (s : Status) (text : List ℕ) (taken taken' : Option (List ℕ)) → taken' ≡ append_known taken text → PlanEnds contents name (Judged text) s → VerifyTells contents name s taken taken'
+tells : (contents : Option Contents) (name : List ℕ) (s : Status) (text : List ℕ) (taken taken' : Option (List ℕ))
+    → taken' ≡ append_known taken text → PlanEnds contents name (Judged text) s → VerifyTells contents name s taken taken'
 tells contents name TooLong text taken taken' is (long h) = λ given. absurd given
 tells contents name BadPlan text taken taken' is (bad h) = λ given. absurd given
-tells contents name s text taken taken' is (good h) = λ given.
-    (h.0, h.1, h.2, (h.3.0, h.3.1, record { verdict = h.3.2.verdict; lawful = h.3.2.lawful; status = h.3.2.status; text = is ∙ ap (λ t. append_known taken t) h.3.2.whole }))
+tells contents name s text taken taken' is (good h) = λ given. (
+  h.0,
+  h.1,
+  h.2,
+  (
+    h.3.0,
+    h.3.1,
+    record {
+      verdict = h.3.2.verdict;
+      lawful = h.3.2.lawful;
+      status = h.3.2.status;
+      text = is
+          ∙ ap (λ t. append_known taken t) h.3.2.whole;
+    },
+  ),
+)
 
 pub verify_causes : (name : List ℕ) → Causes (Some (Verify name))
 verify_causes name = record {
@@ -81,7 +103,8 @@ verify_causes name = record {
   usage = λ contents text h. absurd (only contents name Usage text (plan_ends contents name Usage text h));
   always = λ c t s text cause h. always c name t s text cause (plan_ends (Some c) name s text h);
   refused = λ c s text cause h. refused c name s text cause (plan_ends (Some c) name s text h);
-  tells = λ c s text taken taken' is ends. λ given. tells (Some c) name s text taken taken' is (plan_ends (Some c) name s text (ends given)) given;
+  tells = λ c s text taken taken' is ends. λ given. tells (Some c) name s text taken taken' is
+      (plan_ends (Some c) name s text (ends given)) given;
   journeys = λ c s b a is o. tt;
   files = λ c there. plan_files c name judged_work (λ plan v judged. tt) there;
 }

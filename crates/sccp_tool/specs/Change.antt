@@ -1,5 +1,6 @@
 -- The command that says whether relays may hold either of two plans.
-use Rattle.std.specs.Prelude.{◌≡◌, ◌⊎◌, ℕ, List, [], ◌∷◌, ◌++◌, Option, None, Result, Ok, Err, if◌then◌else◌, codes, option_and_then, option_map}
+use Rattle.std.specs.Prelude.{◌≡◌, ◌⊎◌, ℕ, List, [], ◌∷◌, ◌++◌, Option, None, Result, Ok, Err, if◌then◌else◌, codes, option_and_then}
+use Rattle.std.specs.Prelude.{option_map}
 use Rattle.std.specs.Io.KnownBytes.{append_known}
 use Rattle.plan_check.specs.Verified.{Verified}
 use Rattle.plan_model.specs.Limits.{most_classes}
@@ -78,7 +79,8 @@ change_status changes.TooWide = TooWide
 
 -- the two plans side by side
 abbrev pub mixed_work : Network → Network → Work
-mixed_work old new = if same_nodes old new then mix old new (λ change. answered (change_status change, change_text old new change)) else answered (OtherNodes, other_nodes)
+mixed_work old new = if same_nodes old new then mix old new (λ change. answered (change_status change, change_text old new change))
+    else answered (OtherNodes, other_nodes)
 
 abbrev pub change_work : List ℕ → List ℕ → Work
 change_work old new = with_accepted old_word old (λ p. with_accepted new_word new (λ q. mixed_work p q))
@@ -89,7 +91,8 @@ change_work old new = with_accepted old_word old (λ p. with_accepted new_word n
 -- stopped.
 abbrev pub GivesAccepted : List ℕ → List ℕ → Result Verified Stop → Moment → Moment → Type 0
 GivesAccepted word name (Ok accepted) first now =
-    (next : Network → Work) (result : Result Status Stop) (after : Moment) → Works (next accepted.plan) result now after → Works (with_accepted word name next) result first after
+    (next : Network → Work) (result : Result Status Stop) (after : Moment) → Works (next accepted.plan) result now after
+    → Works (with_accepted word name next) result first after
 GivesAccepted word name (Err stop) first now = (next : Network → Work) → Works (with_accepted word name next) (Err stop) first now
 
 -- the answer on two plans and its text, as the work has them
@@ -119,7 +122,8 @@ pub data TellsMixture (old new : Network) (given : Status) (text : List ℕ) : T
 -- of both files, the old one's plan first
 abbrev pub TellsChange : Option Contents → List ℕ → List ℕ → Status → List ℕ → Type 0
 TellsChange contents old new given text =
-    HasPlan contents old (λ p. TellsPlan old_word p (λ s rest. HasPlan contents new (λ q. TellsPlan new_word q (TellsMixture p q) s rest)) given text)
+    HasPlan contents old (λ p. TellsPlan old_word p (λ s rest. HasPlan contents new
+    (λ q. TellsPlan new_word q (TellsMixture p q) s rest)) given text)
 
 -- the sink took such a text if the answer is one that a verdict or a mixture gives
 abbrev pub ChangeTells : Option Contents → List ℕ → List ℕ → Status → Option (List ℕ) → Option (List ℕ) → Type 0
@@ -139,7 +143,8 @@ IsMixable old new = (bound : ℕ) × IsMixedSafeFor old new bound
 
 abbrev pub IsUnmixable : Network → Network → Type 0
 IsUnmixable old new =
-    (old_cover : ℕ) × (new_cover : ℕ) × (spot : Spot) × (turns : List Turn) × (hops : List MixedHop) × (kind : Kind) × BothBad old new old_cover new_cover spot turns hops kind
+    (old_cover : ℕ) × (new_cover : ℕ) × (spot : Spot) × (turns : List Turn) × (hops : List MixedHop) × (kind : Kind)
+    × BothBad old new old_cover new_cover spot turns hops kind
 
 abbrev pub IsWideMixture : Network → Network → Type 0
 IsWideMixture old new = MixedReachAtLeast old new most_classes
@@ -155,8 +160,10 @@ HasEither contents old new safe holds = holds old ⊎ HasPlan contents old (λ p
 -- the cause of each answer
 abbrev pub ChangeCause : Option Contents → List ℕ → List ℕ → Status → Type 0
 ChangeCause contents old new Done = HavePlans contents old new IsSafe (λ p q. SameNodes p q × IsMixable p q)
-ChangeCause contents old new Refused = HasEither contents old new IsSafe (λ name. HasPlan contents name IsBad) ⊎ HavePlans contents old new IsSafe (λ p q. SameNodes p q × IsUnmixable p q)
-ChangeCause contents old new TooWide = HasEither contents old new IsSafe (λ name. HasPlan contents name IsWide) ⊎ HavePlans contents old new IsSafe (λ p q. SameNodes p q × IsWideMixture p q)
+ChangeCause contents old new Refused = HasEither contents old new IsSafe (λ name. HasPlan contents name IsBad)
+    ⊎ HavePlans contents old new IsSafe (λ p q. SameNodes p q × IsUnmixable p q)
+ChangeCause contents old new TooWide = HasEither contents old new IsSafe (λ name. HasPlan contents name IsWide)
+    ⊎ HavePlans contents old new IsSafe (λ p q. SameNodes p q × IsWideMixture p q)
 ChangeCause contents old new OtherNodes = HavePlans contents old new IsSafe (λ p q. SameNodes p q → ⊥)
 ChangeCause contents old new BadPlan = HasEither contents old new IsSafe (HasBadPlan contents)
 ChangeCause contents old new TooLong = HasEither contents old new IsSafe (HasLongFile contents)

@@ -1,5 +1,6 @@
 -- The command that makes one connection over the relays of a plan.
-use Rattle.std.specs.Prelude.{ℕ, ◌==◌, ◌&&◌, ◌%◌, Bool, List, [], ◌∷◌, ◌++◌, codes, length, Option, Some, None, is_some, option_and_then, option_map, if◌then◌else◌}
+use Rattle.std.specs.Prelude.{ℕ, ◌==◌, ◌&&◌, ◌%◌, Bool, List, [], ◌∷◌, ◌++◌, codes, length, Option, Some, None, is_some, option_and_then}
+use Rattle.std.specs.Prelude.{option_map, if◌then◌else◌}
 use Rattle.std.specs.List.{flat_map, position}
 use Rattle.chain_call.specs.Course.{beginning}
 use Rattle.chain_call.specs.Steps.{outcome}
@@ -40,11 +41,13 @@ said start = if is_unsaid start then None else Some start
 -- the title that is called, the point of the end that calls it, and the octets that are sent over the connection
 unfoldable pub calling_of : List ℕ → List ℕ → List ℕ → List ℕ → List ℕ → List ℕ → Option Calling
 calling_of node from selector ssn digits octets =
-    option_and_then (λ title. option_and_then (λ start. option_and_then (λ pc. option_map (λ b. record { start = start; from = pc; octets = b })
+    option_and_then (λ title. option_and_then (λ start. option_and_then
+    (λ pc. option_map (λ b. record { start = start; from = pc; octets = b })
     (hex_word octets)) (point_code_of from)) (said title)) (start_of node selector ssn digits)
 
 unfoldable pub connect_of : List ℕ → List ℕ → List ℕ → List ℕ → List ℕ → List ℕ → List ℕ → Option Task
-connect_of plan node from selector ssn digits octets = option_and_then (λ name. option_map (Connect name) (calling_of node from selector ssn digits octets)) (file_name plan)
+connect_of plan node from selector ssn digits octets = option_and_then
+    (λ name. option_map (Connect name) (calling_of node from selector ssn digits octets)) (file_name plan)
 
 -- PLAN NODE FROM SELECTOR SSN DIGITS HEX
 unfoldable pub connect_words : List (List ℕ) → Option Task

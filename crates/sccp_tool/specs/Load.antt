@@ -24,7 +24,8 @@ number_to most word = option_and_then (λ n. if nat_le n most then Some n else N
 -- a number of 32 bits, how many messages, and the number of workers
 unfoldable pub load_of : List ℕ → List ℕ → List ℕ → Option Task
 load_of number size workers =
-    option_and_then (λ n. option_and_then (λ s. option_map (λ w. Load n s w) (workers_in workers)) (number_to 100000 size)) (number_to 4294967295 number)
+    option_and_then (λ n. option_and_then (λ s. option_map (λ w. Load n s w) (workers_in workers)) (number_to 100000 size))
+    (number_to 4294967295 number)
 
 -- NUMBER SIZE WORKERS
 unfoldable pub load_words : List (List ℕ) → Option Task

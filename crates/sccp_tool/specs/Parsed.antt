@@ -3,7 +3,8 @@ use Rattle.std.specs.Prelude.{Option, Some, None}
 use Rattle.sccp_tool.specs.Task.{Task}
 use Rattle.sccp_tool.specs.Task as spec
 use Rattle.sccp_tool.specs.declared.command.Command.{Command}
-use Rattle.sccp_tool.specs.declared.command.Command.TheVariants.{ShowHex, Show, Verify, Route, Replay, Load, Cuts, Import, Change, Connect, SendOn}
+use Rattle.sccp_tool.specs.declared.command.Command.TheVariants.{ShowHex, Show, Verify, Route, Replay, Load, Cuts, Import, Change, Connect}
+use Rattle.sccp_tool.specs.declared.command.Command.TheVariants.{SendOn}
 
 abbrev pub task_in : Option Command → Option Task
 task_in None = None

@@ -1,9 +1,11 @@
 -- The command that sends a message on over a link that carries no long messages (LUDT).
-use Rattle.std.specs.Prelude.{◌≡◌, ℕ, ◌&&◌, nat_lt, List, [], ◌∷◌, ◌++◌, codes, Option, Some, None, option_and_then, option_map, Result, Ok, Err, if◌then◌else◌}
+use Rattle.std.specs.Prelude.{◌≡◌, ℕ, ◌&&◌, nat_lt, List, [], ◌∷◌, ◌++◌, codes, Option, Some, None, option_and_then, option_map, Result, Ok}
+use Rattle.std.specs.Prelude.{Err, if◌then◌else◌}
 use Rattle.std.specs.List.{flat_map, position}
 use Rattle.long_segments.specs.Sending.{sending}
 use Rattle.long_segments.specs.declared.long_fault.LongFault.{LongFault}
-use Rattle.long_segments.specs.declared.long_fault.LongFault.TheVariants.{NotLong, AlreadySegment, ZeroSize, TooMany, NotWritable, OutOfMemory}
+use Rattle.long_segments.specs.declared.long_fault.LongFault.TheVariants.{NotLong, AlreadySegment, ZeroSize, TooMany, NotWritable}
+use Rattle.long_segments.specs.declared.long_fault.LongFault.TheVariants.{OutOfMemory}
 use Rattle.plan_model.specs.Network.{Network, has_name}
 use Rattle.sccp_base.specs.Names.{name_of}
 use Rattle.sccp_base.specs.Text.{cut_at, decimal_of, point_code_of}
@@ -40,7 +42,8 @@ incoming_of node origin size digits =
     (hex_word digits)) (size_of size)) (point_code_of origin)) (name_of node)
 
 unfoldable pub send_on_of : List ℕ → List ℕ → List ℕ → List ℕ → List ℕ → Option Task
-send_on_of plan node origin size digits = option_and_then (λ name. option_map (SendOn name) (incoming_of node origin size digits)) (file_name plan)
+send_on_of plan node origin size digits = option_and_then (λ name. option_map (SendOn name) (incoming_of node origin size digits))
+    (file_name plan)
 
 -- PLAN NODE ORIGIN SIZE HEX
 unfoldable pub send_on_words : List (List ℕ) → Option Task

@@ -1,5 +1,6 @@
 -- The command that shows the messages of a file, one a line.
-use Rattle.std.specs.Prelude.{◌≡◌, ℕ, ◌+◌, List, [], ◌∷◌, ◌++◌, length, ◌==◌, Option, Some, None, option_map, Result, Ok, Err, IsOk, IsErr, Vec, if◌then◌else◌}
+use Rattle.std.specs.Prelude.{◌≡◌, ℕ, ◌+◌, List, [], ◌∷◌, ◌++◌, length, ◌==◌, Option, Some, None, option_map, Result, Ok, Err, IsOk, IsErr}
+use Rattle.std.specs.Prelude.{Vec, if◌then◌else◌}
 use Rattle.std.specs.declared.alloc.Global.{Global}
 use Rattle.sccp_io.specs.Files.{Contents}
 use Rattle.sccp_report.specs.MessageText.{message_text}

@@ -4,7 +4,9 @@ ghost use Rattle.std.specs.List.{flat_map};
 ghost use Rattle.plan_model.specs.Network.{IsPlan};
 ghost use Rattle.plan_verify.specs.Lawful.{IsLawful, plan_of};
 ghost use Rattle.sccp_tool.specs.Commands.{texts};
-ghost use Rattle.sccp_tool.specs.Connect.{call_of, call_text, calling_of, connect_of, connect_text, connect_words, connect_work, connected, is_unsaid, names_text, next_name, octets_line, opened_line, outcome_text, sections_line, ssn_in, through_lines};
+ghost use Rattle.sccp_tool.specs.Connect.{call_of, call_text, calling_of, connect_of, connect_text, connect_words, connect_work, connected};
+ghost use Rattle.sccp_tool.specs.Connect.{is_unsaid, names_text, next_name, octets_line, opened_line, outcome_text, sections_line, ssn_in};
+ghost use Rattle.sccp_tool.specs.Connect.{through_lines};
 ghost use Rattle.sccp_work.specs.Ending.{Works};
 ghost use Rattle.sccp_work.specs.Moment.{moment};
 ghost use Rattle.sccp_tool.specs.Parsed.{task_in};
@@ -146,7 +148,8 @@ fn connect_judged<K: Sink>(
 ) -> Result<Status, Stop>
     requires plan { IsPlan (plan_of verdict) }
     requires lawful { IsLawful (plan_of verdict) verdict }
-    ensures text { Writes (connected (plan_of verdict) calling.now verdict) result (K.taken out.old) (K.taken out.new) (K.faults out.old) (K.faults out.new) }
+    ensures text { Writes (connected (plan_of verdict) calling.now verdict) result (K.taken out.old) (K.taken out.new) (K.faults out.old)
+        (K.faults out.new) }
     ensures answer { IfOk result (λ s. s ≡ status_of verdict) }
 {
     match verdict {

@@ -98,7 +98,8 @@ fn load_judged<R: Threads + Sync, K: Sink>(
     requires same { plan_of verdict.now ≡ load_plan number }
     requires plan { IsPlan (plan_of verdict.now) }
     requires lawful { IsLawful (plan_of verdict.now) verdict.now }
-    ensures text { Writes (load_text number size verdict.now) result (K.taken out.old) (K.taken out.new) (K.faults out.old) (K.faults out.new) }
+    ensures text { Writes (load_text number size verdict.now) result (K.taken out.old) (K.taken out.new) (K.faults out.old)
+        (K.faults out.new) }
     ensures answer { IfOk result (λ s. s ≡ status_of verdict.now) }
 {
     match verdict {
@@ -121,7 +122,8 @@ fn load_accepted<R: Threads + Sync, K: Sink>(
     out: &mut K,
 ) -> Result<Status, Stop>
     requires { accepted.now.plan ≡ load_plan number }
-    ensures text { Writes (counts_text (load_counts number size)) result (K.taken out.old) (K.taken out.new) (K.faults out.old) (K.faults out.new) }
+    ensures text { Writes (counts_text (load_counts number size)) result (K.taken out.old) (K.taken out.new) (K.faults out.old)
+        (K.faults out.new) }
     ensures answer { IfOk result (λ s. s ≡ Status.Done) }
 {
     let counts = load_counts(rt, alloc, accepted, number, size, workers.count())?;

@@ -5,7 +5,8 @@ ghost use Rattle.sccp_tool.specs.Commands.{task_of, texts};
 ghost use Rattle.sccp_work.specs.Ending.{Works, Outcome, Closes, answer_of};
 ghost use Rattle.sccp_work.specs.Moment.{moment};
 ghost use Rattle.sccp_tool.specs.Parsed.{task_in};
-ghost use Rattle.sccp_tool.specs.Run.{work_of, Cause, SureCause, TellsAnswer, TellsJourneys, HasNamedFiles, ExactlyWhere, ComesWhere, RefusedWhere};
+ghost use Rattle.sccp_tool.specs.Run.{work_of, Cause, SureCause, TellsAnswer, TellsJourneys, HasNamedFiles, ExactlyWhere, ComesWhere};
+ghost use Rattle.sccp_tool.specs.Run.{RefusedWhere};
 ghost use Rattle.sccp_work.specs.Work.{HasFiles};
 
 use crate::change::change;
@@ -56,20 +57,25 @@ pub fn run<R: Threads + Wait + Sync, F: Files, K: Sink>(
 
     // The cause of each answer.
     ensures done { IfSome (F.contents files.old)
-        (λ c. ComesWhere Status.Done result (Cause c (task_of (texts words.now)) Status.Done) (SureCause c (task_of (texts words.now)) Status.Done)) }
+        (λ c. ComesWhere Status.Done result (Cause c (task_of (texts words.now)) Status.Done)
+        (SureCause c (task_of (texts words.now)) Status.Done)) }
     ensures refused { IfSome (F.contents files.old)
         (λ c. RefusedWhere result (Cause c (task_of (texts words.now)) Status.Refused)) }
     ensures too_wide { IfSome (F.contents files.old)
         (λ c. result ≡ Status.TooWide → Cause c (task_of (texts words.now)) Status.TooWide) }
     ensures usage { ExactlyWhere Status.Usage result (task_of (texts words.now) ≡ None) }
     ensures bad_plan { IfSome (F.contents files.old)
-        (λ c. ComesWhere Status.BadPlan result (Cause c (task_of (texts words.now)) Status.BadPlan) (SureCause c (task_of (texts words.now)) Status.BadPlan)) }
+        (λ c. ComesWhere Status.BadPlan result (Cause c (task_of (texts words.now)) Status.BadPlan)
+        (SureCause c (task_of (texts words.now)) Status.BadPlan)) }
     ensures bad_trace { IfSome (F.contents files.old)
-        (λ c. ComesWhere Status.BadTrace result (Cause c (task_of (texts words.now)) Status.BadTrace) (SureCause c (task_of (texts words.now)) Status.BadTrace)) }
+        (λ c. ComesWhere Status.BadTrace result (Cause c (task_of (texts words.now)) Status.BadTrace)
+        (SureCause c (task_of (texts words.now)) Status.BadTrace)) }
     ensures too_long { IfSome (F.contents files.old)
-        (λ c. ComesWhere Status.TooLong result (Cause c (task_of (texts words.now)) Status.TooLong) (SureCause c (task_of (texts words.now)) Status.TooLong)) }
+        (λ c. ComesWhere Status.TooLong result (Cause c (task_of (texts words.now)) Status.TooLong)
+        (SureCause c (task_of (texts words.now)) Status.TooLong)) }
     ensures other_nodes { IfSome (F.contents files.old)
-        (λ c. ComesWhere Status.OtherNodes result (Cause c (task_of (texts words.now)) Status.OtherNodes) (SureCause c (task_of (texts words.now)) Status.OtherNodes)) }
+        (λ c. ComesWhere Status.OtherNodes result (Cause c (task_of (texts words.now)) Status.OtherNodes)
+        (SureCause c (task_of (texts words.now)) Status.OtherNodes)) }
     ensures read_fault { result ≡ Status.ReadFault → Rose (F.faults files.old) (F.faults files.new) }
     ensures write_fault { result ≡ Status.WriteFault → Rose (K.faults out.old) (K.faults out.new) }
     // Sound files that have each file which the work may read do not fail.
@@ -107,20 +113,25 @@ pub fn run_gated<R: Threads + Wait + Sync, F: Files, K: Sink, G: Gate + Sync>(
 
     // The cause of each answer.
     ensures done { IfSome (F.contents files.old)
-        (λ c. ComesWhere Status.Done result (Cause c (task_of (texts words.now)) Status.Done) (SureCause c (task_of (texts words.now)) Status.Done)) }
+        (λ c. ComesWhere Status.Done result (Cause c (task_of (texts words.now)) Status.Done)
+        (SureCause c (task_of (texts words.now)) Status.Done)) }
     ensures refused { IfSome (F.contents files.old)
         (λ c. RefusedWhere result (Cause c (task_of (texts words.now)) Status.Refused)) }
     ensures too_wide { IfSome (F.contents files.old)
         (λ c. result ≡ Status.TooWide → Cause c (task_of (texts words.now)) Status.TooWide) }
     ensures usage { ExactlyWhere Status.Usage result (task_of (texts words.now) ≡ None) }
     ensures bad_plan { IfSome (F.contents files.old)
-        (λ c. ComesWhere Status.BadPlan result (Cause c (task_of (texts words.now)) Status.BadPlan) (SureCause c (task_of (texts words.now)) Status.BadPlan)) }
+        (λ c. ComesWhere Status.BadPlan result (Cause c (task_of (texts words.now)) Status.BadPlan)
+        (SureCause c (task_of (texts words.now)) Status.BadPlan)) }
     ensures bad_trace { IfSome (F.contents files.old)
-        (λ c. ComesWhere Status.BadTrace result (Cause c (task_of (texts words.now)) Status.BadTrace) (SureCause c (task_of (texts words.now)) Status.BadTrace)) }
+        (λ c. ComesWhere Status.BadTrace result (Cause c (task_of (texts words.now)) Status.BadTrace)
+        (SureCause c (task_of (texts words.now)) Status.BadTrace)) }
     ensures too_long { IfSome (F.contents files.old)
-        (λ c. ComesWhere Status.TooLong result (Cause c (task_of (texts words.now)) Status.TooLong) (SureCause c (task_of (texts words.now)) Status.TooLong)) }
+        (λ c. ComesWhere Status.TooLong result (Cause c (task_of (texts words.now)) Status.TooLong)
+        (SureCause c (task_of (texts words.now)) Status.TooLong)) }
     ensures other_nodes { IfSome (F.contents files.old)
-        (λ c. ComesWhere Status.OtherNodes result (Cause c (task_of (texts words.now)) Status.OtherNodes) (SureCause c (task_of (texts words.now)) Status.OtherNodes)) }
+        (λ c. ComesWhere Status.OtherNodes result (Cause c (task_of (texts words.now)) Status.OtherNodes)
+        (SureCause c (task_of (texts words.now)) Status.OtherNodes)) }
     ensures read_fault { result ≡ Status.ReadFault → Rose (F.faults files.old) (F.faults files.new) }
     ensures write_fault { result ≡ Status.WriteFault → Rose (K.faults out.old) (K.faults out.new) }
     // Sound files that have each file which the work may read do not fail.

@@ -15,7 +15,8 @@ ghost use Rattle.sccp_tool.specs.Commands.{texts};
 ghost use Rattle.sccp_work.specs.Ending.{Works};
 ghost use Rattle.sccp_work.specs.Moment.{moment};
 ghost use Rattle.sccp_tool.specs.Parsed.{task_in};
-ghost use Rattle.sccp_tool.specs.SendOn.{IsOfOctets, arrival_lines, connection_line, first_line, incoming_of, leaving_lines, send_on_of, send_on_text, send_on_words, send_on_work, size_of, to_line, type_line, uncut_lines};
+ghost use Rattle.sccp_tool.specs.SendOn.{IsOfOctets, arrival_lines, connection_line, first_line, incoming_of, leaving_lines, send_on_of};
+ghost use Rattle.sccp_tool.specs.SendOn.{send_on_text, send_on_words, send_on_work, size_of, to_line, type_line, uncut_lines};
 
 use crate::command::Command;
 use crate::route::UNKNOWN_NODE;
@@ -156,7 +157,8 @@ fn send_on_text(alloc: Global, plan: &Plan, incoming: &Incoming) -> Result<Octet
 /// What becomes of octets at a node while nothing is prohibited.
 fn text_at(alloc: Global, plan: &Plan, node: u8, incoming: &Incoming) -> Result<Octets, OutOfMemory>
     requires { node < length plan.now.nodes }
-    ensures { IfOk result (λ text. text ≡ arrival_lines incoming.now.size (arrival plan.now node [] incoming.now.origin incoming.now.octets)) }
+    ensures { IfOk result (λ text. text ≡ arrival_lines incoming.now.size
+        (arrival plan.now node [] incoming.now.origin incoming.now.octets)) }
 {
     let octets = incoming.octets.as_slice();
     let marking = Marking::new(alloc);

@@ -16,7 +16,8 @@ Finishes holds (mix old new f) = (change : Change) → Finishes holds (f change)
 Finishes holds (read_on w) = Finishes holds w
 Finishes holds (serve batch f) = (numbers : List ℕ) → Finishes holds (f numbers)
 
-pub answer_holds : (holds : Status → Type 0) (k : Option Contents) (w : Work) (s : Status) (text : List ℕ) → Finishes holds w → Ends k w s text → holds s
+pub answer_holds : (holds : Status → Type 0) (k : Option Contents) (w : Work) (s : Status) (text : List ℕ) → Finishes holds w
+    → Ends k w s text → holds s
 answer_holds holds k (finish z) s text h e = subst holds (sym e.0) h
 answer_holds holds k (print t w) s text h e = answer_holds holds k w s e.0 h e.2
 answer_holds holds k (read name f) s text h e = answer_holds holds k (f e.0) s text (h e.0) e.2

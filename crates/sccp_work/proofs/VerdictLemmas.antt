@@ -28,8 +28,10 @@ not_cut (verdicts.Accepted accepted) cut = cut
 not_cut (verdicts.Refused plan witness) cut = cut
 not_cut (verdicts.TooWide plan) cut = cut
 
-pub Works-verdict : (plan : Network) (verdict : Verdict) (status : Status) (text : List ℕ) (result : Result Status Stop) (b a : Moment) → IsJudged plan verdict → status ≡ status_of verdict → text ≡ verdict_text plan verdict
-    → Writes text result b.taken a.taken b.write_faults a.write_faults → IfOk result (λ s. s ≡ status) → a.contents ≡ b.contents → a.sound ≡ b.sound → a.read_faults ≡ b.read_faults → Works (judged_work plan) result b a
+pub Works-verdict : (plan : Network) (verdict : Verdict) (status : Status) (text : List ℕ) (result : Result Status Stop) (b a : Moment)
+    → IsJudged plan verdict → status ≡ status_of verdict → text ≡ verdict_text plan verdict
+    → Writes text result b.taken a.taken b.write_faults a.write_faults → IfOk result (λ s. s ≡ status) → a.contents ≡ b.contents
+    → a.sound ≡ b.sound → a.read_faults ≡ b.read_faults → Works (judged_work plan) result b a
 Works-verdict plan verdict status text result b a judged of spelt writes is contents sound read_faults =
     let whole = subst (λ t. Writes t result b.taken a.taken b.write_faults a.write_faults) spelt writes in
     let answer = subst (λ t. IfOk result (λ s. s ≡ t)) of is in
@@ -42,12 +44,14 @@ Works-verdict plan verdict status text result b a judged of spelt writes is cont
 pub safe_or_bad : (plan : Network) → IsSafe plan → (w : Witness) → IsWitness plan w → ⊥
 safe_or_bad plan safe w is = safe_not_bad plan safe.0 w.cover w.spot w.markings w.hops w.kind safe.1.few safe.1.safe is.bad
 
-pub done_if_safe : (plan : Network) (v : Verdict) (s : Status) → IsLawful plan v → s ≡ status_of v → IsSafe plan → (IsWide plan → ⊥) → s ≡ Done
+pub done_if_safe : (plan : Network) (v : Verdict) (s : Status) → IsLawful plan v → s ≡ status_of v → IsSafe plan → (IsWide plan → ⊥)
+    → s ≡ Done
 done_if_safe plan (verdicts.Accepted accepted) s lawful e safe narrow = e
 done_if_safe plan (verdicts.Refused same witness) s lawful e safe narrow = absurd (safe_or_bad plan safe witness lawful)
 done_if_safe plan (verdicts.TooWide same) s lawful e safe narrow = absurd (narrow lawful)
 
-pub refused_if_bad : (plan : Network) (v : Verdict) (s : Status) → IsLawful plan v → s ≡ status_of v → IsBad plan → (s ≡ Refused) ⊎ (s ≡ TooWide)
+pub refused_if_bad : (plan : Network) (v : Verdict) (s : Status) → IsLawful plan v → s ≡ status_of v → IsBad plan
+    → (s ≡ Refused) ⊎ (s ≡ TooWide)
 refused_if_bad plan (verdicts.Accepted accepted) s lawful e is = absurd (safe_or_bad plan (accepted.bound, lawful.0) is.0 is.1)
 refused_if_bad plan (verdicts.Refused same witness) s lawful e is = inl e
 refused_if_bad plan (verdicts.TooWide same) s lawful e is = inr e

@@ -52,14 +52,16 @@ pub record Works (work : Work) (result : Result Status Stop) (before after : Mom
 abbrev pub IsCutShort : Work → List ℕ → Moment → Moment → Type 0
 IsCutShort work text before after =
     BeginsWith before.contents work text
-    ⊎ (Rose before.read_faults after.read_faults × ((written front : List ℕ) × ComesToReading before.contents work written × StartsWith read_fault front × (text ≡ written ++ front)))
+    ⊎ (Rose before.read_faults after.read_faults × ((written front : List ℕ) × ComesToReading before.contents work written
+    × StartsWith read_fault front × (text ≡ written ++ front)))
 
 -- what the text is under each answer
 abbrev pub Answers : Work → Status → List ℕ → Moment → Moment → Type 0
 Answers work WriteFault text before after = Rose before.write_faults after.write_faults × IsCutShort work text before after
 Answers work NoMemory text before after = IsCutShort work text before after
 Answers work ReadFault text before after =
-    Rose before.read_faults after.read_faults × ((written : List ℕ) × ComesToReading before.contents work written × (text ≡ written ++ read_fault))
+    Rose before.read_faults after.read_faults × ((written : List ℕ) × ComesToReading before.contents work written
+    × (text ≡ written ++ read_fault))
 Answers work status text before after = Ends before.contents work status text
 
 -- The call had this work to do, and answered this.
@@ -85,5 +87,6 @@ answer_of (Err Memory) = NoMemory
 -- For a fault of the files a last line is written, and otherwise nothing.
 abbrev pub Closes : Result Status Stop → Status → Option (List ℕ) → Option (List ℕ) → ℕ → ℕ → Type 0
 Closes (Err Read) answer taken taken' faults faults' =
-    (last : Result Status Stop) × Writes read_fault last taken taken' faults faults' × IfOk last (λ s. s ≡ ReadFault) × (answer ≡ answer_of last)
+    (last : Result Status Stop) × Writes read_fault last taken taken' faults faults' × IfOk last (λ s. s ≡ ReadFault)
+    × (answer ≡ answer_of last)
 Closes result answer taken taken' faults faults' = (answer ≡ answer_of result) × (taken' ≡ taken) × (faults' ≡ faults)

@@ -29,5 +29,6 @@ HasLongFile contents name = (octets : List ℕ) × Reads contents name octets ×
 -- Whatever the work that needs the file goes on with: from the octets it goes on, and otherwise it has ended or stopped.
 abbrev pub GivesWhole : List ℕ → Result (Vec ℕ Global) Stop → Moment → Moment → Type 0
 GivesWhole name (Ok octets) first now =
-    (next : List ℕ → Work) (result : Result Status Stop) (after : Moment) → Works (next octets.items) result now after → Works (within_limit name next) result first after
+    (next : List ℕ → Work) (result : Result Status Stop) (after : Moment) → Works (next octets.items) result now after
+    → Works (within_limit name next) result first after
 GivesWhole name (Err stop) first now = (next : List ℕ → Work) → Works (within_limit name next) (Err stop) first now

@@ -44,5 +44,6 @@ TextCause contents name answer = ⊥
 -- Whatever the work that needs the plan goes on with: from the plan it goes on, and otherwise it has ended or stopped.
 abbrev pub GivesPlan : List ℕ → Result Network Stop → Moment → Moment → Type 0
 GivesPlan name (Ok plan) first now =
-    (next : Network → Work) (result : Result Status Stop) (after : Moment) → Works (next plan) result now after → Works (with_plan name next) result first after
+    (next : Network → Work) (result : Result Status Stop) (after : Moment) → Works (next plan) result now after
+    → Works (with_plan name next) result first after
 GivesPlan name (Err stop) first now = (next : Network → Work) → Works (with_plan name next) (Err stop) first now

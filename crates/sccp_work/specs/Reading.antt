@@ -21,7 +21,8 @@ GivesFile contents name limit None = (octets : List ℕ) × Reads contents name 
 
 -- The file was read, or `Read` is the result. `Read` is given only if the count of faults rose, and for sound files only if
 -- they lack the file.
-pub record ReadsFile (name : List ℕ) (limit : ℕ) (result : Result (Option (Vec ℕ Global)) Stop) (contents contents' : Option Contents) (sound sound' : Bool) (faults faults' : ℕ) : Type 0 where
+pub record ReadsFile (name : List ℕ) (limit : ℕ) (result : Result (Option (Vec ℕ Global)) Stop) (contents contents' : Option Contents)
+    (sound sound' : Bool) (faults faults' : ℕ) : Type 0 where
   pub gives : IfOk result (GivesFile contents name limit)
   pub same : contents' ≡ contents
   pub soundness : sound' ≡ sound

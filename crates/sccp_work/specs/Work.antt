@@ -69,9 +69,11 @@ BeginsWith contents (print t w) text =
 BeginsWith contents (read name f) text =
     (text ≡ []) ⊎ ((octets : List ℕ) × Reads contents name octets × BeginsWith contents (f octets) text)
 BeginsWith contents (judge plan f) text = (text ≡ []) ⊎ ((verdict : Verdict) × IsJudged plan verdict × BeginsWith contents (f verdict) text)
-BeginsWith contents (mix old new f) text = (text ≡ []) ⊎ ((change : Change) × IsCompared old new change × BeginsWith contents (f change) text)
+BeginsWith contents (mix old new f) text = (text ≡ []) ⊎ ((change : Change) × IsCompared old new change
+    × BeginsWith contents (f change) text)
 BeginsWith contents (read_on w) text = BeginsWith contents w text
-BeginsWith contents (serve batch f) text = (text ≡ []) ⊎ ((numbers : List ℕ) × AreNumbers batch numbers × BeginsWith contents (f numbers) text)
+BeginsWith contents (serve batch f) text = (text ≡ []) ⊎ ((numbers : List ℕ) × AreNumbers batch numbers
+    × BeginsWith contents (f numbers) text)
 
 -- each file that the work may read is there, whatever the verdicts
 abbrev pub HasFiles : Contents → Work → Type 0

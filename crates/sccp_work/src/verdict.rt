@@ -20,7 +20,8 @@ use std::alloc::Global;
 pub fn tell_verdict<K: Sink>(alloc: Global, verdict: &Verdict, out: &mut K) -> Result<Status, Stop>
     requires plan { IsPlan (plan_of verdict.now) }
     requires lawful { IsLawful (plan_of verdict.now) verdict.now }
-    ensures text { Writes (verdict_text (plan_of verdict.now) verdict.now) result (K.taken out.old) (K.taken out.new) (K.faults out.old) (K.faults out.new) }
+    ensures text { Writes (verdict_text (plan_of verdict.now) verdict.now) result (K.taken out.old) (K.taken out.new) (K.faults out.old)
+        (K.faults out.new) }
     ensures answer { IfOk result (λ s. s ≡ status_of verdict.now) }
 {
     let text = lawful_text(alloc, plan_of(verdict), verdict)?;

@@ -1,5 +1,6 @@
 -- The forms of a line of a trace. The fields of a line are parted by one blank (32).
-use Rattle.std.specs.Prelude.{ℕ, Bool, true, ◌&&◌, ◌==◌, nat_le, List, [], ◌∷◌, length, Option, Some, None, option_map, option_and_then, if◌then◌else◌, codes}
+use Rattle.std.specs.Prelude.{ℕ, Bool, true, ◌&&◌, ◌==◌, nat_le, List, [], ◌∷◌, length, Option, Some, None, option_map, option_and_then}
+use Rattle.std.specs.Prelude.{if◌then◌else◌, codes}
 use Rattle.std.specs.List.{list_all}
 use Rattle.std.specs.Str.{bytes_eq}
 use Rattle.sccp_base.specs.Names.{name_of}
@@ -22,17 +23,20 @@ file_name text = if is_file_name text then Some text else None
 -- NODE POINT
 unfoldable pub node_and_point : List ℕ → Option (List ℕ × ℕ)
 node_and_point text =
-    option_and_then (λ fields. option_and_then (λ node. option_map (λ point. (node, point)) (point_code_of fields.1)) (name_of fields.0)) (cut_at 32 text)
+    option_and_then (λ fields. option_and_then (λ node. option_map (λ point. (node, point)) (point_code_of fields.1)) (name_of fields.0))
+    (cut_at 32 text)
 
 -- NODE SSN
 unfoldable pub node_and_subsystem : List ℕ → Option (List ℕ × ℕ)
 node_and_subsystem text =
-    option_and_then (λ fields. option_and_then (λ node. option_map (λ ssn. (node, ssn)) (byte_of fields.1)) (name_of fields.0)) (cut_at 32 text)
+    option_and_then (λ fields. option_and_then (λ node. option_map (λ ssn. (node, ssn)) (byte_of fields.1)) (name_of fields.0))
+    (cut_at 32 text)
 
 -- NODE POINT HEX
 unfoldable pub message : List ℕ → Option Line
 message text =
-    option_and_then (λ node. option_and_then (λ origin. option_and_then (λ point. option_and_then (λ name. option_map (λ octets. Msg name point octets)
+    option_and_then (λ node. option_and_then (λ origin. option_and_then
+    (λ point. option_and_then (λ name. option_map (λ octets. Msg name point octets)
     (hex_word origin.1)) (name_of node.0)) (point_code_of origin.0)) (cut_at 32 node.1)) (cut_at 32 text)
 
 -- a line of a word and more fields

@@ -1,7 +1,8 @@
 //! The forms of a line of a trace.
 ghost use Rattle.std.specs.Prelude.{◌≡◌, IfOk, option_map};
 ghost use Rattle.sccp_base.specs.Names.{name_of};
-ghost use Rattle.trace_text.specs.Forms.{file_name, node_and_point, node_and_subsystem, message, line_of_fields, is_skipped, line_of_cut, line_of};
+ghost use Rattle.trace_text.specs.Forms.{file_name, node_and_point, node_and_subsystem, message, line_of_fields, is_skipped, line_of_cut};
+ghost use Rattle.trace_text.specs.Forms.{line_of};
 
 use crate::file_name::is_file_name;
 use crate::hex_word::octets_of;

@@ -90,7 +90,8 @@ impl Reader {
         // From now on each call gives no line and the same fault.
         ensures stops { IfOk result (λ fed. (whole : Bool) (rest : List ℕ) → ahead self.new whole rest ≡ only fed.fault) }
         // In terms of all octets that were fed, however they were cut.
-        ensures text { (text : List ℕ) → HasRead self.old text → IfOk result (λ fed. told true text ≡ with_front (told false text).lines fed) }
+        ensures text { (text : List ℕ) → HasRead self.old text
+            → IfOk result (λ fed. told true text ≡ with_front (told false text).lines fed) }
         ensures short { length self.new.unfinished ≤ 8192 }
         ensures err { OnErr result (self.new ≡ self.old) }
     {

@@ -222,7 +222,8 @@ impl Teller {
     pub(crate) fn reader(&mut self) -> Option<PlanReader>
         ensures reader { IfSome result (λ r. known_by r.place ≡ told_by self.old) }
         ensures told { told_by self.new ≡ told_by self.old }
-        ensures alike { IfSome result (λ r. HasPassed self.old.nodes (told_by self.old).batch (length (plans_of self.old)) (known_by r.place)) }
+        ensures alike { IfSome result (λ r. HasPassed self.old.nodes (told_by self.old).batch (length (plans_of self.old))
+            (known_by r.place)) }
         ensures nodes { self.new.nodes ≡ self.old.nodes }
     {
         let Ok(mut reader) = self.writer.factory().reader() else {

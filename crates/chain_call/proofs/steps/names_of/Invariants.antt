@@ -6,4 +6,5 @@ use Rattle.chain_call.proofs.steps.names_of.Given as goal
 
 -- the names so far, and those of the places that are left
 abbrev pub invariant-loop-place : goal.invariant-loop-place
-invariant-loop-place l = l.names ++ filter_map (name_at l.plan) (map (point_of l.plan) (drop l.place-index l.places)) ≡ filter_map (name_at l.plan) (map (point_of l.plan) l.places)
+invariant-loop-place l = l.names ++ filter_map (name_at l.plan) (map (point_of l.plan) (drop l.place-index l.places))
+    ≡ filter_map (name_at l.plan) (map (point_of l.plan) l.places)

@@ -7,7 +7,8 @@ use Rattle.chain_world.proofs.link.begin.Goals as goal
 pub returns-clause-ok : goal.returns-clause-ok
 returns-clause-ok c = λ a b.
     ap (λ (ls : List Link). octets_on ls a b) c.in_ok-push-2.ensures.items
-    ∙ begun_octets c.args.links.now.items _ c.args.from c.args.to c.args.message c.requires refl refl (c.in_ok-push.ensures.items ∙ ap (λ (os : List (List ℕ)). os ++ c.args.message ∷ []) c.new-octets.ensures.items) a b
+    ∙ begun_octets c.args.links.now.items _ c.args.from c.args.to c.args.message c.requires refl refl (c.in_ok-push.ensures.items
+    ∙ ap (λ (os : List (List ℕ)). os ++ c.args.message ∷ []) c.new-octets.ensures.items) a b
 
 pub returns-clause-gone : goal.returns-clause-gone
 returns-clause-gone c = λ a b.

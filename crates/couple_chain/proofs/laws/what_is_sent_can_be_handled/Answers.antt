@@ -7,4 +7,5 @@ pub returns-clause-fit : goal.returns-clause-fit
 returns-clause-fit c = λ plan node marking sections origin message is h. sent_fit plan node marking sections origin message is h
 
 pub returns-clause-reads : goal.returns-clause-reads
-returns-clause-reads c = λ plan node marking sections origin message is h. fit_reads (coupled sections (event_of plan node marking origin message)).sent (sent_fit plan node marking sections origin message is h)
+returns-clause-reads c = λ plan node marking sections origin message is h. fit_reads
+    (coupled sections (event_of plan node marking origin message)).sent (sent_fit plan node marking sections origin message is h)

@@ -18,9 +18,12 @@ returns-clause-served g c =
     let same : c.as_mut_slice.result.now ≡ c.args.workers.now = c.as_mut_slice.ensures.value in
     let told : c.as_slice-jobs.result.now ≡ c.args.jobs.now = c.as_slice-jobs.ensures in
     let before : plans_of c.begin.new.self ≡ plans_of c.args.teller.now = c.begin.ensures.plans in
-    subst (λ (l : List Verified). IfOk c.serve_batch.result (AreServed plans states c.args.jobs.now (length c.args.workers.now) (length l))) before
-    (subst (λ (js : List Job). IfOk c.serve_batch.result (AreServed plans states js (length c.args.workers.now) (length (plans_of c.begin.new.self)))) told
-    (subst (λ n. IfOk c.serve_batch.result (AreServed plans states c.as_slice-jobs.result.now n (length (plans_of c.begin.new.self)))) (ap length same) c.serve_batch.ensures.served))
+    subst (λ (l : List Verified). IfOk c.serve_batch.result
+    (AreServed plans states c.args.jobs.now (length c.args.workers.now) (length l))) before
+    (subst (λ (js : List Job). IfOk c.serve_batch.result
+    (AreServed plans states js (length c.args.workers.now) (length (plans_of c.begin.new.self)))) told
+    (subst (λ n. IfOk c.serve_batch.result (AreServed plans states c.as_slice-jobs.result.now n (length (plans_of c.begin.new.self))))
+    (ap length same) c.serve_batch.ensures.served))
 
 pub returns-clause-counted : goal.returns-clause-counted
 returns-clause-counted g c =
@@ -28,19 +31,23 @@ returns-clause-counted g c =
     let after = c.serve_batch.new.workers in
     let same : c.as_mut_slice.result.now ≡ before = c.as_mut_slice.ensures.value in
     let told : c.as_slice-jobs.result.now ≡ c.args.jobs.now = c.as_slice-jobs.ensures in
-    let back : take (length before) (after ++ drop (length after) before) ≡ after = whole_back before after (c.serve_batch.ensures.lasts.long ∙ ap length same) in
+    let back : take (length before) (after ++ drop (length after) before) ≡ after =
+    whole_back before after (c.serve_batch.ensures.lasts.long ∙ ap length same) in
     if_ok _ _ c.serve_batch.result (λ answers h i d lt inside.
     let counted = h i d (subst (λ n. i < n) (sym (ap length same)) lt) (subst (λ n. i < n) (sym (ap length told)) inside) in
-    subst (λ (ws : List _). Counted (get_or before i d) (get_or ws i d)) (sym back) (subst (λ (ws : List _). Counted (get_or ws i d) (get_or after i d)) same counted)) c.serve_batch.ensures.counted
+    subst (λ (ws : List _). Counted (get_or before i d) (get_or ws i d)) (sym back)
+    (subst (λ (ws : List _). Counted (get_or ws i d) (get_or after i d)) same counted)) c.serve_batch.ensures.counted
 
 pub returns-clause-follows : goal.returns-clause-follows
 returns-clause-follows g c =
     let before = c.args.workers.now in
     let after = c.serve_batch.new.workers in
     let same : c.as_mut_slice.result.now ≡ before = c.as_mut_slice.ensures.value in
-    let back : take (length before) (after ++ drop (length after) before) ≡ after = whole_back before after (c.serve_batch.ensures.lasts.long ∙ ap length same) in
+    let back : take (length before) (after ++ drop (length after) before) ≡ after =
+    whole_back before after (c.serve_batch.ensures.lasts.long ∙ ap length same) in
     if_ok _ _ c.serve_batch.result (λ answers h i d lt.
-    subst (λ (ws : List _). Follows (plans_of c.serve_batch.new.teller) (get_or ws i d)) (sym back) (h i d (subst (λ n. i < n) (sym (ap length same)) lt))) c.serve_batch.ensures.follows
+    subst (λ (ws : List _). Follows (plans_of c.serve_batch.new.teller) (get_or ws i d)) (sym back)
+    (h i d (subst (λ n. i < n) (sym (ap length same)) lt))) c.serve_batch.ensures.follows
 
 pub returns-clause-lasts : goal.returns-clause-lasts
 returns-clause-lasts g c =
@@ -48,18 +55,23 @@ returns-clause-lasts g c =
     let after = c.serve_batch.new.workers in
     let plans : plans_of c.begin.new.self ≡ plans_of c.args.teller.now = c.begin.ensures.plans in
     let same : c.as_mut_slice.result.now ≡ before = c.as_mut_slice.ensures.value in
-    let back : take (length before) (after ++ drop (length after) before) ≡ after = whole_back before after (c.serve_batch.ensures.lasts.long ∙ ap length same) in
+    let back : take (length before) (after ++ drop (length after) before) ≡ after =
+    whole_back before after (c.serve_batch.ensures.lasts.long ∙ ap length same) in
     let lasts = subst (λ (ws : List _). AllPairs (Lasts (length (plans_of c.begin.new.self))) ws after) same c.serve_batch.ensures.lasts in
-    subst (λ (ws : List _). AllPairs (Lasts (length (plans_of c.args.teller.now))) before ws) (sym back) (subst (λ (l : List Verified). AllPairs (Lasts (length l)) before after) plans lasts)
+    subst (λ (ws : List _). AllPairs (Lasts (length (plans_of c.args.teller.now))) before ws) (sym back)
+    (subst (λ (l : List Verified). AllPairs (Lasts (length l)) before after) plans lasts)
 
 pub returns-clause-begins : goal.returns-clause-begins
-returns-clause-begins g c = subst (λ (l : List Verified). IsPrefix l (plans_of c.serve_batch.new.teller)) c.begin.ensures.plans c.serve_batch.ensures.begins
+returns-clause-begins g c = subst (λ (l : List Verified). IsPrefix l
+    (plans_of c.serve_batch.new.teller)) c.begin.ensures.plans c.serve_batch.ensures.begins
 
 pub returns-clause-within : goal.returns-clause-within
-returns-clause-within g c = subst (λ (l : List Verified). IsPrefix (plans_of c.serve_batch.new.teller) l) c.in_ok-begin.ensures.due c.serve_batch.ensures.within
+returns-clause-within g c = subst (λ (l : List Verified). IsPrefix
+    (plans_of c.serve_batch.new.teller) l) c.in_ok-begin.ensures.due c.serve_batch.ensures.within
 
 pub returns-clause-events : goal.returns-clause-events
 returns-clause-events g c =
     if_ok _ _ c.serve_batch.result
-    (λ answers follows. by_events (plans_of c.args.teller.now) (plans_of c.serve_batch.new.teller) c.args.workers.now _ (returns-clause-begins g c) (returns-clause-lasts g c) follows)
+    (λ answers follows. by_events (plans_of c.args.teller.now) (plans_of c.serve_batch.new.teller) c.args.workers.now _
+    (returns-clause-begins g c) (returns-clause-lasts g c) follows)
     (returns-clause-follows g c)

@@ -13,4 +13,7 @@ returns g c =
     let jobs = c.args.jobs.now in
     let plan = c.latest.result.now in
     let served = under_last plans plan states jobs c.args.workers c.latest.ensures in
-    if_ok _ (AreServed plans states jobs c.args.workers (length plans)) c.serve_blocks.result (λ answers is. subst (AreServed plans states jobs c.args.workers (length plans)) (sym is) (subst (λ n. AreServed plans states jobs c.args.workers (length plans) (map (answer_under n plan states) jobs)) (sym c.number.ensures) served)) c.serve_blocks.ensures
+    if_ok _ (AreServed plans states jobs c.args.workers (length plans)) c.serve_blocks.result
+    (λ answers is. subst (AreServed plans states jobs c.args.workers (length plans)) (sym is)
+    (subst (λ n. AreServed plans states jobs c.args.workers (length plans) (map (answer_under n plan states) jobs))
+    (sym c.number.ensures) served)) c.serve_blocks.ensures

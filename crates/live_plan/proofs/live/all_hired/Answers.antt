@@ -11,7 +11,8 @@ loop-index-preserved c =
     let nodes = c.args.teller.now.nodes in
     let h = c.loop-index.invariant in
     let longer : c.push.new.self.items ≡ all ++ w ∷ [] = c.in_ok-push.ensures.items in
-    subst (λ (l : List _). (length l ≡ n + 1) × ((i : ℕ) (d : _) → i < n + 1 → (get_or l i d).index ≡ i) × ((i : ℕ) (d : _) → i < n + 1 → (get_or l i d).place.nodes ≡ nodes)) (sym longer) (
+    subst (λ (l : List _). (length l ≡ n + 1) × ((i : ℕ) (d : _) → i < n + 1 → (get_or l i d).index ≡ i)
+    × ((i : ℕ) (d : _) → i < n + 1 → (get_or l i d).place.nodes ≡ nodes)) (sym longer) (
       length_push all w ∙ ap (λ k. k + 1) h.0,
       all_push (λ i v. v.index ≡ i) all w n h.0 h.1 c.in_ok-worker.ensures.index,
       all_push (λ i v. v.place.nodes ≡ nodes) all w n h.0 h.2 c.in_ok-worker.ensures.nodes,

@@ -11,4 +11,8 @@ shared_out-beside-requires-clause-others g t c κs within =
 pub shared_out-returns : goal.shared_out-returns
 shared_out-returns g t c =
     let cut = c.split_at_mut-first.ensures in
-    record { each = each_of_both (ChangesAt g.F.Fn c.args.f.now) c.args.base c.args.share c.args.items.now _ _ c.beside.new.first c.beside.new.others cut.value cut.front_len (omega arith) c.beside.ensures.first.each c.beside.ensures.others.each }
+    record {
+      each = each_of_both
+          (ChangesAt g.F.Fn c.args.f.now) c.args.base c.args.share c.args.items.now _ _ c.beside.new.first c.beside.new.others cut.value
+          cut.front_len (omega arith) c.beside.ensures.first.each c.beside.ensures.others.each;
+    }

@@ -13,7 +13,8 @@ loop-rest-preserved c =
     let octets = c.in_ok-octets.octets in
     let line = text_line c.first_line-line.result.octets.now c.first_line-line.result.ended in
     let lines = lines_of c.first_line-line.result.rest.now in
-    let put : c.put_line.new.text.items ≡ text ++ (text_of_octets plan octets ++ 10 ∷ []) = c.in_ok-put_line.ensures ∙ ap (λ o. text ++ (text_of_octets plan o ++ 10 ∷ [])) c.as_slice-held.ensures in (
+    let put : c.put_line.new.text.items ≡ text ++ (text_of_octets plan octets ++ 10 ∷ []) = c.in_ok-put_line.ensures
+    ∙ ap (λ o. text ++ (text_of_octets plan o ++ 10 ∷ [])) c.as_slice-held.ensures in (
       ap (λ t. behind t (trace_if_read plan (octets_of_lines (number + 1) lines))) put
           ∙ sym (one_more plan text octets number line lines c.in_ok-octets.ensures.octets)
           ∙ ap (λ ls. behind text (trace_if_read plan (octets_of_lines number ls))) (sym c.first_line-line.ensures.lines)
@@ -23,9 +24,11 @@ loop-rest-preserved c =
 
 pub returns-clause-exact : goal.returns-clause-exact
 returns-clause-exact c =
-    sym c.loop-rest.invariant.0 ∙ at_end c.args.plan.now c.loop-rest.text.items c.loop-rest.rest.now c.loop-rest.number (eqb-true (length c.loop-rest.rest.now) 0 (sym c.is_empty.ensures ∙ c.loop-rest-test.false))
+    sym c.loop-rest.invariant.0 ∙ at_end c.args.plan.now c.loop-rest.text.items c.loop-rest.rest.now c.loop-rest.number
+    (eqb-true (length c.loop-rest.rest.now) 0 (sym c.is_empty.ensures ∙ c.loop-rest-test.false))
 
 pub returns-clause-trace : goal.returns-clause-trace
 returns-clause-trace c =
     is_traced c.args.plan.now c.args.file.now c.loop-rest.text.items
-    (sym c.loop-rest.invariant.0 ∙ at_end c.args.plan.now c.loop-rest.text.items c.loop-rest.rest.now c.loop-rest.number (eqb-true (length c.loop-rest.rest.now) 0 (sym c.is_empty.ensures ∙ c.loop-rest-test.false)))
+    (sym c.loop-rest.invariant.0 ∙ at_end c.args.plan.now c.loop-rest.text.items c.loop-rest.rest.now c.loop-rest.number
+    (eqb-true (length c.loop-rest.rest.now) 0 (sym c.is_empty.ensures ∙ c.loop-rest-test.false)))

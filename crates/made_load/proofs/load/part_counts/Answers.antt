@@ -7,7 +7,8 @@ use Rattle.made_load.proofs.Sending.{of_eight, stands_after}
 use Rattle.made_load.proofs.load.part_counts.Goals as goal
 
 pub pass_all-requires-clause-nodes : goal.pass_all-requires-clause-nodes
-pass_all-requires-clause-nodes c = ap (λ (p : Network). length p.nodes) c.plan-2.ensures.value ∙ of_eight c.args.accepted.now.plan c.args.number c.requires
+pass_all-requires-clause-nodes c = ap (λ (p : Network). length p.nodes) c.plan-2.ensures.value
+    ∙ of_eight c.args.accepted.now.plan c.args.number c.requires
 
 pub pass_all-requires-clause-states : goal.pass_all-requires-clause-states
 pass_all-requires-clause-states c =

@@ -13,11 +13,13 @@ pub build-requires-clause-covers : goal.build-requires-clause-covers
 build-requires-clause-covers c = subst (All HasFewDigits) (sym c.in_ok-covers.ensures) few_digits
 
 pub unreachable-requires : goal.unreachable-requires
-unreachable-requires c = never c.args.number c.in_ok-nodes.nodes c.in_ok-covers.covers c.in-Err.field-0 c.in_ok-nodes.ensures c.in_ok-covers.ensures c.in-Err.ensures.fault
+unreachable-requires c = never c.args.number c.in_ok-nodes.nodes c.in_ok-covers.covers c.in-Err.field-0 c.in_ok-nodes.ensures
+    c.in_ok-covers.ensures c.in-Err.ensures.fault
 
 pub returns-clause-plan : goal.returns-clause-plan
 unfolding load_plan
-returns-clause-plan c = c.in-Ok.ensures.plan ∙ ap (λ nodes. network nodes c.in_ok-covers.covers) c.in_ok-nodes.ensures ∙ ap (λ covers. network (relays c.args.number) covers) c.in_ok-covers.ensures
+returns-clause-plan c = c.in-Ok.ensures.plan ∙ ap (λ nodes. network nodes c.in_ok-covers.covers) c.in_ok-nodes.ensures
+    ∙ ap (λ covers. network (relays c.args.number) covers) c.in_ok-covers.ensures
 
 pub returns-clause-sound : goal.returns-clause-sound
 returns-clause-sound c = subst IsPlan (sym c.in-Ok.ensures.plan) c.in-Ok.ensures.sound

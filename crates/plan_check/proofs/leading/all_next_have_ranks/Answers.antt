@@ -6,5 +6,6 @@ use Rattle.plan_check.proofs.leading.all_next_have_ranks.Goals as goal
 
 pub loop-image-preserved : goal.loop-image-preserved
 loop-image-preserved c =
-    All-more (NextHasRank (rank_in c.args.ranks.now)) c.args.images.now c.loop-image.image-index c.image-item.result c.loop-image-test.true c.loop-image.invariant
+    All-more (NextHasRank (rank_in c.args.ranks.now)) c.args.images.now c.loop-image.image-index c.image-item.result c.loop-image-test.true
+    c.loop-image.invariant
     (subst (NextHasRank (rank_in c.args.ranks.now)) c.image-item.is (c.next_has_rank.ensures.0 c.if-not-next_has_rank.false))

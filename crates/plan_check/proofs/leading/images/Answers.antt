@@ -11,7 +11,8 @@ loop-place-preserved c =
     elim c.if-reaches_by.branch [
       | then-reaches_by+in_ok-push w ↦
           images_pushed c.args.plan.now c.args.class.now c.loop-place.place c.loop-place.images c.if-reaches_by.images w.image_by.result
-          (w.images-is ∙ w.in_ok-push.ensures.ok) c.loop-place.invariant (c.reaches_by.ensures.0 w.if-reaches_by.true) w.image_by.ensures.image
+          (w.images-is ∙ w.in_ok-push.ensures.ok) c.loop-place.invariant
+          (c.reaches_by.ensures.0 w.if-reaches_by.true) w.image_by.ensures.image
       | else-reaches_by w ↦
           subst (AreImages c.args.plan.now c.args.class.now _) (sym w.images-is)
           (images_kept c.args.plan.now c.args.class.now c.loop-place.place c.loop-place.images c.loop-place.invariant
@@ -21,4 +22,6 @@ loop-place-preserved c =
 pub returns-clause-every : goal.returns-clause-every
 returns-clause-every c =
     images_whole c.args.plan.now c.args.class.now c.loop-place.place c.loop-place.images
-    (subst (λ (ts : List Target). length ts ≤ c.loop-place.place) (sym (row_targets c.args.plan.now c.args.class.now c.args.row.now c.requires.row)) (subst (λ (n : ℕ). n ≤ c.loop-place.place) c.target_count-place-end.ensures c.loop-place-test.false)) c.loop-place.invariant
+    (subst (λ (ts : List Target). length ts ≤ c.loop-place.place)
+    (sym (row_targets c.args.plan.now c.args.class.now c.args.row.now c.requires.row))
+    (subst (λ (n : ℕ). n ≤ c.loop-place.place) c.target_count-place-end.ensures c.loop-place-test.false)) c.loop-place.invariant

@@ -9,7 +9,8 @@ loop-number-init c = ranked_none c.args.plan.now (rank_in c.args.ranks.now)
 
 pub loop-number-preserved : goal.loop-number-preserved
 loop-number-preserved c =
-    ranked_next c.args.plan.now (rank_in c.args.ranks.now) c.loop-number.number c.loop-number.greatest c.in-Some.rank c.max-greatest.result c.start.result
+    ranked_next c.args.plan.now
+    (rank_in c.args.ranks.now) c.loop-number.number c.loop-number.greatest c.in-Some.rank c.max-greatest.result c.start.result
     c.max-greatest.ensures c.loop-number.invariant c.start.ensures.value (sym c.get.ensures ∙ c.in-Some.is)
 
 pub returns-in-None-clause-lacks : goal.returns-in-None-clause-lacks

@@ -9,6 +9,7 @@ returns c = λ plan more fewer le h.
     let short : length (take fewer h.0) ≡ fewer = length-take-le fewer h.0 (omega (arith, h.1)) in (
       take fewer h.0,
       short,
-      λ i j d lt in' same. h.2 i j d lt (omega (arith, h.1, short)) (sym (get_or-take fewer h.0 i d (omega (arith, short))) ∙ same ∙ get_or-take fewer h.0 j d (omega (arith, short))),
+      λ i j d lt in' same. h.2 i j d lt (omega (arith, h.1, short)) (sym (get_or-take fewer h.0 i d (omega (arith, short))) ∙ same
+          ∙ get_or-take fewer h.0 j d (omega (arith, short))),
       All-take (λ k. (depth : ℕ) × Reachable plan depth k) fewer h.0 h.3,
     )

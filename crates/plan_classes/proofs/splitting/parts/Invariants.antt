@@ -6,4 +6,5 @@ use Rattle.plan_classes.proofs.splitting.parts.Given as goal
 
 -- the parts so far
 abbrev pub invariant-loop-digit : goal.invariant-loop-digit
-invariant-loop-digit l = l.parts ≡ (if l.class.least == 0 then closed l.class ∷ [] else []) ++ map (extended l.class) (range_with_len 0 l.digit)
+invariant-loop-digit l = l.parts ≡ (if l.class.least == 0 then closed l.class ∷ [] else [])
+    ++ map (extended l.class) (range_with_len 0 l.digit)

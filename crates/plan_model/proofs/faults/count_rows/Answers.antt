@@ -11,10 +11,13 @@ overflow_add-count c = omega arith
 
 pub loop-node-preserved : goal.loop-node-preserved
 loop-node-preserved c =
-    let more = sum_by_more (λ (node : Node). length node.table) c.args.nodes.now c.loop-node.node-index c.node-item.result c.loop-node-test.true in
-    let here : length (get_or c.args.nodes.now c.loop-node.node-index c.node-item.result).table ≡ length c.node-item.result.table = ap (λ (node : Node). length node.table) (sym c.node-item.is) in
+    let more = sum_by_more (λ (node : Node). length node.table) c.args.nodes.now c.loop-node.node-index c.node-item.result
+    c.loop-node-test.true in
+    let here : length (get_or c.args.nodes.now c.loop-node.node-index c.node-item.result).table ≡ length c.node-item.result.table =
+    ap (λ (node : Node). length node.table) (sym c.node-item.is) in
     record {
       count = omega (arith, more, here, c.loop-node.invariant.count, c.min-count.ensures, c.min.ensures, c.len.ensures.count);
       tables = AllWithin-more (λ node. IsTable node.table) _ 0 c.loop-node.node-index c.loop-node.invariant.tables
-          (holds_at (λ node. IsTable node.table) _ c.loop-node.node-index c.node-item.result c.loop-node-test.true c.node-item.is c.len.ensures.sound);
+          (holds_at (λ node. IsTable node.table) _ c.loop-node.node-index c.node-item.result c.loop-node-test.true c.node-item.is
+          c.len.ensures.sound);
     }

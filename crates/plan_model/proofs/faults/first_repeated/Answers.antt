@@ -7,13 +7,16 @@ use Rattle.plan_model.proofs.faults.first_repeated.Goals as goal
 
 pub returns-in-Some : goal.returns-in-Some
 returns-in-Some g c =
-    first_of_here (repeated_at g.N.Named.own_name g.N.Named.own_point c.args.nodes.now) _ c.loop-i.i c.index-nodes-i.result _ _ c.loop-i-test.true (sym c.index-nodes-i.is)
+    first_of_here (repeated_at g.N.Named.own_name g.N.Named.own_point c.args.nodes.now) _ c.loop-i.i c.index-nodes-i.result _ _
+    c.loop-i-test.true (sym c.index-nodes-i.is)
     (ap (option_map (AtNode c.loop-i.i)) (sym c.in-Some.ensures)) c.loop-i.invariant
 
 pub loop-i-preserved : goal.loop-i-preserved
 loop-i-preserved g c =
-    first_of_next (repeated_at g.N.Named.own_name g.N.Named.own_point c.args.nodes.now) _ c.loop-i.i c.index-nodes-i.result _ c.loop-i-test.true (sym c.index-nodes-i.is)
+    first_of_next (repeated_at g.N.Named.own_name g.N.Named.own_point c.args.nodes.now) _ c.loop-i.i c.index-nodes-i.result _
+    c.loop-i-test.true (sym c.index-nodes-i.is)
     (ap (option_map (AtNode c.loop-i.i)) (sym c.in_default.ensures)) c.loop-i.invariant
 
 pub returns : goal.returns
-returns g c = first_of_end (repeated_at g.N.Named.own_name g.N.Named.own_point c.args.nodes.now) _ c.loop-i.i _ c.loop-i-test.false c.loop-i.invariant
+returns g c = first_of_end
+    (repeated_at g.N.Named.own_name g.N.Named.own_point c.args.nodes.now) _ c.loop-i.i _ c.loop-i-test.false c.loop-i.invariant

@@ -16,13 +16,16 @@ returns-then-i-b c =
       | then-i-b-via-then-i-b w ↦
           let none = common_past c.args.a.now c.args.b.now c.loop-i.i w.if-i-b.true in omega arith
       | then-i-b-via-else-i-b+then-b-i w ↦
-          let none = common_prefix_len-drop_no nat_eq c.args.a.now c.args.b.now c.loop-i.i 0 0 c.loop-i-test.true w.if-i-b.false (ne_eqb (slice_index_or c.args.a.now c.loop-i.i 0) (slice_index_or c.args.b.now c.loop-i.i 0) (λ e. w.if-b-i.true (sym e))) in omega arith
+          let none = common_prefix_len-drop_no nat_eq c.args.a.now c.args.b.now c.loop-i.i 0 0 c.loop-i-test.true w.if-i-b.false
+          (ne_eqb (slice_index_or c.args.a.now c.loop-i.i 0) (slice_index_or c.args.b.now c.loop-i.i 0)
+          (λ e. w.if-b-i.true (sym e))) in omega arith
     ]
 
 pub loop-i-preserved : goal.loop-i-preserved
 loop-i-preserved c =
     let h = c.loop-i.invariant in
-    let more = common_prefix_len-drop_yes nat_eq c.args.a.now c.args.b.now c.loop-i.i 0 0 c.loop-i-test.true c.if-i-b.false (eq-eqb (slice_index_or c.args.a.now c.loop-i.i 0) (slice_index_or c.args.b.now c.loop-i.i 0) (omega (arith, c.if-b-i.false))) in
+    let more = common_prefix_len-drop_yes nat_eq c.args.a.now c.args.b.now c.loop-i.i 0 0 c.loop-i-test.true c.if-i-b.false
+    (eq-eqb (slice_index_or c.args.a.now c.loop-i.i 0) (slice_index_or c.args.b.now c.loop-i.i 0) (omega (arith, c.if-b-i.false))) in
     omega arith
 
 pub returns : goal.returns

@@ -17,7 +17,8 @@ bounds-a-front c =
 pub returns-then-front-b : goal.returns-then-front-b
 returns-then-front-b c =
     let fits = common_prefix_len-le nat_eq c.args.a.now c.args.b.now in
-    let short : common c.args.a.now c.args.b.now < length c.args.a.now = omega (arith, c.common-front.ensures, fits.0, c.if-front-a.false) in
+    let short : common c.args.a.now c.args.b.now < length c.args.a.now =
+    omega (arith, c.common-front.ensures, fits.0, c.if-front-a.false) in
     let inside : common c.args.a.now c.args.b.now < length c.args.b.now = omega (arith, c.common-front.ensures, c.if-front-b.true) in
     rw c.common-front.ensures (sym (up_to_next c.args.a.now c.args.b.now 0 0 short inside))
 

@@ -11,5 +11,7 @@ loop-place-preserved g c =
     let parent = c.parent_of-parent.result in
     record {
       count = ap length all ∙ (length-append c.loop-place.parents.items (parent ∷ []) ∙ ap (λ n. n + 1) i.count);
-      parents = subst (AreParents c.args.rows.now c.args.order.now) (sym all) (parents_more c.args.rows.now c.args.order.now c.loop-place.parents.items c.loop-place.place parent i.count i.parents c.parent_of-parent.ensures);
+      parents = subst (AreParents c.args.rows.now c.args.order.now) (sym all)
+          (parents_more c.args.rows.now c.args.order.now c.loop-place.parents.items c.loop-place.place parent i.count i.parents
+          c.parent_of-parent.ensures);
     }

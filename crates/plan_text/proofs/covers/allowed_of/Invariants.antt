@@ -8,4 +8,5 @@ use Rattle.plan_text.proofs.covers.allowed_of.Given as goal
 
 -- the places so far, then those that follow, are what is read
 abbrev pub invariant-loop-value : goal.invariant-loop-value
-invariant-loop-value l = with_front l.read (ahead view (allowed_at l.i) l.value-index l.values) ≡ each_ok (allowed_at l.i) 0 (map view l.values)
+invariant-loop-value l = with_front l.read (ahead view (allowed_at l.i) l.value-index l.values)
+    ≡ each_ok (allowed_at l.i) 0 (map view l.values)

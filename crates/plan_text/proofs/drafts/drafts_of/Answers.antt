@@ -9,6 +9,13 @@ loop-i-preserved c =
     let nodes = map view c.args.nodes.now in
     record {
       value = rw c.in_ok-put.ensures.ok
-          (goes_on view (draft_of nodes) c.loop-i.read c.args.nodes.now c.loop-i.i c.index-nodes-i.result c.in_ok-next.next (drafts_of nodes) c.loop-i-test.true (sym c.index-nodes-i.is) c.in_ok-next.ensures c.loop-i.invariant.value);
-      count = omega (arith, ap length c.in_ok-put.ensures.ok, length-append c.loop-i.read (c.in_ok-next.next ∷ []), c.loop-i.invariant.count);
+          (goes_on view (draft_of nodes) c.loop-i.read c.args.nodes.now c.loop-i.i c.index-nodes-i.result c.in_ok-next.next
+          (drafts_of nodes) c.loop-i-test.true (sym c.index-nodes-i.is) c.in_ok-next.ensures c.loop-i.invariant.value);
+      count = omega (
+        arith,
+        ap length c.in_ok-put.ensures.ok,
+        length-append c.loop-i.read
+            (c.in_ok-next.next ∷ []),
+        c.loop-i.invariant.count,
+      );
     }

@@ -7,4 +7,5 @@ use Rattle.plan_text.proofs.lines.has_other.Given as goal
 abbrev pub invariant-loop-key : goal.invariant-loop-key
 invariant-loop-key l =
     (goal.iterator-loop-key).can_next l.key-iterator × (goal.iterator-loop-key).is_finite l.key-iterator
-    × (has_other (map (λ word. word.now) l.words) (members_view l.key-iterator) ≡ has_other (map (λ word. word.now) l.words) (members_view l.table.entries))
+    × (has_other (map (λ word. word.now) l.words) (members_view l.key-iterator) ≡ has_other (map (λ word. word.now) l.words)
+    (members_view l.table.entries))

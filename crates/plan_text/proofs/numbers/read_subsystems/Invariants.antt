@@ -11,6 +11,7 @@ use Rattle.plan_text.proofs.numbers.read_subsystems.Given as goal
 -- the numbers so far, then those that follow, are what is read
 abbrev pub invariant-loop-value : goal.invariant-loop-value
 invariant-loop-value l = record {
-  value : with_front l.read (ahead view (subsystem_at l.place) l.value-index l.values) ≡ each_ok (subsystem_at l.place) 0 (map view l.values);
+  value : with_front l.read (ahead view (subsystem_at l.place) l.value-index l.values)
+      ≡ each_ok (subsystem_at l.place) 0 (map view l.values);
   sound : All IsSubsystem l.read;
 }

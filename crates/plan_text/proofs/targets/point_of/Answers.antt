@@ -8,10 +8,12 @@ use Rattle.plan_text.proofs.targets.point_of.Goals as goal
 pub returns-in-Some : goal.returns-in-Some
 unfolding point_of
 returns-in-Some c =
-    c.point_at.ensures ∙ sym (ap (λ o. option_map_or point_at o 0) (find-map (is_named c.args.name.now) view c.args.nodes.now ∙ ap (option_map view) (sym c.in-Some.ensures)))
+    c.point_at.ensures ∙ sym (ap (λ o. option_map_or point_at o 0) (find-map (is_named c.args.name.now) view c.args.nodes.now
+    ∙ ap (option_map view) (sym c.in-Some.ensures)))
 
 pub returns-in-None : goal.returns-in-None
 unfolding point_of
 returns-in-None c =
     (rw c.unwrap.ensures at c.new.ensures).1
-    ∙ sym (ap (λ o. option_map_or point_at o 0) (find-map (is_named c.args.name.now) view c.args.nodes.now ∙ ap (option_map view) (sym c.in-None.ensures)))
+    ∙ sym (ap (λ o. option_map_or point_at o 0) (find-map (is_named c.args.name.now) view c.args.nodes.now
+    ∙ ap (option_map view) (sym c.in-None.ensures)))

@@ -6,4 +6,5 @@ use Rattle.plan_verify.proofs.high.high_target.Given as goal
 
 -- no target so far leads to a class of that rank
 abbrev pub invariant-loop-place : goal.invariant-loop-place
-invariant-loop-place l = (place : ℕ) (next : Titles) → place < l.place → LeadsToClass l.plan l.class place next → RanksFrom (rank_in l.ranks) l.least next → ⊥
+invariant-loop-place l = (place : ℕ) (next : Titles) → place < l.place → LeadsToClass l.plan l.class place next
+    → RanksFrom (rank_in l.ranks) l.least next → ⊥

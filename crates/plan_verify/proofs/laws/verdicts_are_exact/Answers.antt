@@ -8,9 +8,11 @@ use Rattle.plan_verify.specs.declared.verdict.Verdict.TheVariants.{Accepted, Ref
 use Rattle.plan_verify.specs.Lawful.{IsLawful, IsAccepted, IsSafeFor}
 use Rattle.plan_verify.proofs.laws.verdicts_are_exact.Goals as goal
 
-exact : (plan : Network) (verdict : Verdict) → IsLawful plan verdict → (ReachesAtLeast plan most_classes → ⊥) → (IsAccepted verdict ↔ (bound : ℕ) × IsSafeFor plan bound)
+exact : (plan : Network) (verdict : Verdict) → IsLawful plan verdict → (ReachesAtLeast plan most_classes → ⊥)
+    → (IsAccepted verdict ↔ (bound : ℕ) × IsSafeFor plan bound)
 exact plan (Accepted accepted) lawful narrow = (λ t. (accepted.bound, lawful.0), λ s. tt)
-exact plan (Refused same w) lawful narrow = (λ t. absurd t, λ s. safe_not_bad plan s.0 w.cover w.spot w.markings w.hops w.kind s.1.few s.1.safe lawful.bad)
+exact plan (Refused same w) lawful narrow =
+    (λ t. absurd t, λ s. safe_not_bad plan s.0 w.cover w.spot w.markings w.hops w.kind s.1.few s.1.safe lawful.bad)
 exact plan (TooWide same) lawful narrow = (λ t. absurd t, λ s. narrow lawful)
 
 pub returns : goal.returns

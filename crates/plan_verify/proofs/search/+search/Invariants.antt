@@ -45,6 +45,7 @@ invariant-explore_row-loop-place l = record {
   sound : IsSound l.plan l.ranks;
   low : 1 ≤ l.rank;
   few : l.depth + l.rank ≤ 14;
-  leads : (place : ℕ) (image : Image) → place < l.place → Reaches l.plan l.class place → HasImage l.plan l.class place image → LeadsWell l.plan (rank_in l.ranks) l.class.cover l.rank image;
+  leads : (place : ℕ) (image : Image) → place < l.place → Reaches l.plan l.class place → HasImage l.plan l.class place image
+      → LeadsWell l.plan (rank_in l.ranks) l.class.cover l.rank image;
   some : 2 ≤ l.rank → LeadsHigh l.plan (rank_in l.ranks) l.class (l.rank - 1);
 }

@@ -11,6 +11,7 @@ use Rattle.plan_verify.proofs.starts.explore_starts.Given as goal
 abbrev pub invariant-loop-number : goal.invariant-loop-number
 invariant-loop-number l = record {
   sound : IsSound l.plan l.ranks;
-  below : (number : ℕ) (cover : Cover) → number < l.number → slice_get l.plan.covers number ≡ Some cover → RanksUpTo (rank_in l.ranks) l.greatest.rank (start_of number cover);
+  below : (number : ℕ) (cover : Cover) → number < l.number → slice_get l.plan.covers number ≡ Some cover
+      → RanksUpTo (rank_in l.ranks) l.greatest.rank (start_of number cover);
   some : 1 ≤ l.greatest.rank → HasStart l.plan l.ranks l.greatest;
 }

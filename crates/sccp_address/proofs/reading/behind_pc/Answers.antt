@@ -21,21 +21,27 @@ behind i pc ssn = title_at (bits i 3 6) ssn.1 >>= λ title. made i pc ssn.0 titl
 pub returns-in_err-ssn : goal.returns-in_err-ssn
 returns-in_err-ssn c =
     let p = err_from_is_err_and c.from_residual.result c.from_residual.ensures.1 in
-    rw (p.1, p.2) (fails (is_memory c.in_err-ssn.field-0.0) c.in_err-ssn.field-0.0 (field_at (if bit c.args.indicator 2 then 1 else 0) c.args.octets.now) (behind c.args.indicator c.args.pc.now) c.in_err-ssn.ensures)
+    rw (p.1, p.2) (fails (is_memory c.in_err-ssn.field-0.0) c.in_err-ssn.field-0.0
+    (field_at (if bit c.args.indicator 2 then 1 else 0) c.args.octets.now) (behind c.args.indicator c.args.pc.now) c.in_err-ssn.ensures)
 
 pub returns-in_err-title : goal.returns-in_err-title
 returns-in_err-title c =
     let p = err_from_is_err_and c.from_residual-in_err-title.result c.from_residual-in_err-title.ensures.1 in
     let fault : AddressFault = c.in_err-title.field-0.0 in
-    let title : MatchBool (is_memory fault) ⊤ (title_at (bits c.args.indicator 3 6) c.in_ok-ssn.rest.now ≡ Err fault) = subst (λ (kind : ℕ). MatchBool (is_memory fault) ⊤ (title_at kind c.in_ok-ssn.rest.now ≡ Err fault)) c.kind_of.ensures c.in_err-title.ensures in
+    let title : MatchBool (is_memory fault) ⊤ (title_at (bits c.args.indicator 3 6) c.in_ok-ssn.rest.now ≡ Err fault) =
+    subst (λ (kind : ℕ). MatchBool (is_memory fault) ⊤ (title_at kind c.in_ok-ssn.rest.now
+    ≡ Err fault)) c.kind_of.ensures c.in_err-title.ensures in
     rw (p.1, p.2) (
-    fails_behind (is_memory fault) fault (field_at (if bit c.args.indicator 2 then 1 else 0) c.args.octets.now) (c.in_ok-ssn.ssn.now, c.in_ok-ssn.rest.now) (behind c.args.indicator c.args.pc.now) c.in_ok-ssn.ensures
-    (fails (is_memory fault) fault (title_at (bits c.args.indicator 3 6) c.in_ok-ssn.rest.now) (made c.args.indicator c.args.pc.now c.in_ok-ssn.ssn.now) title)
+    fails_behind (is_memory fault) fault (field_at (if bit c.args.indicator 2 then 1 else 0) c.args.octets.now)
+    (c.in_ok-ssn.ssn.now, c.in_ok-ssn.rest.now) (behind c.args.indicator c.args.pc.now) c.in_ok-ssn.ensures
+    (fails (is_memory fault) fault (title_at (bits c.args.indicator 3 6) c.in_ok-ssn.rest.now)
+    (made c.args.indicator c.args.pc.now c.in_ok-ssn.ssn.now) title)
     )
 
 pub returns : goal.returns
 returns c =
-    let title : title_at (bits c.args.indicator 3 6) c.in_ok-ssn.rest.now ≡ Ok c.in_ok-title.title = subst (λ (kind : ℕ). title_at kind c.in_ok-ssn.rest.now ≡ Ok c.in_ok-title.title) c.kind_of.ensures c.in_ok-title.ensures in
+    let title : title_at (bits c.args.indicator 3 6) c.in_ok-ssn.rest.now ≡ Ok c.in_ok-title.title =
+    subst (λ (kind : ℕ). title_at kind c.in_ok-ssn.rest.now ≡ Ok c.in_ok-title.title) c.kind_of.ensures c.in_ok-title.ensures in
     rw (c.is_set.ensures, c.is_set-2.ensures, c.pc_of.ensures, c.ssn_of.ensures) (
     ap (λ (r : Result (List ℕ × List ℕ) AddressFault). r >>= behind c.args.indicator c.args.pc.now) c.in_ok-ssn.ensures
     ∙ ap (λ (r : Result Title AddressFault). r >>= made c.args.indicator c.args.pc.now c.in_ok-ssn.ssn.now) title

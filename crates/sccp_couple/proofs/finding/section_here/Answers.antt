@@ -11,4 +11,5 @@ returns-then-eq c =
     let s = c.in_ok-section.field-0.now in
     let at = c.in_ok-section.ensures.lookup in
     let read = slice_get_read xs (length xs) c.args.place s refl (ltb-true c.args.place (length xs) (sym at.0)) at.1 in
-    subst (λ (n : ℕ). section_at xs n ≡ Some s) (eqb-true s.own c.args.own (sym c.if-eq.ensures)) (at_place xs c.args.place s c.requires read)
+    subst (λ (n : ℕ). section_at xs n ≡ Some s) (eqb-true s.own c.args.own (sym c.if-eq.ensures))
+    (at_place xs c.args.place s c.requires read)

@@ -4,4 +4,5 @@ use Rattle.sccp_couple.proofs.ShortParts.{reads_short}
 use Rattle.sccp_couple.proofs.short.vouch_short.Goals as goal
 
 pub returns : goal.returns
-returns c = reads_short c.args.octets.now c.args.message.now (are_octets c.args.octets.now (λ i. omega (arith, c.type_inv.octets i))) c.requires.reads c.requires.kind
+returns c = reads_short c.args.octets.now c.args.message.now
+    (are_octets c.args.octets.now (λ i. omega (arith, c.type_inv.octets i))) c.requires.reads c.requires.kind

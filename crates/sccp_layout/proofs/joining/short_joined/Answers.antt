@@ -25,4 +25,5 @@ pub returns-clause-exact : goal.returns-clause-exact
 returns-clause-exact c =
     let made = parts_made c.args.code c.args.fixed.now c.args.variable.now c.args.params.now in
     let near = rw c.in_ok-start.ensures at c.in_ok-octets.ensures in
-    join_ok c.args.layout.now made c.in_ok-octets.octets.items c.from_vec.result c.requires.short c.requires.fits near (c.from_vec.ensures ∙ c.in_ok-push_list.ensures.spelled ∙ ap (λ (x : List ℕ). x ++ spelled_list c.args.params.now) c.in_ok-push_parts.ensures)
+    join_ok c.args.layout.now made c.in_ok-octets.octets.items c.from_vec.result c.requires.short c.requires.fits near (c.from_vec.ensures
+    ∙ c.in_ok-push_list.ensures.spelled ∙ ap (λ (x : List ℕ). x ++ spelled_list c.args.params.now) c.in_ok-push_parts.ensures)

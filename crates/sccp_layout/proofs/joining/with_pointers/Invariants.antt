@@ -8,6 +8,8 @@ invariant-loop-i l = record {
   short : first_long l.layout l.i (drop l.i l.variable) [] ≡ None;
   behind : after_pointers l.layout ≤ l.place;
   near : l.place ≤ after_pointers l.layout + 65537 * l.i;
-  pointed : with_numbers l.layout l.i l.octets.items (pointers_to l.layout l.i l.place (spelled_parts l.layout l.i (drop l.i l.variable) ++ optional_pieces l.layout l.params))
-      ≡ with_numbers l.layout 0 l.initial.octets.items (pointers_to l.layout 0 (after_pointers l.layout) (spelled_parts l.layout 0 l.variable ++ optional_pieces l.layout l.params));
+  pointed : with_numbers l.layout l.i l.octets.items (pointers_to l.layout l.i l.place (spelled_parts l.layout l.i (drop l.i l.variable)
+      ++ optional_pieces l.layout l.params))
+      ≡ with_numbers l.layout 0 l.initial.octets.items (pointers_to l.layout 0 (after_pointers l.layout)
+      (spelled_parts l.layout 0 l.variable ++ optional_pieces l.layout l.params));
 }

@@ -15,4 +15,5 @@ pub returns-clause-sound : goal.returns-clause-sound
 returns-clause-sound c = answer_sound c.args.octets.now c.whole.result (is_found c.args.octets.now c.whole.result c.whole.ensures)
 
 pub returns-clause-kept : goal.returns-clause-kept
-returns-clause-kept c = answer_kept c.args.octets.now c.whole.result (are_octets c.args.octets.now (λ i. omega (arith, c.type_inv.octets i))) (is_found c.args.octets.now c.whole.result c.whole.ensures)
+returns-clause-kept c = answer_kept c.args.octets.now c.whole.result
+    (are_octets c.args.octets.now (λ i. omega (arith, c.type_inv.octets i))) (is_found c.args.octets.now c.whole.result c.whole.ensures)

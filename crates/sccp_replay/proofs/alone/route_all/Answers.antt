@@ -11,4 +11,5 @@ pub returns-clause-routed : goal.returns-clause-routed
 returns-clause-routed c =
     let at : Standing = standing (routing 1 c.args.first.now c.args.later.now) c.args.states.now in
     (all_routed at (markings_of c.args.states.now) (map settled_in c.args.settled.now) c.loop-one.served
-    (subst (λ l. RoutedSoFar at (markings_of c.args.states.now) (map settled_in c.args.settled.now) (map settled_in l) c.loop-one.served) (drop_all c.loop-one.one-index c.args.settled.now c.loop-one-test.false) c.loop-one.invariant)).0
+    (subst (λ l. RoutedSoFar at (markings_of c.args.states.now) (map settled_in c.args.settled.now) (map settled_in l) c.loop-one.served)
+    (drop_all c.loop-one.one-index c.args.settled.now c.loop-one-test.false) c.loop-one.invariant)).0

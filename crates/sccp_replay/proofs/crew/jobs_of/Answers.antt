@@ -11,12 +11,17 @@ loop-one-preserved c =
     let jobs : List Job = c.loop-one.jobs in
     let few = c.loop-one.invariant.few in
     record {
-      jobs = job_added jobs c.add_job.new.jobs (settled_in c.one-item.result) (map settled_in (drop (c.loop-one.one-index + 1) c.args.settled.now)) c.in_ok-add_job.ensures
-          ∙ subst (λ l. jobs ++ jobs_from (length jobs) (map settled_in l) ≡ jobs_from 0 (map settled_in c.args.settled.now)) (dropped c.args.settled.now c.loop-one.one-index c.one-item.result c.loop-one-test.true c.one-item.is) c.loop-one.invariant.jobs;
+      jobs = job_added jobs c.add_job.new.jobs (settled_in c.one-item.result)
+          (map settled_in (drop (c.loop-one.one-index + 1) c.args.settled.now)) c.in_ok-add_job.ensures
+          ∙ subst (λ l. jobs ++ jobs_from (length jobs) (map settled_in l) ≡ jobs_from 0 (map settled_in c.args.settled.now))
+          (dropped c.args.settled.now c.loop-one.one-index c.one-item.result c.loop-one-test.true c.one-item.is)
+          c.loop-one.invariant.jobs;
       few = omega (arith, few, one_job jobs c.add_job.new.jobs (settled_in c.one-item.result) c.in_ok-add_job.ensures);
     }
 
 pub returns : goal.returns
 returns c =
     let jobs : List Job = c.loop-one.jobs in
-    sym (append-nil jobs) ∙ subst (λ l. jobs ++ jobs_from (length jobs) (map settled_in l) ≡ jobs_from 0 (map settled_in c.args.settled.now)) (drop_all c.loop-one.one-index c.args.settled.now c.loop-one-test.false) c.loop-one.invariant.jobs
+    sym (append-nil jobs) ∙ subst (λ l. jobs ++ jobs_from (length jobs) (map settled_in l)
+    ≡ jobs_from 0 (map settled_in c.args.settled.now))
+    (drop_all c.loop-one.one-index c.args.settled.now c.loop-one-test.false) c.loop-one.invariant.jobs

@@ -11,6 +11,9 @@ use Rattle.sccp_replay.proofs.settle.settle_plan.Goals as goal
 pub returns-in_err-read_later-clause-gives : goal.returns-in_err-read_later-clause-gives
 returns-in_err-read_later-clause-gives g c =
     let p = err_from_is_err_and c.from_residual-in_err-read_later.result c.from_residual-in_err-read_later.ensures.1 in
-    let m : Moment = moment g.F.Files.contents g.F.Files.sound g.F.Files.faults g.K.Sink.taken g.K.Sink.faults c.within_limit.new.files c.within_limit.new.out in
-    rw (p.1, p.2) (λ next. c.in_ok-text.ensures.whole (λ octets. later_work (ahead c.args.at.now c.args.coming.now) c.args.line c.args.name.now (plan_of octets) next) (Err Memory) m
-    (Works-memory (later_work (ahead c.args.at.now c.args.coming.now) c.args.line c.args.name.now (plan_of c.in_ok-text.text.items) next) m))
+    let m : Moment = moment g.F.Files.contents g.F.Files.sound g.F.Files.faults g.K.Sink.taken g.K.Sink.faults c.within_limit.new.files
+    c.within_limit.new.out in
+    rw (p.1, p.2) (λ next. c.in_ok-text.ensures.whole (λ octets. later_work
+    (ahead c.args.at.now c.args.coming.now) c.args.line c.args.name.now (plan_of octets) next) (Err Memory) m
+    (Works-memory (later_work (ahead c.args.at.now c.args.coming.now) c.args.line c.args.name.now
+    (plan_of c.in_ok-text.text.items) next) m))

@@ -17,7 +17,9 @@ mixed_hops-requires-clause-node c = covered_node c.args.old.now c.args.spot.now 
 pub put_mixed_hops-requires-clause-nodes : goal.put_mixed_hops-requires-clause-nodes
 put_mixed_hops-requires-clause-nodes c =
     subst (All (IsMixedHopIn c.args.old.now)) (sym (c.as_slice.ensures ∙ c.in_ok-hops.ensures))
-    (mixed_in c.args.old.now c.args.new.now c.args.spot.now c.args.turns.now c.requires.old c.requires.new (same_length c.args.old.now c.args.new.now c.requires.same) (covered_node c.args.old.now c.args.spot.now c.requires.old c.requires.covered))
+    (mixed_in c.args.old.now c.args.new.now c.args.spot.now c.args.turns.now c.requires.old c.requires.new
+    (same_length c.args.old.now c.args.new.now c.requires.same)
+    (covered_node c.args.old.now c.args.spot.now c.requires.old c.requires.covered))
 
 pub put_mixed_hops-requires-clause-enough : goal.put_mixed_hops-requires-clause-enough
 put_mixed_hops-requires-clause-enough c =

@@ -8,5 +8,8 @@ use Rattle.sccp_report.proofs.verdict.put_longest.Goals as goal
 
 pub put_hops-requires-clause-nodes : goal.put_hops-requires-clause-nodes
 put_hops-requires-clause-nodes c =
-    let here : c.longest-longest.result.now.spot.node < length c.args.plan.now.nodes = subst (λ l. l.spot.node < length c.args.plan.now.nodes) (sym c.longest-longest.ensures.value) (longest_begins c.args.plan.now c.args.accepted.now c.nodes.ensures.sound c.longest-longest.ensures.verified c.requires) in
-    subst (All (IsHopIn c.args.plan.now)) (sym (c.as_slice-2.ensures ∙ c.in_ok-hops.ensures)) (route_in c.args.plan.now _ _ c.nodes.ensures.sound here)
+    let here : c.longest-longest.result.now.spot.node < length c.args.plan.now.nodes =
+    subst (λ l. l.spot.node < length c.args.plan.now.nodes) (sym c.longest-longest.ensures.value)
+    (longest_begins c.args.plan.now c.args.accepted.now c.nodes.ensures.sound c.longest-longest.ensures.verified c.requires) in
+    subst (All (IsHopIn c.args.plan.now)) (sym (c.as_slice-2.ensures ∙ c.in_ok-hops.ensures))
+    (route_in c.args.plan.now _ _ c.nodes.ensures.sound here)

@@ -3,8 +3,11 @@ use Rattle.sccp_scrc.proofs.arriving.after.Goals as goal
 
 pub returns-in-Some : goal.returns-in-Some
 returns-in-Some c address called on =
-    after_sent c.relay.result c.args.plan.now c.args.node c.args.marking.now c.args.origin c.args.message address c.in-Some.to c.args.to c.args.step c.in-Sent.next c.in-Sent.target c.point_of.result c.in-Sent.is c.in-Some.is on c.point_of.ensures c.relay.ensures
+    after_sent c.relay.result c.args.plan.now c.args.node c.args.marking.now c.args.origin c.args.message address c.in-Some.to c.args.to
+    c.args.step c.in-Sent.next c.in-Sent.target c.point_of.result c.in-Sent.is c.in-Some.is on c.point_of.ensures c.relay.ensures
 
 pub returns-in-Some-to : goal.returns-in-Some-to
 returns-in-Some-to c address called on =
-    after_ended c.place.result c.args.plan.now c.args.node c.args.marking.now c.args.origin c.args.message address c.in-Some-to.to c.args.to c.args.step c.in-Ended.pc c.in-Ended.ssn c.in-Ended.target c.point_of-in-Some-to.result c.in-Ended.is c.in-Some-to.is on c.point_of-in-Some-to.ensures c.place.ensures
+    after_ended c.place.result c.args.plan.now c.args.node c.args.marking.now c.args.origin c.args.message address c.in-Some-to.to
+    c.args.to c.args.step c.in-Ended.pc c.in-Ended.ssn c.in-Ended.target c.point_of-in-Some-to.result c.in-Ended.is c.in-Some-to.is
+    on c.point_of-in-Some-to.ensures c.place.ensures

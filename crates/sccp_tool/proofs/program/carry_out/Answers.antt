@@ -12,11 +12,14 @@ unfolding usage
 returns-in-Ok-None g c =
     let e = rw c.in-Ok-None.field-0-is at c.in-Ok-None.ensures in
     let w = c.print_last.ensures in
-    let b : Moment = moment g.F.Files.contents g.F.Files.sound g.F.Files.faults g.K.Sink.taken g.K.Sink.faults c.args.files.now c.args.out.now in
-    let a : Moment = moment g.F.Files.contents g.F.Files.sound g.F.Files.faults g.K.Sink.taken g.K.Sink.faults c.args.files.now c.print_last.new.out in
+    let b : Moment = moment g.F.Files.contents g.F.Files.sound g.F.Files.faults g.K.Sink.taken g.K.Sink.faults c.args.files.now
+    c.args.out.now in
+    let a : Moment = moment g.F.Files.contents g.F.Files.sound g.F.Files.faults g.K.Sink.taken g.K.Sink.faults c.args.files.now
+    c.print_last.new.out in
     rw (← e) (Works-answered (Usage, usage) c.print_last.result b a (λ cut. cut) w.text w.answer refl refl refl)
 
 pub returns-in-Err : goal.returns-in-Err
 returns-in-Err g c =
-    let b : Moment = moment g.F.Files.contents g.F.Files.sound g.F.Files.faults g.K.Sink.taken g.K.Sink.faults c.args.files.now c.args.out.now in
+    let b : Moment = moment g.F.Files.contents g.F.Files.sound g.F.Files.faults g.K.Sink.taken g.K.Sink.faults c.args.files.now
+    c.args.out.now in
     Works-memory (work_of (task_of (texts c.args.words.now))) b

@@ -8,11 +8,13 @@ use Rattle.sccp_tool.proofs.route.hops_from.Goals as goal
 
 pub hops_text-requires-clause-nodes : goal.hops_text-requires-clause-nodes
 hops_text-requires-clause-nodes c =
-    subst (All (IsHopIn c.args.plan.now)) (sym c.in_ok-hops.ensures) (route_in c.args.plan.now c.args.spot c.as_slice-held.result.now c.requires.sound c.requires.node)
+    subst (All (IsHopIn c.args.plan.now)) (sym c.in_ok-hops.ensures)
+    (route_in c.args.plan.now c.args.spot c.as_slice-held.result.now c.requires.sound c.requires.node)
 
 pub hops_text-requires-clause-enough : goal.hops_text-requires-clause-enough
 hops_text-requires-clause-enough c =
-    subst (λ hops. length hops ≤ length c.as_slice-held.result.now) (sym c.in_ok-hops.ensures) (route_short c.args.plan.now c.args.spot c.as_slice-held.result.now)
+    subst (λ hops. length hops ≤ length c.as_slice-held.result.now) (sym c.in_ok-hops.ensures)
+    (route_short c.args.plan.now c.args.spot c.as_slice-held.result.now)
 
 pub returns : goal.returns
 unfolding hops_from

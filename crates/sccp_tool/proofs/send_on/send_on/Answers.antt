@@ -11,5 +11,7 @@ use Rattle.sccp_tool.proofs.send_on.send_on.Goals as goal
 pub returns-in_err-text : goal.returns-in_err-text
 returns-in_err-text g c =
     let p = err_from_is_err_and c.from_residual-in_err-text.result c.from_residual-in_err-text.ensures.1 in
-    let m : Moment = moment g.F.Files.contents g.F.Files.sound g.F.Files.faults g.K.Sink.taken g.K.Sink.faults c.with_plan.new.files c.with_plan.new.out in
-    rw (p.1, p.2) (c.in_ok-plan.ensures.plan (λ plan. answered (Done, send_on_text plan c.args.incoming.now)) (Err Memory) m (Works-memory (answered (Done, send_on_text c.in_ok-plan.plan c.args.incoming.now)) m))
+    let m : Moment = moment g.F.Files.contents g.F.Files.sound g.F.Files.faults g.K.Sink.taken g.K.Sink.faults c.with_plan.new.files
+    c.with_plan.new.out in
+    rw (p.1, p.2) (c.in_ok-plan.ensures.plan (λ plan. answered (Done, send_on_text plan c.args.incoming.now)) (Err Memory) m
+    (Works-memory (answered (Done, send_on_text c.in_ok-plan.plan c.args.incoming.now)) m))

@@ -14,8 +14,10 @@ pub returns-in_err-octets-clause-whole : goal.returns-in_err-octets-clause-whole
 returns-in_err-octets-clause-whole g c =
     let e = c.in_err-octets.ensures.reads in
     let p = err_from_is_err_and c.from_residual.result c.from_residual.ensures.1 in
-    let b : Moment = moment g.F.Files.contents g.F.Files.sound g.F.Files.faults g.K.Sink.taken g.K.Sink.faults c.args.files.now c.args.out.now in
-    let m : Moment = moment g.F.Files.contents g.F.Files.sound g.F.Files.faults g.K.Sink.taken g.K.Sink.faults c.read_whole.new.files c.args.out.now in
+    let b : Moment = moment g.F.Files.contents g.F.Files.sound g.F.Files.faults g.K.Sink.taken g.K.Sink.faults c.args.files.now
+    c.args.out.now in
+    let m : Moment = moment g.F.Files.contents g.F.Files.sound g.F.Files.faults g.K.Sink.taken g.K.Sink.faults c.read_whole.new.files
+    c.args.out.now in
     rw (p.1, p.2)
     (λ next. Works-reading c.args.name.now (file_or_answer next) c.in_err-octets.field-0.0 b m
     (record { contents = e.same; sound = e.soundness; read_faults = e.later; taken = refl; write_faults = refl })
@@ -25,8 +27,10 @@ pub returns-in-Some-clause-whole : goal.returns-in-Some-clause-whole
 returns-in-Some-clause-whole g c =
     let e = c.in_ok-octets.ensures.reads in
     let given = subst (GivesFile (g.F.Files.contents c.args.files.now) c.args.name.now 1048576) c.in-Some.is e.gives in
-    let b : Moment = moment g.F.Files.contents g.F.Files.sound g.F.Files.faults g.K.Sink.taken g.K.Sink.faults c.args.files.now c.args.out.now in
-    let m : Moment = moment g.F.Files.contents g.F.Files.sound g.F.Files.faults g.K.Sink.taken g.K.Sink.faults c.read_whole.new.files c.args.out.now in
+    let b : Moment = moment g.F.Files.contents g.F.Files.sound g.F.Files.faults g.K.Sink.taken g.K.Sink.faults c.args.files.now
+    c.args.out.now in
+    let m : Moment = moment g.F.Files.contents g.F.Files.sound g.F.Files.faults g.K.Sink.taken g.K.Sink.faults c.read_whole.new.files
+    c.args.out.now in
     λ next result after w.
     Works-within c.args.name.now next c.in-Some.octets.items result b m after
     (record { contents = e.same; sound = e.soundness; read_faults = e.later; taken = refl; write_faults = refl })
@@ -37,11 +41,15 @@ unfolding too_long
 returns-in-None-clause-whole g c =
     let e = c.in_ok-octets.ensures.reads in
     let given = subst (GivesFile (g.F.Files.contents c.args.files.now) c.args.name.now 1048576) c.in-None.is e.gives in
-    let b : Moment = moment g.F.Files.contents g.F.Files.sound g.F.Files.faults g.K.Sink.taken g.K.Sink.faults c.args.files.now c.args.out.now in
-    let m : Moment = moment g.F.Files.contents g.F.Files.sound g.F.Files.faults g.K.Sink.taken g.K.Sink.faults c.read_whole.new.files c.args.out.now in
-    let a : Moment = moment g.F.Files.contents g.F.Files.sound g.F.Files.faults g.K.Sink.taken g.K.Sink.faults c.read_whole.new.files c.print_last.new.out in
+    let b : Moment = moment g.F.Files.contents g.F.Files.sound g.F.Files.faults g.K.Sink.taken g.K.Sink.faults c.args.files.now
+    c.args.out.now in
+    let m : Moment = moment g.F.Files.contents g.F.Files.sound g.F.Files.faults g.K.Sink.taken g.K.Sink.faults c.read_whole.new.files
+    c.args.out.now in
+    let a : Moment = moment g.F.Files.contents g.F.Files.sound g.F.Files.faults g.K.Sink.taken g.K.Sink.faults c.read_whole.new.files
+    c.print_last.new.out in
     let w = c.print_last.ensures in
     rw c.early.ensures
     (λ next. Works-long c.args.name.now next given.0 (Err (early c.print_last.result)) b m a
     (record { contents = e.same; sound = e.soundness; read_faults = e.later; taken = refl; write_faults = refl })
-    e.spared given.1 given.2 (Works-early (answered (TooLong, too_long)) c.print_last.result m a (Works-answered (TooLong, too_long) c.print_last.result m a (λ cut. cut) w.text w.answer refl refl refl)))
+    e.spared given.1 given.2 (Works-early (answered (TooLong, too_long)) c.print_last.result m a
+    (Works-answered (TooLong, too_long) c.print_last.result m a (λ cut. cut) w.text w.answer refl refl refl)))

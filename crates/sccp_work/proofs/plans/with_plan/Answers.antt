@@ -12,20 +12,26 @@ use Rattle.sccp_work.proofs.plans.with_plan.Goals as goal
 
 pub returns : goal.returns
 returns g c =
-    let m : Moment = moment g.F.Files.contents g.F.Files.sound g.F.Files.faults g.K.Sink.taken g.K.Sink.faults c.within_limit.new.files c.within_limit.new.out in
-    let a : Moment = moment g.F.Files.contents g.F.Files.sound g.F.Files.faults g.K.Sink.taken g.K.Sink.faults c.within_limit.new.files c.print_last.new.out in
+    let m : Moment = moment g.F.Files.contents g.F.Files.sound g.F.Files.faults g.K.Sink.taken g.K.Sink.faults c.within_limit.new.files
+    c.within_limit.new.out in
+    let a : Moment = moment g.F.Files.contents g.F.Files.sound g.F.Files.faults g.K.Sink.taken g.K.Sink.faults c.within_limit.new.files
+    c.print_last.new.out in
     let line = c.in_ok-line-in-Err.ensures in
     let w = c.print_last.ensures in
     let read = subst (λ b. MatchBool b ⊤ (plan_of c.deref.result.now ≡ Err c.in-Err.fault)) line.told c.in-Err.ensures.plan in
     let is = ap plan_of (sym c.deref.ensures.value) ∙ read in
     record {
-      plan = rw c.early.ensures (λ next. c.in_ok-text.ensures.whole (λ octets. planned (plan_of octets) next) (Err (early c.print_last.result)) a
-          (Works-bad_plan next c.in_ok-text.text.items c.in-Err.fault c.as_slice.result.now c.print_last.result m a is (c.as_slice.ensures ∙ line.line) w.text w.answer refl refl refl));
+      plan = rw c.early.ensures (λ next. c.in_ok-text.ensures.whole (λ octets. planned (plan_of octets) next)
+          (Err (early c.print_last.result)) a
+          (Works-bad_plan next c.in_ok-text.text.items c.in-Err.fault c.as_slice.result.now c.print_last.result m a is (c.as_slice.ensures
+          ∙ line.line) w.text w.answer refl refl refl));
       sound = tt;
     }
 
 pub returns-in_err-line-in-Err-clause-plan : goal.returns-in_err-line-in-Err-clause-plan
 returns-in_err-line-in-Err-clause-plan g c =
     let p = err_from_is_err_and c.from_residual-in_err-line-in-Err.result c.from_residual-in_err-line-in-Err.ensures.1 in
-    let m : Moment = moment g.F.Files.contents g.F.Files.sound g.F.Files.faults g.K.Sink.taken g.K.Sink.faults c.within_limit.new.files c.within_limit.new.out in
-    rw (p.1, p.2) (λ next. c.in_ok-text.ensures.whole (λ octets. planned (plan_of octets) next) (Err Memory) m (Works-memory (planned (plan_of c.in_ok-text.text.items) next) m))
+    let m : Moment = moment g.F.Files.contents g.F.Files.sound g.F.Files.faults g.K.Sink.taken g.K.Sink.faults c.within_limit.new.files
+    c.within_limit.new.out in
+    rw (p.1, p.2) (λ next. c.in_ok-text.ensures.whole (λ octets. planned (plan_of octets) next) (Err Memory) m
+    (Works-memory (planned (plan_of c.in_ok-text.text.items) next) m))

@@ -14,8 +14,10 @@ over-requires c =
     let some : 0 < length xs = omega (arith, long) in
     let first = get_map arc_value xs 0 c.index-as_slice-0.result (get_here xs 0 c.index-as_slice-0.result some c.index-as_slice-0.is) in
     let all : xs ≡ place.plans = c.as_slice.ensures ∙ sym c.new-place.ensures.plans in
-    let at : slice_get (map arc_value place.plans) 0 ≡ Some kept = subst (λ p. slice_get (map arc_value p) 0 ≡ Some kept) all (subst (λ k. slice_get (map arc_value xs) 0 ≡ Some k) (sym c.in_ok-first.ensures.plan) first) in
+    let at : slice_get (map arc_value place.plans) 0 ≡ Some kept = subst (λ p. slice_get (map arc_value p) 0 ≡ Some kept) all
+    (subst (λ k. slice_get (map arc_value xs) 0 ≡ Some k) (sym c.in_ok-first.ensures.plan) first) in
     rw (c.in_ok-first.ensures.number) (record {
       nodes_are = place.alike 0 kept at;
-      last = λ l e. let same : map arc_value place.plans ≡ l = cc e in subst (λ x. (1 ≡ place.seen) × HasPlan x 1 kept) same (sym c.new-place.ensures.seen, (omega arith, at));
+      last = λ l e. let same : map arc_value place.plans ≡ l = cc e in subst (λ x. (1 ≡ place.seen) × HasPlan x 1 kept) same
+          (sym c.new-place.ensures.seen, (omega arith, at));
     })

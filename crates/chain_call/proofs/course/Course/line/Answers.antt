@@ -8,4 +8,5 @@ use Rattle.chain_call.proofs.course.Course.line.Goals as goal
 
 pub returns : goal.returns
 returns c =
-    subst (λ (k : Course). IfOk c.line.result (λ l. option_map (told_line k.plan) l ≡ line (network_of k.plan) (world_at k) c.args.point c.args.reference)) c.self.view_is c.line.ensures.line
+    subst (λ (k : Course). IfOk c.line.result (λ l. option_map (told_line k.plan) l
+    ≡ line (network_of k.plan) (world_at k) c.args.point c.args.reference)) c.self.view_is c.line.ensures.line

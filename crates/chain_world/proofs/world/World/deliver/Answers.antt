@@ -6,4 +6,5 @@ use Rattle.chain_world.proofs.world.World.deliver.Goals as goal
 
 pub hand_out-requires-clause-outer : goal.hand_out-requires-clause-outer
 hand_out-requires-clause-outer c =
-    subst (λ (k : Kept). is_node (network_of k.plan) c.args.to ≡ false) c.self.view_is (node_not_there c.self.inside.plan c.args.to (sym c.node_at.ensures ∙ c.in-None-node_at.is))
+    subst (λ (k : Kept). is_node (network_of k.plan) c.args.to ≡ false) c.self.view_is
+    (node_not_there c.self.inside.plan c.args.to (sym c.node_at.ensures ∙ c.in-None-node_at.is))

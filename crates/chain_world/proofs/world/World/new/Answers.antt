@@ -7,4 +7,5 @@ use Rattle.chain_world.proofs.world.World.new.Goals as goal
 pub invariant_of-result : goal.invariant_of-result
 invariant_of-result c =
     begins c.args.plan c.in_ok-relays.relays.items c.new.result.items c.new-2.result.items c.nodes.ensures.sound
-    (c.in_ok-relays.ensures ∙ ap (λ (n : ℕ). map first_relay (range_with_len 0 n)) (ap length (c.as_slice.ensures ∙ c.nodes.ensures.value))) c.new.ensures.items c.new-2.ensures.items
+    (c.in_ok-relays.ensures ∙ ap (λ (n : ℕ). map first_relay (range_with_len 0 n))
+    (ap length (c.as_slice.ensures ∙ c.nodes.ensures.value))) c.new.ensures.items c.new-2.ensures.items

@@ -21,13 +21,18 @@ found c = c.least.ensures ∙ ap (λ (ls : List Link). best_of ls None ls) c.as_
 pub returns-clause-some : goal.returns-clause-some
 returns-clause-some c =
     if_some c.least.result
-    (λ p e. subst (λ (k : Kept). IsNextLink (world_of k) p.0 p.1) c.self.view_is (next_by c.self.inside.plan c.self.inside.relays.items c.self.inside.links.items c.self.inside.history.items c.self.invariant p (sym (found c) ∙ e)))
+    (λ p e. subst (λ (k : Kept). IsNextLink (world_of k) p.0 p.1) c.self.view_is
+    (next_by c.self.inside.plan c.self.inside.relays.items c.self.inside.links.items c.self.inside.history.items c.self.invariant p
+    (sym (found c) ∙ e)))
 
 pub returns-clause-none : goal.returns-clause-none
 returns-clause-none c =
     if_none c.least.result
-    (λ e. subst (λ (k : Kept). IsSettled (world_of k)) c.self.view_is (none_next c.self.inside.plan c.self.inside.relays.items c.self.inside.links.items c.self.inside.history.items c.self.invariant (sym (found c) ∙ e)))
+    (λ e. subst (λ (k : Kept). IsSettled (world_of k)) c.self.view_is
+    (none_next c.self.inside.plan c.self.inside.relays.items c.self.inside.links.items c.self.inside.history.items c.self.invariant
+    (sym (found c) ∙ e)))
 
 pub returns-clause-settled : goal.returns-clause-settled
 returns-clause-settled c = λ settled.
-    found c ∙ settled_none c.self.inside.plan c.self.inside.relays.items c.self.inside.links.items c.self.inside.history.items c.self.invariant (subst (λ (k : Kept). IsSettled (world_of k)) (sym c.self.view_is) settled)
+    found c ∙ settled_none c.self.inside.plan c.self.inside.relays.items c.self.inside.links.items c.self.inside.history.items
+    c.self.invariant (subst (λ (k : Kept). IsSettled (world_of k)) (sym c.self.view_is) settled)

@@ -15,10 +15,14 @@ advance-requires g c =
     let one : c.push.new.self ≡ c.args.next ∷ [] = search rules in
     let same : c.in-Some.next ≡ c.args.next = search rules in
     let plans : plans_of c.begin.new.self ≡ plans_of c.args.self.now = c.begin.ensures.plans in
-    has_due (due_of c.begin.new.self) (plans_of c.begin.new.self) c.push.new.self [] c.in-Some.next (c.in_ok-begin.ensures.due ∙ ap (λ l. l ++ c.push.new.self) (sym plans)) (one ∙ ap (λ (p : Verified). p ∷ []) (sym same))
+    has_due (due_of c.begin.new.self) (plans_of c.begin.new.self) c.push.new.self [] c.in-Some.next (c.in_ok-begin.ensures.due
+    ∙ ap (λ l. l ++ c.push.new.self) (sym plans)) (one ∙ ap (λ (p : Verified). p ∷ []) (sym same))
 
 pub returns-clause-ok : goal.returns-clause-ok
 returns-clause-ok g c =
     let same : c.in-Some.next ≡ c.args.next = search rules in
-    let plans : plans_of c.begin.new.self ≡ plans_of c.args.self.now = c.begin.ensures.plans in
-    (c.in_ok-advance.ensures.ok ∙ (ap (λ l. l ++ c.in-Some.next ∷ []) plans ∙ ap (λ (p : Verified). plans_of c.args.self.now ++ p ∷ []) same), c.number.ensures)
+    let plans : plans_of c.begin.new.self ≡ plans_of c.args.self.now = c.begin.ensures.plans in (
+      c.in_ok-advance.ensures.ok ∙ (ap (λ l. l ++ c.in-Some.next ∷ []) plans
+          ∙ ap (λ (p : Verified). plans_of c.args.self.now ++ p ∷ []) same),
+      c.number.ensures,
+    )

@@ -18,7 +18,8 @@ publish_as-writer-requires g c next is =
     let e : arc_value next.shown ≡ y = last_shown _ _ _ _ _ is c.in-Ok.ensures.pending in
     let told : v ≡ newcomer = ap (λ d. known_by d.place) c.in-Ok.ensures.desk ∙ c.in_ok-writer.ensures.2 in
     let now : x ≡ c.in_ok-writer.writer.desk.shown.value = ap (λ d. d.shown.value) c.in-Ok.ensures.desk in
-    let before : (arc_value x.shown).batch ≡ 1 = ap (λ (p : Published). (arc_value p.shown).batch) (now ∙ c.in_ok-writer.ensures.0) ∙ ap (λ (s : Shown). s.batch) c.in_ok-first.ensures.ok in
+    let before : (arc_value x.shown).batch ≡ 1 = ap (λ (p : Published). (arc_value p.shown).batch) (now ∙ c.in_ok-writer.ensures.0)
+    ∙ ap (λ (s : Shown). s.batch) c.in_ok-first.ensures.ok in
     let after : y.batch ≡ 2 = ap (λ (s : Shown). s.batch) c.in_ok-begun.ensures.ok in
     let number : y.number ≡ 1 = ap (λ (s : Shown). s.number) c.in_ok-begun.ensures.ok in
     let coming : y.coming.value ≡ c.args.first ∷ [] = search rules in
@@ -26,7 +27,8 @@ publish_as-writer-requires g c next is =
     let later : (arc_value next.shown).batch ≡ y.batch = ap (λ (s : Shown). s.batch) e in
     let here = first_here y c.args.first number coming plan in
     let there = subst (λ (k : Known). HasPlan (seen_of k ++ y.coming.value) y.number (arc_value y.plan)) (sym told) here in
-    begins (λ (p : Published). arc_value p.shown) _ v x next (omega (arith, before, after, later)) (subst (λ (s : Shown). HasPlan (seen_of v ++ s.coming.value) s.number (arc_value s.plan)) (sym e) there)
+    begins (λ (p : Published). arc_value p.shown) _ v x next (omega (arith, before, after, later))
+    (subst (λ (s : Shown). HasPlan (seen_of v ++ s.coming.value) s.number (arc_value s.plan)) (sym e) there)
 
 pub invariant_of-result : goal.invariant_of-result
 invariant_of-result g c =
@@ -42,7 +44,9 @@ invariant_of-result g c =
     let knows = ok_match c.publish_as-writer.result.1 _ _ _ c.in-Ok-published.is c.publish_as-writer.ensures.rule in
     let e : arc_value now.desk.shown.value.shown ≡ y = last_shown _ _ _ _ _ values.0 c.in-Ok.ensures.pending in
     let k : known_by now.desk.place ≡ begun newcomer y = knows ∙ (ap (λ s. begun v s) e ∙ ap (λ (u : Known). begun u y) told) in
-    let first : IsTelling nodes y (begun newcomer y) = first_telling nodes y c.args.first number coming plan (sym c.count_nodes-nodes.ensures) in
+    let first : IsTelling nodes y (begun newcomer y) = first_telling nodes y c.args.first number coming plan
+    (sym c.count_nodes-nodes.ensures) in
     record {
-      telling = subst (λ (u : Known). IsTelling nodes (arc_value now.desk.shown.value.shown) u) (sym k) (subst (λ (s : Shown). IsTelling nodes s (begun newcomer y)) (sym e) first);
+      telling = subst (λ (u : Known). IsTelling nodes (arc_value now.desk.shown.value.shown) u) (sym k)
+          (subst (λ (s : Shown). IsTelling nodes s (begun newcomer y)) (sym e) first);
     }

@@ -7,4 +7,5 @@ pub returns : goal.returns
 returns c =
     let same : c.as_slice.result.now ≡ c.args.self.now = cc in
     let q = c.index-as_slice-i.result in
-    slice_get_read c.args.self.now (length c.args.self.now) c.args.i q refl c.requires (subst (λ (rows : List Rule). q ≡ slice_index_or rows c.args.i q) same c.index-as_slice-i.is)
+    slice_get_read c.args.self.now (length c.args.self.now) c.args.i q refl c.requires
+    (subst (λ (rows : List Rule). q ≡ slice_index_or rows c.args.i q) same c.index-as_slice-i.is)

@@ -15,8 +15,10 @@ pub loop-place-preserved : goal.loop-place-preserved
 loop-place-preserved c =
     let text = c.args.text.now in
     let inside : c.loop-place.place < length text = omega arith in
-    let taken : digit_at text c.loop-place.place ≡ Ok c.in-Some.half = ap (λ (o : Option ℕ). ok_or o (NotDigit c.loop-place.place)) (sym c.in-Some.ensures.value) in
+    let taken : digit_at text c.loop-place.place ≡ Ok c.in-Some.half = ap (λ (o : Option ℕ). ok_or o (NotDigit c.loop-place.place))
+    (sym c.in-Some.ensures.value) in
     record {
-      whole = rw c.push.ensures (goes_on (digit_at text) c.loop-place.digits (length text) c.loop-place.place c.in-Some.half (all_ok (digit_at text) (range_with_len 0 (length text))) inside taken c.loop-place.invariant.whole);
+      whole = rw c.push.ensures (goes_on (digit_at text) c.loop-place.digits (length text) c.loop-place.place c.in-Some.half
+          (all_ok (digit_at text) (range_with_len 0 (length text))) inside taken c.loop-place.invariant.whole);
       count = rw c.push.ensures (omega (arith, length-append c.loop-place.digits (c.in-Some.half ∷ []), c.loop-place.invariant.count));
     }

@@ -7,7 +7,8 @@ use Rattle.sccp_base.proofs.digits.Digits.unpack.Goals as goal
 
 pub returns-then-len-gt32 : goal.returns-then-len-gt32
 returns-then-len-gt32 c =
-    let many : 32 < length (unpacked c.args.octets.now c.args.odd) = omega (arith, length-unpacked c.args.octets.now c.args.odd, bool_byte_is c.args.odd) in
+    let many : 32 < length (unpacked c.args.octets.now c.args.odd) =
+    omega (arith, length-unpacked c.args.octets.now c.args.odd, bool_byte_is c.args.odd) in
     sym (too_many (unpacked c.args.octets.now c.args.odd) _ many)
 
 pub invariant_of-digits : goal.invariant_of-digits
@@ -24,4 +25,9 @@ returns c =
     let os = c.args.octets.now in
     let hs = halves os in
     let done : c.loop-place.place ≡ 2 * length os - cond c.args.odd 1 0 = omega (arith, bool_byte_is c.args.odd) in
-    rw (in_places (unpacked os c.args.odd) _ (omega (arith, length-unpacked os c.args.odd, bool_byte_is c.args.odd)), c.loop-place.invariant, done) refl
+    rw (
+      in_places (unpacked os c.args.odd) _
+          (omega (arith, length-unpacked os c.args.odd, bool_byte_is c.args.odd)),
+      c.loop-place.invariant,
+      done,
+    ) refl

@@ -10,4 +10,5 @@ pub returns : goal.returns
 returns c =
     let plans = plans_of c.self.inside.teller in
     subst (λ r. c.latest.result.now.plan ≡ latest (standing r [])) c.self.view_is
-    (last_plan (routing (length c.self.inside.workers) (entry_plan c.self.inside.first) (drop 1 plans)) [] plans (length plans) c.latest.result.now c.self.invariant.0.begins refl c.latest.ensures)
+    (last_plan (routing (length c.self.inside.workers) (entry_plan c.self.inside.first) (drop 1 plans)) [] plans
+    (length plans) c.latest.result.now c.self.invariant.0.begins refl c.latest.ensures)
