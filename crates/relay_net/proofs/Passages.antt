@@ -109,7 +109,7 @@ pub rests : (plan : Network) (states : List (List Mark)) (node : ℕ) (m new : M
     → Passing plan states node m new p → p ≡ passes.Stays hop → Rests plan node (held_at states node) new hop
 rests plan states node m new p hop h is =
     let k = subst (Passing plan states node m new) is h in
-    subst (λ (x : Message). Rests plan node (held_at states node) x hop) (sym k.0.0) (record { unrelayed = k.0.1; hop = k.1 })
+    subst (λ (x : Message). Rests plan node (held_at states node) x hop) (sym k.0.0) (record { unrelayed = k.0.1; found = k.1 })
 
 -- ---- at its rest
 

@@ -1,6 +1,6 @@
 -- one turn of a trip
-use Rattle.std.specs.Prelude.{◌≡◌, ℕ, ◌-◌, ◌<◌, List, [], ◌∷◌, Option, Some, ◌++◌, Result, Ok, Err, IfOk, length, refl}
-use Rattle.std.proofs.Common.{zero, suc, sym, ◌∙◌, ap, arith, append_assoc}
+use Rattle.std.specs.Prelude.{◌≡◌, ℕ, ◌-◌, ◌<◌, List, [], ◌∷◌, Some, length, refl}
+use Rattle.std.proofs.Common.{zero, suc, sym, ◌∙◌, ap, arith}
 use Rattle.sccp_base.specs.declared.mark.Mark.{Mark}
 use Rattle.sccp_message.specs.Reading.{reading}
 use Rattle.plan_model.specs.Network.{Network, IsPlan, node_of}
@@ -8,9 +8,7 @@ use Rattle.sccp_scrc.specs.Arriving.{arrival, point_of}
 use Rattle.sccp_scrc.specs.declared.arrival.Arrival.{Arrival}
 use Rattle.sccp_scrc.specs.declared.arrival.Arrival.TheVariants.{Relayed}
 use Rattle.sccp_scrc.specs.declared.arrival.Arrival.TheVariants as arrivals
-use Rattle.sccp_scrc.specs.Outcomes.{IsRelayed}
 use Rattle.sccp_scrc.proofs.Meaning.{Means, means}
-use Rattle.relay_net.specs.Relays.{RelaysWithin}
 use Rattle.relay_net.specs.Journeys.{Trip, trip, after, held_at, onward, travel, most_arrivals, trip_of, last_node}
 
 pub travel_turn : (plan : Network) (states : List (List Mark)) (left node origin : ℕ) (b : List ℕ) → 0 < left

@@ -18,4 +18,4 @@ pub record GoesOn (earlier : List ℕ) (before : Trip) (path : List ℕ) (rest :
 -- From no origin is the message relayed by the node, which holds the marking. A hop that is given was looked up for it there.
 pub record Rests (plan : Network) (node : ℕ) (marking : List Mark) (m : Message) (hop : Option Hop) : Type 0 where
   pub unrelayed : (origin : ℕ) → is_relayed (by_called plan node marking origin m (called_of m)) ≡ false
-  pub hop : IfSome hop (IsStepped plan node marking (λ origin. by_called plan node marking origin m (called_of m)) m)
+  pub found : IfSome hop (IsStepped plan node marking (λ origin. by_called plan node marking origin m (called_of m)) m)
