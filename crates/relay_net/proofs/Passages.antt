@@ -1,9 +1,10 @@
 -- a message that is passed from relay to relay, compared with its octets
-use Rattle.std.specs.Prelude.{◌≡◌, ℕ, ◌-◌, ◌<◌, false, List, [], ◌∷◌, ◌++◌, Option, Some, Result, Ok, Err, IfOk, length, refl}
+use Rattle.std.specs.Prelude.{◌≡◌, ℕ, ◌-◌, ◌<◌, false, List, [], ◌∷◌, ◌++◌, Option, Some, Result, Ok, Err, IfOk, IfSome, length, refl}
 use Rattle.std.proofs.Common.{zero, suc, sym, ◌∙◌, ap, subst, append_assoc}
 use Rattle.std.proofs.lemmas.Bool.{false≢true}
 use Rattle.sccp_base.specs.declared.mark.Mark.{Mark}
 use Rattle.sccp_message.specs.declared.message.Message.{Message}
+use Rattle.sccp_message.specs.declared.fault.DecodeFault.{DecodeFault}
 use Rattle.sccp_message.specs.Reading.{reading}
 use Rattle.sccp_message.specs.Written.{message_octets}
 use Rattle.sccp_message.specs.Unitdata.{called_of}
@@ -15,7 +16,7 @@ use Rattle.sccp_scrc.specs.declared.arrival.Arrival.TheVariants as arrivals
 use Rattle.sccp_scrc.specs.Arriving.{arrival, by_called, of_message, point_of}
 use Rattle.sccp_scrc.specs.declared.passed.Passed.{Passed}
 use Rattle.sccp_scrc.specs.declared.passed.Passed.TheVariants as passes
-use Rattle.sccp_scrc.specs.Passing.{sent_on, is_relayed, IsPassed, ReadsAgain}
+use Rattle.sccp_scrc.specs.Passing.{sent_on, is_relayed, IsStepped, IsPassed, ReadsAgain}
 use Rattle.sccp_scrc.proofs.Redirected.{reads_again}
 use Rattle.sccp_scrc.proofs.Arrivals.{node_again}
 use Rattle.sccp_scrc.proofs.Onward.{sent_reads}
@@ -52,7 +53,7 @@ pub passed_again : {E : Type 0} (r : Result Passed E) (plan : Network) (node : �
     → IfOk r (λ p. ReadsAgain new)
 passed_again (Err e) plan node marking m new is again h = tt
 passed_again (Ok (passes.On next)) plan node marking m new is again h = sent_reads plan node marking m new is again h.2
-passed_again (Ok (passes.Stays hop)) plan node marking m new is again h = subst ReadsAgain (sym h.0) again
+passed_again (Ok (passes.Stays hop)) plan node marking m new is again h = subst ReadsAgain (sym h.0.0) again
 
 -- ---- one turn
 
@@ -117,17 +118,27 @@ rests plan states node m new p hop h is =
 apart : (x : Arrival) (pc : ℕ) (octets : List ℕ) → is_relayed x ≡ false → x ≡ Relayed pc octets → ⊥
 apart x pc octets e is = false≢true (sym e ∙ ap is_relayed is)
 
-pub unrelayed : {E : Type 0} (r : Result Arrival E) (plan : Network) (node : ℕ) (marking : List Mark) (origin : ℕ) (m : Message)
-    → ((from : ℕ) → is_relayed (by_called plan node marking from m (called_of m)) ≡ false) →
+pub unrelayed : {E : Type 0} (r : Result Arrival E) (plan : Network) (node : ℕ) (marking held : List Mark) (origin : ℕ) (m : Message)
+    → marking ≡ held → ((from : ℕ) → is_relayed (by_called plan node held from m (called_of m)) ≡ false) →
     IfOk r (λ a. a ≡ by_called plan node marking origin m (called_of m)) → IfOk r (λ a. is_relayed a ≡ false)
-unrelayed (Err e) plan node marking origin m never h = tt
-unrelayed (Ok a) plan node marking origin m never h = ap is_relayed h ∙ never origin
+unrelayed (Err e) plan node marking held origin m same never h = tt
+unrelayed (Ok a) plan node marking held origin m same never h = ap is_relayed h
+    ∙ (ap (λ (x : List Mark). is_relayed (by_called plan node x origin m (called_of m))) same ∙ never origin)
 
-pub ended_last : {E : Type 0} (r : Result Arrival E) (plan : Network) (states : List (List Mark)) (left node origin : ℕ) (b : List ℕ)
-    → 0 < left → IfOk r (λ a. a ≡ arrival plan node (held_at states node) origin b) → IfOk r (λ a. is_relayed a ≡ false) →
-    IfOk r (λ a. travel plan states left node origin b ≡ trip (node ∷ []) (Some a))
-ended_last (Err e) plan states left node origin b lt h never = tt
-ended_last (Ok a) plan states left node origin b lt h never = last_turn plan states left node origin b a lt h
+-- the hop that was looked up
+pub looked_up : (plan : Network) (node : ℕ) (marking held : List Mark) (m : Message) (o : Option Hop) (hop : Hop) → marking ≡ held
+    → o ≡ Some hop →
+    IfSome o (IsStepped plan node held (λ origin. by_called plan node held origin m (called_of m)) m)
+    → IsStepped plan node marking (λ origin. by_called plan node marking origin m (called_of m)) m hop
+looked_up plan node marking held m o hop same is h =
+    subst (λ (x : List Mark). IsStepped plan node x (λ origin. by_called plan node x origin m (called_of m)) m hop) (sym same)
+    (subst (λ (q : Option Hop). IfSome q (IsStepped plan node held (λ origin. by_called plan node held origin m (called_of m)) m)) is h)
+
+-- it is the last arrival of the trip
+pub last_here : (plan : Network) (states : List (List Mark)) (left node origin : ℕ) (b : List ℕ) (a : Arrival) → 0 < left
+    → a ≡ arrival plan node (held_at states node) origin b → is_relayed a ≡ false
+    → travel plan states left node origin b ≡ trip (node ∷ []) (Some a)
+last_here plan states left node origin b a lt h never = last_turn plan states left node origin b a lt h
     (λ pc octets is. apart a pc octets never is)
 
 -- ---- the first arrival
