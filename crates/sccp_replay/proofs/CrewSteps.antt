@@ -19,6 +19,7 @@ use Rattle.live_plan.specs.Batches.{AreServed}
 use Rattle.live_plan.specs.Plans.{HaveNodes}
 use Rattle.live_plan.proofs.Passed.{has_within}
 use Rattle.sccp_work.specs.Numbers.{NeverFall}
+use Rattle.sccp_replay.specs.Incoming.{incoming_in}
 use Rattle.sccp_replay.specs.Replay.{Standing, Settled, prints, routes, accepted, plan_at}
 use Rattle.sccp_replay.specs.Replayers.{AreRouted, ComesToNode, IsRouted, RoutesBatch, RoutesLine, job_of, jobs_from, number_in, numbers_of}
 use Rattle.sccp_replay.specs.Replayers.{settled_in}
@@ -63,8 +64,8 @@ pub entries_fit : (plan : Network) (i : ℕ) (settled : List code.Settled.Settle
     → All (λ (job : Job). job.entry < length plan.nodes) (jobs_from i (map settled_in settled))
 entries_fit plan i [] fits = All-nil (λ (job : Job). job.entry < length plan.nodes)
 entries_fit plan i (Prints text ∷ settled) fits = entries_fit plan i settled (All-tail (ComesToNode plan) (Prints text) settled fits)
-entries_fit plan i (Routes line entry origin octets before ∷ settled) fits =
-    let one = Routes line entry origin octets before in
+entries_fit plan i (Routes line x before ∷ settled) fits =
+    let one = Routes line x before in
     All-cons (λ (job : Job). job.entry < length plan.nodes) _ (jobs_from (i + 1) (map settled_in settled))
     (All-head (ComesToNode plan) one settled fits)
     (entries_fit plan (i + 1) settled (All-tail (ComesToNode plan) one settled fits))
@@ -172,11 +173,10 @@ each_routed at markings i [] [] long fits each = tt
 each_routed at markings i [] (s ∷ served) long fits each = absurd (omega (arith, long))
 each_routed at markings i (Prints text ∷ settled) served long fits each = each_routed at markings i settled served long
     (All-tail (ComesToNode at.first) (Prints text) settled fits) each
-each_routed at markings i (Routes line entry origin octets before ∷ settled) [] long fits each = absurd (omega (arith, long))
-each_routed at markings i (Routes line entry origin octets before ∷ settled) (s ∷ served) long fits each =
-    let one = Routes line entry origin octets before in
-    let x : Incoming = record { entry = entry; origin = origin; octets = octets } in (
-      each 0 i x s (All-head (ComesToNode at.first) one settled fits) refl refl,
+each_routed at markings i (Routes line x before ∷ settled) [] long fits each = absurd (omega (arith, long))
+each_routed at markings i (Routes line x before ∷ settled) (s ∷ served) long fits each =
+    let one = Routes line x before in (
+      each 0 i (incoming_in x) s (All-head (ComesToNode at.first) one settled fits) refl refl,
       each_routed at markings (i + 1) settled served (omega (arith, long)) (All-tail (ComesToNode at.first) one settled fits)
           (λ k index y t lt job answer. each (suc k) index y t lt job answer),
     )

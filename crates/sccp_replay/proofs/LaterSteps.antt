@@ -8,17 +8,19 @@ use Rattle.plan_verify.specs.declared.verdict.Verdict.TheVariants.{Accepted, Ref
 use Rattle.plan_verify.specs.declared.witness.Witness.{Witness}
 use Rattle.relay_net.specs.Batches.{Incoming}
 use Rattle.sccp_report.specs.Events.{event_text}
-use Rattle.sccp_report.specs.Roles.{Role, routed, later, aside, incoming, role_of}
+use Rattle.sccp_report.specs.Roles.{Role, routed, later, aside, role_of}
 use Rattle.sccp_report.specs.Verdicts.{verdict_text}
 use Rattle.trace_text.specs.declared.line.Numbered.{Numbered}
 use Rattle.sccp_work.specs.Ending.{Works}
 use Rattle.sccp_replay.specs.Gathering.{joining_role}
+use Rattle.sccp_replay.specs.Incoming.{incoming_in}
 use Rattle.sccp_replay.specs.LaterPlans.{accepted_plan_line, refused_plan_head, bad_plan_line, other_nodes_line}
 use Rattle.plan_text.specs.PlanText.{plan_of}
 use Rattle.sccp_work.specs.Limit.{within_limit}
 use Rattle.sccp_work.specs.Moment.{Moment}
 use Rattle.sccp_replay.specs.Replayers.{settled_in}
 use Rattle.sccp_replay.specs.Replaying.{EndsAs}
+use Rattle.sccp_replay.specs.declared.incoming as arriving
 use Rattle.sccp_replay.specs.declared.joined.Joining.{Joining}
 use Rattle.sccp_replay.specs.declared.joined.Joining.TheVariants.{Routed, Later, Aside}
 use Rattle.sccp_replay.specs.declared.settled as code
@@ -103,13 +105,13 @@ aside_line at line s m told = λ next result after h. subst (λ t. Works (next a
 
 -- ---- as the code knows it
 
-pub routed_gives : (at : Standing) (line : Numbered) (joining : Joining) (entry origin : ℕ) (octets : List ℕ) (before : ℕ) (m : Moment)
-    → joining ≡ Routed entry origin octets → joining_role joining ≡ role_of at.first line.line
-    → before ≡ accepted at → GivesLine at line (Ok (Routes line.number entry origin octets before)) at m m
-routed_gives at line joining entry origin octets before m kind e is next =
-    let x : Incoming = incoming entry origin octets in
-    by_role at line (routed x) at (routes line.number x before) m m (subst (λ j. joining_role j ≡ role_of at.first line.line) kind e)
-    (routed_line at line x before m is) next
+pub routed_gives : (at : Standing) (line : Numbered) (joining : Joining) (x : arriving.Incoming.Incoming) (before : ℕ) (m : Moment)
+    → joining ≡ Routed x → joining_role joining ≡ role_of at.first line.line
+    → before ≡ accepted at → GivesLine at line (Ok (Routes line.number x before)) at m m
+routed_gives at line joining x before m kind e is next =
+    by_role at line (routed (incoming_in x)) at (routes line.number (incoming_in x) before) m m
+    (subst (λ j. joining_role j ≡ role_of at.first line.line) kind e)
+    (routed_line at line (incoming_in x) before m is) next
 
 pub aside_gives : (at : Standing) (line : Numbered) (joining : Joining) (s : code.Settled.Settled) (m : Moment) → joining ≡ Aside
     → joining_role joining ≡ role_of at.first line.line

@@ -146,7 +146,7 @@ gathers_more at batch whole one m is few = λ next result after h.
 
 joins : (at : Standing) (batch : List Numbered) (line : Numbered) (joining : Joining) (next : Standing → List Numbered → Work)
     → gathered at (batch ++ line ∷ []) next ≡ line_work at batch line (joining_role joining) next
-joins at batch line (Routed entry origin octets) next = refl
+joins at batch line (Routed x) next = refl
 joins at batch line (Later name) next = refl
 joins at batch line Aside next = refl
 

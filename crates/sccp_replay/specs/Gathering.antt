@@ -2,10 +2,11 @@
 use Rattle.std.specs.Prelude.{◌≡◌, ℕ, ◌+◌, ◌≤◌, Bool, true, false, List, length, filter, map}
 use Rattle.std.specs.List.{All}
 use Rattle.plan_model.specs.Network.{Network}
-use Rattle.sccp_report.specs.Roles.{Role, routed, later, aside, incoming, role_of, StandsIn}
+use Rattle.sccp_report.specs.Roles.{Role, routed, later, aside, role_of, StandsIn}
 use Rattle.trace_text.specs.declared.line.Line.{Line}
 use Rattle.trace_text.specs.declared.line.Line.TheVariants.{Skip}
 use Rattle.trace_text.specs.declared.line.Numbered.{Numbered}
+use Rattle.sccp_replay.specs.Incoming.{incoming_in}
 use Rattle.sccp_replay.specs.Replay.{Standing, is_message, is_full}
 use Rattle.sccp_replay.specs.declared.joined.Joined.{Joined}
 use Rattle.sccp_replay.specs.declared.joined.Joining.{Joining}
@@ -13,7 +14,7 @@ use Rattle.sccp_replay.specs.declared.joined.Joining.TheVariants.{Routed, Later,
 
 -- what the code knows of a line that joined a batch, as a role
 abbrev pub joining_role : Joining → Role
-joining_role (Routed entry origin octets) = routed (incoming entry origin octets)
+joining_role (Routed x) = routed (incoming_in x)
 joining_role (Later name) = later name
 joining_role Aside = aside
 

@@ -6,10 +6,10 @@ use Rattle.relay_net.specs.States.{State, markings_of}
 use Rattle.relay_net.specs.declared.job.Job.{Job}
 use Rattle.relay_net.specs.declared.served.Served.{Served}
 use Rattle.sccp_base.specs.declared.mark.Mark.{Mark}
-use Rattle.sccp_report.specs.Roles.{incoming}
 use Rattle.sccp_report.specs.Served.{served_text}
 use Rattle.relay_net.specs.Batches.{CanBeDone, Incoming, applied_after, due_after}
 use Rattle.sccp_work.specs.Numbers.{AreNumbers}
+use Rattle.sccp_replay.specs.Incoming.{incoming_in}
 use Rattle.sccp_replay.specs.Replay.{Standing, Settled, prints, routes, Told, accepted_before, batch_of, journey_by}
 use Rattle.sccp_replay.specs.Routings.{ArePlans}
 use Rattle.sccp_replay.specs.declared.settled.Settled.TheVariants.{Prints, Routes}
@@ -23,12 +23,12 @@ pub record IsStanding (s : Standing) : Type 0 where
 -- a settled line of the code
 abbrev pub settled_in : code.Settled.Settled → Settled
 settled_in (Prints text) = prints text
-settled_in (Routes line entry origin octets before) = routes line (incoming entry origin octets) before
+settled_in (Routes line x before) = routes line (incoming_in x) before
 
 -- the message arrives at a node of the plan
 abbrev pub ComesToNode : Network → code.Settled.Settled → Type 0
 ComesToNode plan (Prints text) = Unit {0}
-ComesToNode plan (Routes line entry origin octets before) = entry < length plan.nodes
+ComesToNode plan (Routes line x before) = x.entry < length plan.nodes
 
 -- each message arrives at a node of the plan, and a batch has no more lines than a trace
 pub record MayBeRouted (plan : Network) (settled : List code.Settled.Settled) : Type 0 where

@@ -1,15 +1,16 @@
 //! One worker, who routes the messages of a replay in turn.
 ghost use Rattle.std.specs.Prelude.{◌≡◌, ◌+◌, ◌^◌, ◌<◌, [], ◌++◌, All, map, length, IfOk, OnOk};
 ghost use Rattle.relay_net.specs.States.{markings_of};
-ghost use Rattle.sccp_report.specs.Roles.{incoming};
+ghost use Rattle.sccp_replay.specs.Incoming.{incoming_in};
 ghost use Rattle.sccp_replay.specs.Replay.{latest, plan_at};
 ghost use Rattle.sccp_replay.specs.Replayers.{AreRouted, ComesToNode, IsRouted, RoutesBatch, RoutesLine, number_in, numbers_of, settled_in};
 ghost use Rattle.sccp_replay.specs.Routings.{ArePlans, IsRouting, ahead, plan_in, routing, standing};
 
+use crate::incoming::Incoming;
 use crate::settled::Settled;
 use plan_check::Accepted;
 use relay_net::{NodeState, Served, journey};
-use sccp_base::{List, OutOfMemory, PointCode};
+use sccp_base::{List, OutOfMemory};
 use std::alloc::Global;
 use std::marker::Model;
 
@@ -50,21 +51,27 @@ fn route_one(
     later: &[Accepted],
     states: &[NodeState],
     number: u32,
-    entry: u8,
-    origin: PointCode,
-    octets: &[u8],
+    incoming: &Incoming,
 ) -> Result<Served, OutOfMemory>
     requires plans { IsRouting (routing 1 first.now later.now) }
     requires states { length states.now ≡ length first.now.plan.nodes }
-    requires entry { entry < length first.now.plan.nodes }
+    requires entry { incoming.now.entry < length first.now.plan.nodes }
     ensures number { IfOk result (λ one. one.number ≡ number) }
     ensures routed { IfOk result (IsRouted (standing (routing 1 first.now later.now) states.now) (markings_of states.now)
-        (incoming entry origin octets.now)) }
+        (incoming_in incoming.now)) }
 {
     let accepted = plan_of_number(first, later, number);
     // This call ensures that the plan is sound.
     let _plan = accepted.plan();
-    let journey = journey(alloc, accepted, states, entry, origin, octets)?;
+    let octets = incoming.octets.as_slice();
+    let journey = journey(
+        alloc,
+        accepted,
+        states,
+        incoming.entry,
+        incoming.origin,
+        octets,
+    )?;
     Ok(Served { number, journey })
 }
 
@@ -86,16 +93,11 @@ fn route_line(
     match one {
         Settled::Prints(_) => Ok(()),
         Settled::Routes {
-            entry,
-            origin,
-            octets,
+            incoming,
             before,
             ..
         } => {
-            let octets = octets.as_slice();
-            let one = route_one(
-                alloc, first, later, states, *before, *entry, *origin, octets,
-            )?;
+            let one = route_one(alloc, first, later, states, *before, incoming)?;
             served.push(one)
         }
     }

@@ -4,6 +4,7 @@ ghost use Rattle.sccp_replay.specs.Gathering.{MayBeDone, lines_in};
 ghost use Rattle.sccp_work.specs.Moment.{moment};
 ghost use Rattle.sccp_replay.specs.Settling.{GivesBatch};
 
+use crate::host::Host;
 use crate::joined::Joined;
 use crate::replayer::Replayer;
 use crate::settle::settle;
@@ -13,7 +14,6 @@ use sccp_base::List;
 use sccp_io::{Files, Sink};
 use sccp_report::Text;
 use sccp_work::Stop;
-use std::alloc::Global;
 use std::sync::Wait;
 use std::thread::Threads;
 
@@ -22,9 +22,7 @@ use std::thread::Threads;
 /// lines.
 #[tactic(auto, using(crate::proofs::BatchSteps::settled_memory, crate::proofs::BatchSteps::batch_told))]
 pub fn batch_text<R: Threads + Wait + Sync, G: Gate + Sync, F: Files, K: Sink>(
-    rt: &R,
-    gate: &G,
-    alloc: Global,
+    host: &Host<'_, R, G>,
     at: &mut Replayer,
     joined: List<Joined>,
     files: &mut F,
@@ -40,10 +38,10 @@ pub fn batch_text<R: Threads + Wait + Sync, G: Gate + Sync, F: Files, K: Sink>(
 {
     // This call ensures that the plans are sound.
     let _first = at.first();
-    let mut coming = List::new(alloc);
-    let settled = settle(alloc, at, &mut coming, joined, files, out)?;
+    let mut coming = List::new(host.alloc);
+    let settled = settle(at, &mut coming, joined, files, out)?;
     let settled = settled.as_slice();
-    let served = at.route(rt, gate, settled, coming)?;
-    let text = tell(alloc, at, settled, served.as_slice())?;
+    let served = at.route(host, settled, coming)?;
+    let text = tell(host.alloc, at, settled, served.as_slice())?;
     Ok(text)
 }

@@ -4,6 +4,7 @@ ghost use Rattle.sccp_replay.specs.Replay.{latest};
 ghost use Rattle.sccp_replay.specs.Replayers.{MayBeRouted, RoutesBatch, jobs_from, settled_in};
 ghost use Rattle.sccp_replay.specs.Routings.{ArePlans, IsRouting, ahead, routing, standing};
 
+use crate::host::Host;
 use crate::settled::Settled;
 use live_plan::{Entry, Gate, Live, LivePlace, Teller, Worker, serve_jobs};
 use plan_check::Accepted;
@@ -43,18 +44,13 @@ fn add_job(alloc: Global, one: &Settled, jobs: &mut List<Job>) -> Result<(), Out
 {
     match one {
         Settled::Prints(_) => Ok(()),
-        Settled::Routes {
-            entry,
-            origin,
-            octets,
-            ..
-        } => {
+        Settled::Routes { incoming, .. } => {
             let index = jobs.as_slice().len() as u32;
             jobs.push(Job {
                 index,
-                entry: *entry,
-                origin: *origin,
-                octets: octets.try_clone(alloc)?,
+                entry: incoming.entry,
+                origin: incoming.origin,
+                octets: incoming.octets.try_clone(alloc)?,
             })
         }
     }
@@ -124,9 +120,7 @@ impl Crew {
     /// Routes the messages of a batch, and publishes its plans at the same time.
     pub fn route<R: Threads + Wait + Sync, G: Gate + Sync>(
         &mut self,
-        rt: &R,
-        gate: &G,
-        alloc: Global,
+        host: &Host<'_, R, G>,
         states: &[NodeState],
         settled: &[Settled],
         coming: List<Accepted>,
@@ -142,16 +136,16 @@ impl Crew {
     {
         // This call ensures that the plans are sound.
         let _first = self.first();
-        let jobs = jobs_of(alloc, settled)?;
+        let jobs = jobs_of(host.alloc, settled)?;
         serve_jobs(
-            rt,
-            alloc,
+            host.rt,
+            host.alloc,
             &mut self.teller,
             &mut self.workers,
             states,
             &jobs,
             coming,
-            gate,
+            host.gate,
         )
     }
 

@@ -1,16 +1,13 @@
 //! A line of a trace that joined a batch.
-use sccp_base::{Octets, PointCode};
+use crate::incoming::Incoming;
+use sccp_base::Octets;
 use trace_text::Numbered;
 
 /// What a line is to the batch that it joins.
 #[derive(Drop)]
 pub enum Joining {
-    /// A message that is to be routed: the node that it arrives at, the point that it is from, its octets.
-    Routed {
-        entry: u8,
-        origin: PointCode,
-        octets: Octets,
-    },
+    /// A message that is to be routed.
+    Routed(Incoming),
     /// A later plan, in the file of this name.
     Later(Octets),
     /// It is only printed.

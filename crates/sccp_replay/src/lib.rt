@@ -9,6 +9,8 @@ mod alone;
 mod batch;
 mod crew;
 mod gathered;
+mod host;
+mod incoming;
 mod joined;
 mod later_lines;
 mod replayer;
@@ -21,5 +23,6 @@ mod tell;
 mod tracing;
 mod workers;
 
+pub use host::Host;
 pub use replaying::replay;
 pub use workers::Workers;

@@ -4,19 +4,22 @@ ghost use Rattle.plan_model.specs.Network.{IsPlan};
 ghost use Rattle.plan_model.specs.SameNodes.{SameNodes};
 ghost use Rattle.relay_net.specs.Batches.{CanBeDone, applied_after, due_after};
 ghost use Rattle.std.specs.Option.{option_map};
-ghost use Rattle.sccp_report.specs.Roles.{StandsIn, alone, as_due, incoming};
+ghost use Rattle.sccp_report.specs.Roles.{StandsIn, alone, as_due};
+ghost use Rattle.sccp_replay.specs.Incoming.{incoming_in};
 ghost use Rattle.sccp_replay.specs.Replay.{accepted, done_alone, start};
 ghost use Rattle.sccp_replay.specs.Replayers.{IsStanding, MayBeRouted, RoutesBatch, settled_in};
 ghost use Rattle.sccp_replay.specs.Routers.{routing_of};
 ghost use Rattle.sccp_replay.specs.Routings.{ArePlans, AtMostOneMore, HasRoom, ahead, standing};
 
+use crate::host::Host;
+use crate::incoming::Incoming;
 use crate::router::Router;
 use crate::settled::Settled;
 use live_plan::Gate;
 use plan_check::Accepted;
 use plan_model::Plan;
 use relay_net::{Journey, Net, Outcome, Served};
-use sccp_base::{List, OutOfMemory, PointCode};
+use sccp_base::{List, OutOfMemory};
 use sccp_report::Due;
 use std::alloc::Global;
 use std::marker::Model;
@@ -82,6 +85,11 @@ impl Replayer {
         }
     }
 
+    /// The allocator of all that it does.
+    pub fn alloc(&self) -> Global {
+        self.alloc
+    }
+
     /// The first plan. Each later one has its nodes.
     pub fn first(&self) -> &Plan
         ensures value { result.now ≡ self.now.first }
@@ -116,8 +124,7 @@ impl Replayer {
     /// Routes the messages of a batch under what the nodes hold prohibited, and accepts the plans of the batch.
     pub fn route<R: Threads + Wait + Sync, G: Gate + Sync>(
         &mut self,
-        rt: &R,
-        gate: &G,
+        host: &Host<'_, R, G>,
         settled: &[Settled],
         coming: List<Accepted>,
     ) -> Result<List<Served>, OutOfMemory>
@@ -126,27 +133,26 @@ impl Replayer {
         ensures at { OnOk result (self.new ≡ ahead self.old coming) }
         ensures served { IfOk result (RoutesBatch self.old (ahead self.old coming) (map settled_in settled.now)) }
     {
-        self.by
-            .route(rt, gate, self.alloc, self.net.states(), settled, coming)
+        self.by.route(host, self.net.states(), settled, coming)
     }
 
     /// Does what the end of a journey leaves to be done.
     pub fn apply_after(
         &mut self,
-        entry: u8,
-        origin: PointCode,
-        octets: &[u8],
+        incoming: &Incoming,
         journey: &Journey,
     ) -> Result<List<Outcome>, OutOfMemory>
-        requires { CanBeDone (length self.old.first.nodes) (due_after (incoming entry origin octets.now) journey.now.path journey.now.end) }
+        requires { CanBeDone (length self.old.first.nodes) (due_after (incoming_in incoming.now) journey.now.path journey.now.end) }
         ensures ok { OnOk result (self.new ≡ record self.old
-            { states = (applied_after self.old.first self.old.states (incoming entry origin octets.now) journey.now).states }) }
+            { states = (applied_after self.old.first self.old.states (incoming_in incoming.now) journey.now).states }) }
         ensures outcomes { IfOk result
-            (λ os. os ≡ (applied_after self.old.first self.old.states (incoming entry origin octets.now) journey.now).outcomes) }
+            (λ os. os ≡ (applied_after self.old.first self.old.states (incoming_in incoming.now) journey.now).outcomes) }
     {
         let first = self.by.first();
+        let entry = incoming.entry;
+        let octets = incoming.octets.as_slice();
         self.net
-            .apply_after(first.plan(), entry, origin, octets, journey)
+            .apply_after(first.plan(), entry, incoming.origin, octets, journey)
     }
 
     /// Does what a line that ends a batch asks for, under the latest plan.

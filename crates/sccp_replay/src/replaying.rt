@@ -8,6 +8,7 @@ ghost use Rattle.sccp_replay.specs.Replay.{replay_work, replayed, start, trace_w
 ghost use Rattle.sccp_replay.specs.Trace.{trace_of};
 ghost use Rattle.sccp_work.specs.Work.{print, read};
 
+use crate::host::Host;
 use crate::later_lines::first_plan_line;
 use crate::replayer::Replayer;
 use crate::tracing::replay_trace;
@@ -17,16 +18,21 @@ use plan_check::Accepted;
 use plan_verify::Verdict;
 use sccp_io::{Files, Sink};
 use sccp_work::{Status, Stop, put_all, tell_verdict, with_plan};
-use std::alloc::Global;
 use std::sync::Wait;
 use std::thread::Threads;
+
+/// What a replay is asked for: the names of the files with its first plan and its trace, and the number of its workers.
+#[derive(Drop)]
+struct Asked<'a> {
+    plan: &'a str,
+    trace: &'a str,
+    workers: &'a Workers,
+}
 
 /// Replays the trace of the second file under the plan of the first one, with this number of workers.
 #[tactic(auto, unfolding(crate::specs::Replay::replay_work))]
 pub fn replay<R: Threads + Wait + Sync, G: Gate + Sync, F: Files, K: Sink>(
-    rt: &R,
-    gate: &G,
-    alloc: Global,
+    host: &Host<'_, R, G>,
     plan: &str,
     trace: &str,
     workers: &Workers,
@@ -37,35 +43,34 @@ pub fn replay<R: Threads + Wait + Sync, G: Gate + Sync, F: Files, K: Sink>(
         (moment F.contents F.sound F.faults K.taken K.faults files.old out.old)
         (moment F.contents F.sound F.faults K.taken K.faults files.new out.new) }
 {
-    let first = with_plan(alloc, plan, files, out)?;
-    let verdict = plan_verify::verify(alloc, first)?;
-    replay_judged(rt, gate, alloc, verdict, plan, trace, workers, files, out)
+    let first = with_plan(host.alloc, plan, files, out)?;
+    let verdict = plan_verify::verify(host.alloc, first)?;
+    let asked = Asked {
+        plan,
+        trace,
+        workers,
+    };
+    replay_judged(host, verdict, &asked, files, out)
 }
 
 /// Does what follows the verdict on the first plan.
 fn replay_judged<R: Threads + Wait + Sync, G: Gate + Sync, F: Files, K: Sink>(
-    rt: &R,
-    gate: &G,
-    alloc: Global,
+    host: &Host<'_, R, G>,
     verdict: Verdict,
-    plan: &str,
-    trace: &str,
-    workers: &Workers,
+    asked: &Asked<'_>,
     files: &mut F,
     out: &mut K,
 ) -> Result<Status, Stop>
     requires plan { IsPlan (plan_of verdict) }
     requires lawful { IsLawful (plan_of verdict) verdict }
-    ensures { Works (replayed plan.now trace.now workers.now.count (plan_of verdict) verdict) result
+    ensures { Works (replayed asked.now.plan.now asked.now.trace.now asked.now.workers.now.count (plan_of verdict) verdict) result
         (moment F.contents F.sound F.faults K.taken K.faults files.old out.old)
         (moment F.contents F.sound F.faults K.taken K.faults files.new out.new) }
 {
     match verdict {
-        Verdict::Accepted(accepted) => replay_accepted(
-            rt, gate, alloc, accepted, plan, trace, workers, files, out,
-        ),
+        Verdict::Accepted(accepted) => replay_accepted(host, accepted, asked, files, out),
         other => {
-            let told = tell_verdict(alloc, &other, out);
+            let told = tell_verdict(host.alloc, &other, out);
             drop(other);
             told
         }
@@ -74,25 +79,21 @@ fn replay_judged<R: Threads + Wait + Sync, G: Gate + Sync, F: Files, K: Sink>(
 
 /// Writes the line of the first plan, which was accepted, and replays the trace.
 fn replay_accepted<R: Threads + Wait + Sync, G: Gate + Sync, F: Files, K: Sink>(
-    rt: &R,
-    gate: &G,
-    alloc: Global,
+    host: &Host<'_, R, G>,
     accepted: Accepted,
-    plan: &str,
-    trace: &str,
-    workers: &Workers,
+    asked: &Asked<'_>,
     files: &mut F,
     out: &mut K,
 ) -> Result<Status, Stop>
-    ensures { Works (print (first_plan_line plan.now accepted.bound)
-        (read trace.now (λ octets. trace_work (start workers.now.count accepted.plan) (trace_of octets)))) result
+    ensures { Works (print (first_plan_line asked.now.plan.now accepted.bound)
+        (read asked.now.trace.now (λ octets. trace_work (start asked.now.workers.now.count accepted.plan) (trace_of octets)))) result
         (moment F.contents F.sound F.faults K.taken K.faults files.old out.old)
         (moment F.contents F.sound F.faults K.taken K.faults files.new out.new) }
 {
-    let line = first_plan_line(alloc, plan, &accepted)?;
+    let line = first_plan_line(host.alloc, asked.plan, &accepted)?;
     put_all(out, line.as_slice())?;
-    let mut at = Replayer::new(rt, alloc, accepted, workers.count())?;
-    let answered = replay_trace(rt, gate, alloc, &mut at, trace, files, out);
-    at.end(rt);
+    let mut at = Replayer::new(host.rt, host.alloc, accepted, asked.workers.count())?;
+    let answered = replay_trace(host, &mut at, asked.trace, files, out);
+    at.end(host.rt);
     answered
 }

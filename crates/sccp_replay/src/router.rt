@@ -7,6 +7,7 @@ ghost use Rattle.sccp_replay.specs.Routings.{ArePlans, IsRouting, ahead, routing
 
 use crate::alone::Alone;
 use crate::crew::Crew;
+use crate::host::Host;
 use crate::settled::Settled;
 use live_plan::Gate;
 use plan_check::Accepted;
@@ -76,9 +77,7 @@ impl Router {
     /// Routes the messages of a batch under these states of the nodes, and accepts the plans that are in it.
     pub fn route<R: Threads + Wait + Sync, G: Gate + Sync>(
         &mut self,
-        rt: &R,
-        gate: &G,
-        alloc: Global,
+        host: &Host<'_, R, G>,
         states: &[NodeState],
         settled: &[Settled],
         coming: List<Accepted>,
@@ -93,8 +92,8 @@ impl Router {
             (ahead (standing (routing_of self.old) states.now) coming) (map settled_in settled.now)) }
     {
         match self {
-            Router::Alone(alone) => alone.route(alloc, states, settled, coming),
-            Router::Crew(crew) => crew.route(rt, gate, alloc, states, settled, coming),
+            Router::Alone(alone) => alone.route(host.alloc, states, settled, coming),
+            Router::Crew(crew) => crew.route(host, states, settled, coming),
         }
     }
 

@@ -136,7 +136,6 @@ fn read_later(
 
 /// Settles a plan line: its file is read beside the trace.
 fn settle_plan<F: Files, K: Sink>(
-    alloc: Global,
     at: &Replayer,
     coming: &mut List<Accepted>,
     line: u32,
@@ -152,6 +151,7 @@ fn settle_plan<F: Files, K: Sink>(
     ensures fits { IfOk result (ComesToNode at.now.first) }
     ensures left { F.left files.new ≡ F.left files.old }
 {
+    let alloc = at.alloc();
     let text = within_limit(alloc, Opened::Beside, name, files, out)?;
     Ok(read_later(alloc, at, coming, line, name, &text)?)
 }
@@ -169,7 +169,6 @@ fn settle_aside(alloc: Global, at: &Replayer, line: &Numbered) -> Result<Settled
 /// Settles a plan line whose file has this name. A file name of a trace has only visible octets of ASCII.
 #[tactic(auto, using(crate::proofs::TakeSteps::works_memory))]
 fn settle_named<F: Files, K: Sink>(
-    alloc: Global,
     at: &Replayer,
     coming: &mut List<Accepted>,
     line: u32,
@@ -186,7 +185,7 @@ fn settle_named<F: Files, K: Sink>(
     ensures left { F.left files.new ≡ F.left files.old }
 {
     match std::str::from_utf8(name) {
-        Ok(name) => settle_plan(alloc, at, coming, line, name, files, out),
+        Ok(name) => settle_plan(at, coming, line, name, files, out),
         Err(_) => Err(Stop::Memory),
     }
 }
@@ -194,7 +193,6 @@ fn settle_named<F: Files, K: Sink>(
 /// What a line of a batch is settled to.
 #[tactic(auto, using(crate::proofs::LaterSteps::routed_gives, crate::proofs::LaterSteps::named_gives, crate::proofs::LaterSteps::aside_gives, crate::proofs::TakeSteps::works_memory, crate::proofs::ReplayerLemmas::none_more))]
 fn settle_line<F: Files, K: Sink>(
-    alloc: Global,
     at: &Replayer,
     coming: &mut List<Accepted>,
     one: Joined,
@@ -213,28 +211,21 @@ fn settle_line<F: Files, K: Sink>(
 {
     let Joined { line, joining } = one;
     match joining {
-        Joining::Routed {
-            entry,
-            origin,
-            octets,
-        } => Ok(Settled::Routes {
+        Joining::Routed(incoming) => Ok(Settled::Routes {
             line: line.number,
-            entry,
-            origin,
-            octets,
+            incoming,
             before: at.accepted(coming),
         }),
         Joining::Later(name) => {
             let name = name.as_slice();
-            settle_named(alloc, at, coming, line.number, name, files, out)
+            settle_named(at, coming, line.number, name, files, out)
         }
-        Joining::Aside => Ok(settle_aside(alloc, at, &line)?),
+        Joining::Aside => Ok(settle_aside(at.alloc(), at, &line)?),
     }
 }
 
 /// What the lines of a batch are settled to, in their order.
 pub fn settle<F: Files, K: Sink>(
-    alloc: Global,
     at: &Replayer,
     coming: &mut List<Accepted>,
     joined: List<Joined>,
@@ -251,9 +242,9 @@ pub fn settle<F: Files, K: Sink>(
     ensures fits { IfOk result (MayBeRouted at.now.first) }
     ensures left { F.left files.new ≡ F.left files.old }
 {
-    let mut settled = List::new(alloc);
+    let mut settled = List::new(at.alloc());
     for one in joined.into_vec() {
-        settled.push(settle_line(alloc, at, coming, one, files, out)?)?;
+        settled.push(settle_line(at, coming, one, files, out)?)?;
     }
     Ok(settled)
 }

@@ -10,6 +10,8 @@ ghost use Rattle.sccp_replay.specs.Settling.{TakesLine, TakesLines, WritesBatch,
 
 use crate::batch::batch_text;
 use crate::gathered::Gathered;
+use crate::host::Host;
+use crate::incoming::Incoming;
 use crate::joined::{Joined, Joining};
 use crate::replayer::Replayer;
 use live_plan::Gate;
@@ -25,9 +27,7 @@ use trace_text::{Line, Numbered};
 /// Does a full batch, and writes its text.
 #[tactic(auto, using(crate::proofs::TakeSteps::batch_stopped, crate::proofs::TakeSteps::batch_written))]
 fn write_full<R: Threads + Wait + Sync, G: Gate + Sync, F: Files, K: Sink>(
-    rt: &R,
-    gate: &G,
-    alloc: Global,
+    host: &Host<'_, R, G>,
     at: &mut Replayer,
     batch: &mut Gathered,
     files: &mut F,
@@ -41,16 +41,14 @@ fn write_full<R: Threads + Wait + Sync, G: Gate + Sync, F: Files, K: Sink>(
     ensures few { OnOk result (length at.new.later ≤ length at.old.later + length batch.old) }
     ensures left { F.left files.new ≡ F.left files.old }
 {
-    let text = batch_text(rt, gate, alloc, at, batch.take(alloc), files, out)?;
+    let text = batch_text(host, at, batch.take(host.alloc), files, out)?;
     put_all(out, text.into_octets().as_slice())
 }
 
 /// Adds a line to the batch that has begun. The batch is done if it is full then.
 #[tactic(auto, using(crate::proofs::TakeSteps::gathers_full, crate::proofs::TakeSteps::gathers_more, crate::proofs::TakeSteps::works_memory, crate::proofs::Gathering::more_joined, crate::proofs::Gathering::more_begun, crate::proofs::Gathering::full_begun))]
 fn gather<R: Threads + Wait + Sync, G: Gate + Sync, F: Files, K: Sink>(
-    rt: &R,
-    gate: &G,
-    alloc: Global,
+    host: &Host<'_, R, G>,
     at: &mut Replayer,
     batch: &mut Gathered,
     one: Joined,
@@ -68,7 +66,7 @@ fn gather<R: Threads + Wait + Sync, G: Gate + Sync, F: Files, K: Sink>(
 {
     batch.push(one)?;
     if batch.is_full() {
-        write_full(rt, gate, alloc, at, batch, files, out)
+        write_full(host, at, batch, files, out)
     } else {
         Ok(())
     }
@@ -97,9 +95,7 @@ fn alone_text(
 /// Takes a line that ends a batch: the batch before it is done, then what the line asks for, and both texts are written.
 #[tactic(auto, using(crate::proofs::TakeSteps::batch_stopped, crate::proofs::TakeSteps::batch_memory, crate::proofs::TakeSteps::alone_written))]
 fn stand_alone<R: Threads + Wait + Sync, G: Gate + Sync, F: Files, K: Sink>(
-    rt: &R,
-    gate: &G,
-    alloc: Global,
+    host: &Host<'_, R, G>,
     at: &mut Replayer,
     batch: &mut Gathered,
     line: &Numbered,
@@ -116,9 +112,9 @@ fn stand_alone<R: Threads + Wait + Sync, G: Gate + Sync, F: Files, K: Sink>(
     ensures few { OnOk result (length at.new.later ≤ length at.old.later + length batch.old) }
     ensures left { F.left files.new ≡ F.left files.old }
 {
-    match batch_text(rt, gate, alloc, at, batch.take(alloc), files, out) {
+    match batch_text(host, at, batch.take(host.alloc), files, out) {
         Ok(text) => {
-            let whole = alone_text(alloc, at, text, line, due)?;
+            let whole = alone_text(host.alloc, at, text, line, due)?;
             put_all(out, whole.as_slice())
         }
         Err(stop) => {
@@ -147,11 +143,11 @@ fn place_of(alloc: Global, at: &Replayer, line: &Numbered) -> Result<Place, OutO
             entry,
             origin,
             octets,
-        } => Ok(Place::Joins(Joining::Routed {
+        } => Ok(Place::Joins(Joining::Routed(Incoming {
             entry,
             origin,
             octets,
-        })),
+        }))),
         Role::Later(name) => Ok(Place::Joins(Joining::Later(name))),
         Role::Aside => Ok(Place::Joins(Joining::Aside)),
     }
@@ -160,9 +156,7 @@ fn place_of(alloc: Global, at: &Replayer, line: &Numbered) -> Result<Place, OutO
 /// Takes one more line of a trace, which is not skipped.
 #[tactic(auto, using(crate::proofs::TakeSteps::takes_gathered, crate::proofs::TakeSteps::takes_alone, crate::proofs::TakeSteps::works_memory, crate::proofs::Gathering::may_be_done, crate::proofs::Gathering::alone_begun))]
 fn take_kept<R: Threads + Wait + Sync, G: Gate + Sync, F: Files, K: Sink>(
-    rt: &R,
-    gate: &G,
-    alloc: Global,
+    host: &Host<'_, R, G>,
     at: &mut Replayer,
     batch: &mut Gathered,
     line: Numbered,
@@ -176,11 +170,11 @@ fn take_kept<R: Threads + Wait + Sync, G: Gate + Sync, F: Files, K: Sink>(
     ensures begun { OnOk result (HasTaken 1 at.old batch.old at.new batch.new) }
     ensures left { F.left files.new ≡ F.left files.old }
 {
-    match place_of(alloc, at, &line)? {
-        Place::Alone(due) => stand_alone(rt, gate, alloc, at, batch, &line, due, files, out),
+    match place_of(host.alloc, at, &line)? {
+        Place::Alone(due) => stand_alone(host, at, batch, &line, due, files, out),
         Place::Joins(joining) => {
             let one = Joined { line, joining };
-            gather(rt, gate, alloc, at, batch, one, files, out)
+            gather(host, at, batch, one, files, out)
         }
     }
 }
@@ -194,9 +188,7 @@ fn is_skipped(line: &Line) -> bool
 /// Takes one more line of a trace. A skipped one adds nothing to a batch, and is not kept.
 #[tactic(auto, using(crate::proofs::Skipping::skipped_taken, crate::proofs::TakeSteps::one_taken, crate::proofs::Gathering::none_taken))]
 fn take_line<R: Threads + Wait + Sync, G: Gate + Sync, F: Files, K: Sink>(
-    rt: &R,
-    gate: &G,
-    alloc: Global,
+    host: &Host<'_, R, G>,
     at: &mut Replayer,
     batch: &mut Gathered,
     line: Numbered,
@@ -214,15 +206,13 @@ fn take_line<R: Threads + Wait + Sync, G: Gate + Sync, F: Files, K: Sink>(
         drop(line);
         return Ok(());
     }
-    take_kept(rt, gate, alloc, at, batch, line, files, out)
+    take_kept(host, at, batch, line, files, out)
 }
 
 /// Takes more lines of a trace, in their order.
 #[tactic(auto, using(crate::proofs::Gathering::begun_taken))]
 pub fn take_lines<R: Threads + Wait + Sync, G: Gate + Sync, F: Files, K: Sink>(
-    rt: &R,
-    gate: &G,
-    alloc: Global,
+    host: &Host<'_, R, G>,
     at: &mut Replayer,
     batch: &mut Gathered,
     lines: List<Numbered>,
@@ -237,7 +227,7 @@ pub fn take_lines<R: Threads + Wait + Sync, G: Gate + Sync, F: Files, K: Sink>(
     ensures left { F.left files.new ≡ F.left files.old }
 {
     for line in lines.into_vec() {
-        take_line(rt, gate, alloc, at, batch, line, files, out)?;
+        take_line(host, at, batch, line, files, out)?;
     }
     Ok(())
 }

@@ -2,14 +2,15 @@
 ghost use Rattle.std.specs.Prelude.{◌≡◌, ◌<◌, ◌++◌, ◌∷◌, [], All, map, length, IfOk, OnOk};
 ghost use Rattle.relay_net.specs.Batches.{CanBeDone, due_after};
 ghost use Rattle.relay_net.specs.States.{markings_of};
-ghost use Rattle.sccp_report.specs.Roles.{incoming};
+ghost use Rattle.sccp_replay.specs.Incoming.{incoming_in};
 ghost use Rattle.sccp_replay.specs.Replay.{routes, told_at};
 ghost use Rattle.sccp_replay.specs.Replayers.{AreRouted, CanFollow, left_of, number_in, settled_in, told_of};
 
+use crate::incoming::Incoming;
 use crate::replayer::Replayer;
 use crate::settled::Settled;
 use relay_net::Served;
-use sccp_base::{OutOfMemory, PointCode};
+use sccp_base::OutOfMemory;
 use sccp_report::{Text, put_served};
 use std::alloc::Global;
 
@@ -18,22 +19,20 @@ fn tell_served(
     at: &mut Replayer,
     text: &mut Text,
     line: u32,
-    entry: u8,
-    origin: PointCode,
-    octets: &[u8],
+    incoming: &Incoming,
     served: &Served,
 ) -> Result<(), OutOfMemory>
     requires { CanBeDone (length at.old.first.nodes) (due_after
-        (incoming entry origin octets.now) served.now.journey.path served.now.journey.end) }
+        (incoming_in incoming.now) served.now.journey.path served.now.journey.end) }
     ensures text { OnOk result (text.new ≡ text.old ++ (told_of at.old.first at.old.states
-        (routes line (incoming entry origin octets.now) 0) (served.now ∷ [])).text) }
+        (routes line (incoming_in incoming.now) 0) (served.now ∷ [])).text) }
     ensures at { OnOk result (at.new
         ≡ record at.old {
-          states = (told_of at.old.first at.old.states (routes line (incoming entry origin octets.now) 0)
+          states = (told_of at.old.first at.old.states (routes line (incoming_in incoming.now) 0)
               (served.now ∷ [])).states;
         }) }
 {
-    let outcomes = at.apply_after(entry, origin, octets, &served.journey)?;
+    let outcomes = at.apply_after(incoming, &served.journey)?;
     put_served(text, at.first(), line, served, &outcomes)
 }
 
@@ -55,17 +54,11 @@ fn tell_line<'a>(
             text.put(piece.as_slice())?;
             Ok(served)
         }
-        Settled::Routes {
-            line,
-            entry,
-            origin,
-            octets,
-            ..
-        } => {
+        Settled::Routes { line, incoming, .. } => {
             let [one, left @ ..] = served else {
                 unreachable!()
             };
-            tell_served(at, text, *line, *entry, *origin, octets.as_slice(), one)?;
+            tell_served(at, text, *line, incoming, one)?;
             Ok(left)
         }
     }

@@ -11,6 +11,7 @@ ghost use Rattle.sccp_work.specs.Work.{read};
 
 use crate::batch::batch_text;
 use crate::gathered::Gathered;
+use crate::host::Host;
 use crate::replayer::Replayer;
 use crate::taking::take_lines;
 use live_plan::Gate;
@@ -62,9 +63,7 @@ fn put_closing(
 /// Does the last batch, and writes its text with the last line.
 #[tactic(auto, using(crate::proofs::TakeSteps::closing_stopped, crate::proofs::TakeSteps::closing_memory, crate::proofs::TakeSteps::closing_written))]
 fn write_last<R: Threads + Wait + Sync, G: Gate + Sync, F: Files, K: Sink>(
-    rt: &R,
-    gate: &G,
-    alloc: Global,
+    host: &Host<'_, R, G>,
     at: &mut Replayer,
     batch: &mut Gathered,
     count: usize,
@@ -77,17 +76,15 @@ fn write_last<R: Threads + Wait + Sync, G: Gate + Sync, F: Files, K: Sink>(
         (moment F.contents F.sound F.faults K.taken K.faults files.old out.old)
         (moment F.contents F.sound F.faults K.taken K.faults files.new out.new) }
 {
-    let mut text = batch_text(rt, gate, alloc, at, batch.take(alloc), files, out)?;
-    let status = put_closing(alloc, &mut text, count, fault)?;
+    let mut text = batch_text(host, at, batch.take(host.alloc), files, out)?;
+    let status = put_closing(host.alloc, &mut text, count, fault)?;
     print_last(out, text.into_octets().as_slice(), status)
 }
 
 /// Takes the lines that a reader gave, and counts them.
 #[tactic(auto, using(crate::proofs::Gathering::may_take, crate::proofs::Gathering::counted))]
 fn take_told<R: Threads + Wait + Sync, G: Gate + Sync, F: Files, K: Sink>(
-    rt: &R,
-    gate: &G,
-    alloc: Global,
+    host: &Host<'_, R, G>,
     at: &mut Replayer,
     batch: &mut Gathered,
     count: usize,
@@ -105,16 +102,14 @@ fn take_told<R: Threads + Wait + Sync, G: Gate + Sync, F: Files, K: Sink>(
     ensures left { F.left files.new ≡ F.left files.old }
 {
     let more = count + lines.as_slice().len();
-    take_lines(rt, gate, alloc, at, batch, lines, files, out)?;
+    take_lines(host, at, batch, lines, files, out)?;
     Ok(more)
 }
 
 /// Takes the end of the trace: its last line, if no line feed ends it, and what is written then.
 #[tactic(auto, using(crate::proofs::TakeSteps::last_taken, crate::proofs::TakeSteps::last_stopped, crate::proofs::TakeSteps::works_memory))]
 fn take_end<R: Threads + Wait + Sync, G: Gate + Sync, F: Files, K: Sink>(
-    rt: &R,
-    gate: &G,
-    alloc: Global,
+    host: &Host<'_, R, G>,
     at: &mut Replayer,
     batch: &mut Gathered,
     reader: &mut Reader,
@@ -129,15 +124,13 @@ fn take_end<R: Threads + Wait + Sync, G: Gate + Sync, F: Files, K: Sink>(
         (moment F.contents F.sound F.faults K.taken K.faults files.new out.new) }
 {
     let fed = reader.finish()?;
-    let count = take_told(rt, gate, alloc, at, batch, count, fed.lines, files, out)?;
-    write_last(rt, gate, alloc, at, batch, count, fed.fault, files, out)
+    let count = take_told(host, at, batch, count, fed.lines, files, out)?;
+    write_last(host, at, batch, count, fed.fault, files, out)
 }
 
 /// Replays the trace of a file: its lines in batches, each written as soon as it is done. No later plan was accepted yet.
 pub fn replay_trace<R: Threads + Wait + Sync, G: Gate + Sync, F: Files, K: Sink>(
-    rt: &R,
-    gate: &G,
-    alloc: Global,
+    host: &Host<'_, R, G>,
     at: &mut Replayer,
     name: &str,
     files: &mut F,
@@ -151,8 +144,8 @@ pub fn replay_trace<R: Threads + Wait + Sync, G: Gate + Sync, F: Files, K: Sink>
     if let Err(fault) = files.begin(name) {
         return Err(stopped(fault));
     }
-    let mut reader = Reader::new(alloc);
-    let mut batch = Gathered::new(alloc);
+    let mut reader = Reader::new(host.alloc);
+    let mut batch = Gathered::new(host.alloc);
     let mut count = 0;
     let mut piece = [0u8; PIECE];
     for _turn in 0..MOST_PIECES {
@@ -161,26 +154,12 @@ pub fn replay_trace<R: Threads + Wait + Sync, G: Gate + Sync, F: Files, K: Sink>
             Err(fault) => return Err(stopped(fault)),
         };
         if taken == 0 {
-            return take_end(
-                rt,
-                gate,
-                alloc,
-                at,
-                &mut batch,
-                &mut reader,
-                count,
-                files,
-                out,
-            );
+            return take_end(host, at, &mut batch, &mut reader, count, files, out);
         }
         let fed = reader.feed(&piece[..taken])?;
-        count = take_told(
-            rt, gate, alloc, at, &mut batch, count, fed.lines, files, out,
-        )?;
+        count = take_told(host, at, &mut batch, count, fed.lines, files, out)?;
         if fed.fault.is_some() {
-            return write_last(
-                rt, gate, alloc, at, &mut batch, count, fed.fault, files, out,
-            );
+            return write_last(host, at, &mut batch, count, fed.fault, files, out);
         }
     }
     unreachable!()

@@ -23,7 +23,7 @@ use crate::verify::verify;
 use live_plan::{Gate, OpenGate};
 use sccp_base::OutOfMemory;
 use sccp_io::{Files, Sink};
-use sccp_replay::replay;
+use sccp_replay::{Host, replay};
 use sccp_work::{Status, Stop, print_last};
 use std::alloc::Global;
 use std::sync::Wait;
@@ -188,7 +188,8 @@ fn obey<R: Threads + Wait + Sync, G: Gate + Sync, F: Files, K: Sink>(
         Command::Verify(name) => verify(alloc, name, files, out),
         Command::Route(name, start) => route(alloc, name, start, files, out),
         Command::Replay(plan, trace, workers) => {
-            replay(rt, gate, alloc, plan, trace, workers, files, out)
+            let host = Host { rt, gate, alloc };
+            replay(&host, plan, trace, workers, files, out)
         }
         Command::Load(number, size, workers) => load(rt, alloc, *number, *size, workers, out),
         Command::Cuts(octets) => cuts(alloc, octets.as_slice(), out),

@@ -17,9 +17,9 @@ returns-in_err-line g c =
     let p = err_from_is_err_and c.from_residual.result c.from_residual.ensures.1 in
     let b : Moment = moment g.F.Files.contents g.F.Files.sound g.F.Files.faults g.K.Sink.taken g.K.Sink.faults c.args.files.now
     c.args.out.now in
-    let work : Work = read c.args.trace.now (λ octets. trace_work (start c.args.workers.now.count c.args.accepted.plan)
+    let work : Work = read c.args.asked.now.trace.now (λ octets. trace_work (start c.args.asked.now.workers.now.count c.args.accepted.plan)
     (trace_of octets)) in
-    rw (p.1, p.2) (Works-memory (print (first_plan_line c.args.plan.now c.args.accepted.bound) work) b)
+    rw (p.1, p.2) (Works-memory (print (first_plan_line c.args.asked.now.plan.now c.args.accepted.bound) work) b)
 
 pub returns-in_err-put_all : goal.returns-in_err-put_all
 returns-in_err-put_all g c =
@@ -28,8 +28,8 @@ returns-in_err-put_all g c =
     c.args.out.now in
     let m : Moment = moment g.F.Files.contents g.F.Files.sound g.F.Files.faults g.K.Sink.taken g.K.Sink.faults c.args.files.now
     c.put_all.new.out in
-    let t : List ℕ = first_plan_line c.args.plan.now c.args.accepted.bound in
-    let work : Work = read c.args.trace.now (λ octets. trace_work (start c.args.workers.now.count c.args.accepted.plan)
+    let t : List ℕ = first_plan_line c.args.asked.now.plan.now c.args.accepted.bound in
+    let work : Work = read c.args.asked.now.trace.now (λ octets. trace_work (start c.args.asked.now.workers.now.count c.args.accepted.plan)
     (trace_of octets)) in
     rw (p.1, p.2) (printed t work (Err c.in_err-put_all.field-0.0) b m
     (subst (λ s. Writes s (Err c.in_err-put_all.field-0.0) b.taken m.taken b.write_faults m.write_faults) (c.as_slice.ensures
@@ -43,8 +43,8 @@ returns-in_err-at g c =
     c.args.out.now in
     let m : Moment = moment g.F.Files.contents g.F.Files.sound g.F.Files.faults g.K.Sink.taken g.K.Sink.faults c.args.files.now
     c.put_all.new.out in
-    let t : List ℕ = first_plan_line c.args.plan.now c.args.accepted.bound in
-    let work : Work = read c.args.trace.now (λ octets. trace_work (start c.args.workers.now.count c.args.accepted.plan)
+    let t : List ℕ = first_plan_line c.args.asked.now.plan.now c.args.accepted.bound in
+    let work : Work = read c.args.asked.now.trace.now (λ octets. trace_work (start c.args.asked.now.workers.now.count c.args.accepted.plan)
     (trace_of octets)) in
     rw (p.1, p.2) (printed t work (Ok tt) b m
     (subst (λ s. Writes {T = Unit {0}} s (Ok tt) b.taken m.taken b.write_faults m.write_faults) (c.as_slice.ensures
@@ -62,12 +62,12 @@ returns g c =
     c.put_all.new.out in
     let a : Moment = moment g.F.Files.contents g.F.Files.sound g.F.Files.faults g.K.Sink.taken g.K.Sink.faults
     c.replay_trace-answered.new.files c.replay_trace-answered.new.out in
-    let t : List ℕ = first_plan_line c.args.plan.now c.args.accepted.bound in
-    let work : Work = read c.args.trace.now (λ octets. trace_work (start c.args.workers.now.count c.args.accepted.plan)
+    let t : List ℕ = first_plan_line c.args.asked.now.plan.now c.args.accepted.bound in
+    let work : Work = read c.args.asked.now.trace.now (λ octets. trace_work (start c.args.asked.now.workers.now.count c.args.accepted.plan)
     (trace_of octets)) in
     printed t work (Ok tt) b m
     (subst (λ s. Writes {T = Unit {0}} s (Ok tt) b.taken m.taken b.write_faults m.write_faults) (c.as_slice.ensures
     ∙ c.in_ok-line.ensures) c.in_ok-put_all.ensures)
     (record { contents = refl; sound = refl; read_faults = refl }) c.replay_trace-answered.result a
-    (subst (λ at. Works (read c.args.trace.now (λ octets. trace_work at (trace_of octets))) c.replay_trace-answered.result m a)
+    (subst (λ at. Works (read c.args.asked.now.trace.now (λ octets. trace_work at (trace_of octets))) c.replay_trace-answered.result m a)
     (c.in_ok-at.ensures ∙ ap (λ n. start n c.args.accepted.plan) c.count.ensures.value) c.replay_trace-answered.ensures)
