@@ -9,6 +9,7 @@ program ends, by a status or a signal. If standard output takes no more, the sta
 import contextlib
 import json
 import os
+import select
 import signal
 import subprocess
 import sys
@@ -18,6 +19,8 @@ sys.path.insert(0, os.path.dirname(os.path.realpath(__file__)))
 import lines
 
 NO_PROGRAM, WRITE_FAULT, USAGE = 70, 75, 64
+# A pipe that is ready takes this number of octets without a wait.
+ALWAYS_TAKEN = 512
 SIGNALS = (signal.SIGINT, signal.SIGTERM, signal.SIGHUP, signal.SIGQUIT)
 
 
@@ -35,7 +38,8 @@ class Objects:
     """Writes the objects of the lines of one call."""
 
     def __init__(self, command):
-        self.command, self.count, self.unread, self.is_writing = command, 0, 0, False
+        self.command, self.count, self.unread = command, 0, 0
+        self.is_writing = self.is_ending = False
 
     def of(self, line):
         """The object of a line. One without a line feed was cut off, so it has no form."""
@@ -52,8 +56,13 @@ class Objects:
         octets = "".join(self.of(line) for line in whole).encode()
         self.is_writing = True
         try:
-            while octets:
+            while octets and not self.is_ending:
                 octets = octets[os.write(1, octets):]
+            # After a signal nothing waits for long on an output that nobody reads.
+            while octets:
+                if not select.select([], [1], [], 1)[1]:
+                    raise Ended
+                octets = octets[os.write(1, octets[:ALWAYS_TAKEN]):]
         finally:
             self.is_writing = False
 
@@ -91,6 +100,7 @@ class Signals:
             self.early.append(number)
             return
         self.program.send_signal(number)
+        self.objects.is_ending = True
         if self.objects.is_writing:
             raise Ended
 
@@ -98,6 +108,7 @@ class Signals:
         self.program = program
         for number in self.early:
             program.send_signal(number)
+            self.objects.is_ending = True
 
 
 def run(program, words):
