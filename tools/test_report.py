@@ -77,11 +77,11 @@ allowed = ["2-0-1/6"]
 
 
 def stored():
-    """The calls of the cases with what each prints. A call begins with > or ?."""
+    """The calls of the cases that begin with >, with what each prints. Those that begin with ? print the usage line."""
     found, words = {}, None
     with open(os.path.join(CASES, "stdout"), encoding="utf-8") as file:
         for line in file.read().splitlines():
-            if re.match("[>?](?: |$)", line):
+            if re.match(">(?: |$)", line):
                 words = tuple(line.split(" ")[1:])
                 printed = []
             elif words is not None and re.fullmatch("= [0-9]+", line):
