@@ -18,28 +18,14 @@ TOP = os.path.dirname(HERE)
 sys.path.insert(0, HERE)
 sys.dont_write_bytecode = True
 import lines
+import stored_cases
 
-STORED = os.path.join(TOP, "crates", "worked_cases", "stdout")
 PIPELINE = os.path.join(TOP, "examples", "pipeline", "verify_plans.py")
 CRATES = os.path.join(TOP, "crates")
 
 
-def stored():
-    """The words of each call of the cases, and the lines that it prints. One that begins with ? has `usage` for the usage line."""
-    found, words = [], None
-    with open(STORED, encoding="utf-8", newline="\n") as file:
-        for line in file.read().split("\n"):
-            if words is None and line[:1] in (">", "?"):
-                words, printed, is_short = line[2:].split(" "), [], line[0] == "?"
-            elif words is not None and line.startswith("= "):
-                found.append((words, [one for one in printed if not (is_short and one == "usage")]))
-                words = None
-            elif words is not None:
-                printed.append(line)
-    return found
-
-
-CALLS = stored()
+# The calls that begin with ? print the usage line, which those that begin with > have in full.
+CALLS = [(words, [line for line in printed if (mark, line) != ("?", "usage")]) for mark, words, printed in stored_cases.stored_calls()]
 PRINTED = sorted({(words[0] if words[0] in lines.COMMANDS else "", line) for words, printed in CALLS for line in printed})
 
 POINT, SCCP = {"kind": "point", "point": "2-0-1"}, {"kind": "sccp", "point": "7-255-7"}

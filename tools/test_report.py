@@ -30,6 +30,7 @@ import picture  # noqa: E402
 import plan_file  # noqa: E402
 import replay_counts  # noqa: E402
 import report  # noqa: E402
+import stored_cases  # noqa: E402
 
 VOID = {"meta", "br"}
 PLAN = """version = 2
@@ -76,23 +77,10 @@ allowed = ["2-0-1/6"]
 """
 
 
-def stored():
-    """The calls of the cases that begin with >, with what each prints. Those that begin with ? print the usage line."""
-    found, words = {}, None
-    with open(os.path.join(CASES, "stdout"), encoding="utf-8") as file:
-        for line in file.read().splitlines():
-            if re.match(">(?: |$)", line):
-                words = tuple(line.split(" ")[1:])
-                printed = []
-            elif words is not None and re.fullmatch("= [0-9]+", line):
-                found.setdefault(words, printed)
-                words = None
-            elif words is not None:
-                printed.append(line)
-    return found
-
-
-STORED = stored()
+STORED = {}
+for mark, one_call, its_lines in stored_cases.stored_calls():
+    if mark == ">":
+        STORED.setdefault(tuple(one_call), its_lines)
 
 
 class Answers:

@@ -16,6 +16,7 @@ import tempfile
 import unittest
 
 sys.dont_write_bytecode = True
+import stored_cases
 import where
 
 HERE = os.path.dirname(os.path.abspath(__file__))
@@ -205,13 +206,11 @@ value_zone_eight 4
 
 def stored():
     """The line that the program prints of each fault plan, by the plan's name."""
-    found, names = {}, []
-    with open(os.path.join(CASES, "stdout"), encoding="utf-8") as file:
-        for line in file:
-            if line.startswith("> "):
-                names = re.findall(r"faults/(\w+)\.toml", line)
-            elif line.startswith("bad plan ") and len(names) == 1:
-                found[names[0]] = line.rstrip("\n")
+    found = {}
+    for _, words, printed in stored_cases.stored_calls():
+        names = re.findall(r"faults/(\w+)\.toml", " ".join(words))
+        if len(names) == 1 and printed and printed[0].startswith("bad plan "):
+            found[names[0]] = printed[0]
     return found
 
 
