@@ -4,7 +4,7 @@ use Rattle.std.specs.List.{All, Any, AllPairs}
 use Rattle.plan_model.specs.Network.{Network}
 use Rattle.plan_unused.specs.declared.survey.RowPlace.{RowPlace}
 use Rattle.plan_unused.specs.declared.survey.TargetPlace.{TargetPlace}
-use Rattle.plan_unused.specs.Surveys.{IsUnusedRow, IsUnusedTarget, IsRowBefore, IsTargetBefore}
+use Rattle.plan_unused.specs.Surveys.{IsUnusedRelay, IsUnusedRow, IsUnusedTarget, IsRowBefore, IsTargetBefore}
 use Rattle.plan_unused.specs.Walks.{row_at, target_at}
 
 -- The unused items before the present one, in ascending order
@@ -13,6 +13,9 @@ pub record AreBefore {X : Type 0} (Less : X → X → Type 0) (Is : X → Type 0
   pub every : (x : X) → Less x present → Is x → Any (λ y. y ≡ x) found
   pub ascending : AllPairs Less found
   pub before : All (λ x. Less x present) found
+
+abbrev pub RelaysSoFar : Network → ℕ → List ℕ → Type 0
+RelaysSoFar plan node found = AreBefore (λ i j. i < j) (IsUnusedRelay plan) node found
 
 abbrev pub RowsSoFar : Network → ℕ → ℕ → List RowPlace → Type 0
 RowsSoFar plan node row found = AreBefore IsRowBefore (IsUnusedRow plan) (row_at node row) found
@@ -27,6 +30,11 @@ HasCount plan node count = IsSomeAnd (slice_get plan.nodes node) (λ n. count �
 -- a row is at this place
 abbrev pub HasPlace : Network → RowPlace → Type 0
 HasPlace plan place = IsSomeAnd (slice_get plan.nodes place.node) (λ n. place.row < length n.table)
+
+-- a target is at this place
+abbrev pub HasTarget : Network → TargetPlace → Type 0
+HasTarget plan place =
+    IsSomeAnd (slice_get plan.nodes place.node) (λ n. IsSomeAnd (slice_get n.table place.row) (λ row. place.target < length row.targets))
 
 -- the row at this place has this number of targets
 abbrev pub HasTargetCount : Network → RowPlace → ℕ → Type 0

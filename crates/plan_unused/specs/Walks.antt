@@ -8,7 +8,7 @@ use Rattle.std.specs.BTreeSet as sorted
 use Rattle.plan_rules.specs.Rule.{Rule}
 use Rattle.plan_model.specs.declared.cover.Cover.{Cover}
 use Rattle.plan_model.specs.declared.spot.Spot.{Spot}
-use Rattle.plan_model.specs.Network.{Network}
+use Rattle.plan_model.specs.Network.{Network, IsPlan}
 use Rattle.plan_classes.specs.Titles.{Titles, parts_of}
 use Rattle.plan_classes.specs.Classes.{start_of, Decided, Reaches, class_row}
 use Rattle.plan_check.specs.Ranking.{rank_in}
@@ -96,6 +96,7 @@ pub record MayEnter (plan : Network) (depth : ℕ) (c : Titles) : Type 0 where
 
 -- a decided class at which the walk may look
 pub record MayLook (plan : Network) (depth : ℕ) (c : Titles) : Type 0 where
+  pub sound : IsPlan plan
   pub node : c.node < length plan.nodes
   pub decided : Decided plan c
   pub meets : Meets plan depth c
@@ -110,8 +111,9 @@ pub record IsFollowed (plan : Network) (seen : Seen) (met : List (Titles × ℕ)
 pub record IsSettled (plan : Network) (seen : Seen) (met : List (Titles × ℕ)) (c : Titles) (depth : ℕ) : Type 0 where
   pub relay : IsTrue (has_relay seen c.node)
   pub row : (r : ℕ) (row : Rule) → class_row plan c ≡ Some row → HasRow plan c.node r row → IsTrue (has_row seen (row_at c.node r))
-  pub target : (r : ℕ) (row : Rule) → class_row plan c ≡ Some row → HasRow plan c.node r row → (t : ℕ)
-      → IsFollowed plan seen met c depth r t
+  pub target : (r : ℕ) (row : Rule) → class_row plan c ≡ Some row → HasRow plan c.node r row → (t : ℕ) → Reaches plan c t
+      → IsTrue (has_target seen (target_at c.node r t))
+  pub onward : depth < 13 → (t : ℕ) (next : Titles) → Reaches plan c t → HasFitting plan c t next → IsRankedBy met next (depth + 1)
   pub gap : class_row plan c ≡ None → IsSome (gap_in seen c.cover)
 
 -- what the walk has before it looks at the stops of a hop

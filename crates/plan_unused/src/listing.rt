@@ -1,9 +1,10 @@
 //! What is unused, by what was noted.
 ghost use Rattle.std.specs.Prelude.{◌≡◌, ◌+◌, ◌<◌, length, IfOk, OnOk};
 ghost use Rattle.plan_model.specs.Network.{IsPlan};
+ghost use Rattle.plan_unused.specs.Uses.{UsesRelay, UsesRow};
 ghost use Rattle.plan_unused.specs.Surveys.{ListsRelays, ListsRows, ListsTargets, ListsGaps};
 ghost use Rattle.plan_unused.specs.Walks.{IsSeen, IsWhole};
-ghost use Rattle.plan_unused.specs.Listed.{RowsSoFar, TargetsSoFar, HasCount, HasPlace, HasTargetCount};
+ghost use Rattle.plan_unused.specs.Listed.{RelaysSoFar, RowsSoFar, TargetsSoFar, HasCount, HasPlace, HasTarget, HasTargetCount};
 
 use crate::seen::Seen;
 use crate::survey::{Gap, RowPlace, TargetPlace};
@@ -31,11 +32,29 @@ pub(crate) fn unused_relays(
 {
     let mut found = List::new(alloc);
     for node in 0..node_count(plan) {
-        if !seen.has_relay(node) {
-            found.push(node)?;
-        }
+        add_relay(plan, node, seen, &mut found)?;
     }
     Ok(found)
+}
+
+/// Adds a relay if it is unused.
+fn add_relay(
+    plan: &Plan,
+    node: u8,
+    seen: &Seen,
+    found: &mut List<u8>,
+) -> Result<(), OutOfMemory>
+    requires node { node < length plan.now.nodes }
+    requires seen { IsSeen plan.now seen.now }
+    requires whole { IsWhole plan.now seen.now }
+    requires so_far { RelaysSoFar plan.now node found.old }
+    ensures { OnOk result (RelaysSoFar plan.now (node + 1) found.new) }
+{
+    if seen.has_relay(node) {
+        return Ok(());
+    }
+    found.push(node)?;
+    Ok(())
 }
 
 /// The rows of used relays that count for no covered title.
@@ -80,11 +99,29 @@ fn add_rows(
         return Ok(());
     }
     for row in 0..row_count(plan, node) {
-        let place = RowPlace { node, row };
-        if !seen.has_row(place) {
-            found.push(place)?;
-        }
+        add_row(plan, RowPlace { node, row }, seen, found)?;
     }
+    Ok(())
+}
+
+/// Adds a row of a used relay if it is unused.
+fn add_row(
+    plan: &Plan,
+    place: RowPlace,
+    seen: &Seen,
+    found: &mut List<RowPlace>,
+) -> Result<(), OutOfMemory>
+    requires place { HasPlace plan.now place }
+    requires relay { UsesRelay plan.now place.node }
+    requires seen { IsSeen plan.now seen.now }
+    requires whole { IsWhole plan.now seen.now }
+    requires so_far { RowsSoFar plan.now place.node place.row found.old }
+    ensures { OnOk result (RowsSoFar plan.now place.node (place.row + 1) found.new) }
+{
+    if seen.has_row(place) {
+        return Ok(());
+    }
+    found.push(place)?;
     Ok(())
 }
 
@@ -157,10 +194,29 @@ fn add_row_targets(
             row: place.row,
             target,
         };
-        if !seen.has_target(one) {
-            found.push(one)?;
-        }
+        add_target(plan, one, seen, found)?;
     }
+    Ok(())
+}
+
+/// Adds a target of a used row if it is unused.
+fn add_target(
+    plan: &Plan,
+    place: TargetPlace,
+    seen: &Seen,
+    found: &mut List<TargetPlace>,
+) -> Result<(), OutOfMemory>
+    requires place { HasTarget plan.now place }
+    requires row { UsesRow plan.now place.node place.row }
+    requires seen { IsSeen plan.now seen.now }
+    requires whole { IsWhole plan.now seen.now }
+    requires so_far { TargetsSoFar plan.now place.node place.row place.target found.old }
+    ensures { OnOk result (TargetsSoFar plan.now place.node place.row (place.target + 1) found.new) }
+{
+    if seen.has_target(place) {
+        return Ok(());
+    }
+    found.push(place)?;
     Ok(())
 }
 

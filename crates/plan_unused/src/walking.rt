@@ -1,6 +1,7 @@
 //! The walk from hop to hop.
 ghost use Rattle.std.specs.Prelude.{◌≡◌, ◌+◌, ◌<◌, Err, IfOk};
 ghost use Rattle.plan_model.specs.Limits.{most_classes};
+ghost use Rattle.plan_model.specs.Network.{IsPlan};
 ghost use Rattle.plan_unused.specs.declared.halt.Halt.TheVariants as halts;
 ghost use Rattle.plan_unused.specs.declared.seen.Seen.{Seen};
 ghost use Rattle.plan_unused.specs.Meets.{MeetsAtLeast};
@@ -36,6 +37,7 @@ pub(crate) fn walk(alloc: Global, plan: &Plan) -> Result<Seen, Halt>
 /// The titles of the covers, put at the first hop.
 fn first_hop(alloc: Global, plan: &Plan) -> Result<OpenHop, Halt>
     ensures walk { IfOk result (λ hop. (seen : Seen) → IsSeen plan.now seen → IsWalk plan.now 0 hop.met hop.stops seen) }
+    ensures sound { IsPlan plan.now }
     ensures wide { result ≡ Err halts.Wide → MeetsAtLeast plan.now most_classes }
 {
     let mut hop = OpenHop::new(alloc);
@@ -54,6 +56,7 @@ fn next_hop(
     hop: OpenHop,
     seen: &mut Seen,
 ) -> Result<OpenHop, Halt>
+    requires sound { IsPlan plan.now }
     requires depth { depth < 14 }
     requires walk { IsWalk plan.now depth hop.met hop.stops seen.old }
     ensures walk { IfOk result (λ next. IsWalk plan.now (depth + 1) next.met next.stops seen.new) }
