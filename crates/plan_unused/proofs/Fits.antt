@@ -192,7 +192,8 @@ sent_by plan c digits marking u target is class lt decided member e = by_row (cl
     row_is = sym (ap (option_and_then (λ (n : Node). row_for n (spot_of c digits))) node.1)
         ∙ decided digits (sample_of c) member (sample_member c class)
 
-    acts : (o : Option Rule) → class_row plan c ≡ o → step plan (spot_of c digits) marking ≡ step_by plan node.0 (spot_of c digits) marking o
+    acts : (o : Option Rule) → class_row plan c ≡ o → step plan (spot_of c digits) marking
+        ≡ step_by plan node.0 (spot_of c digits) marking o
     acts o k = ap (step_at plan (spot_of c digits) marking) node.1 ∙ ap (step_by plan node.0 (spot_of c digits) marking) (row_is ∙ k)
 
     by_target : (r : Rule) → class_row plan c ≡ Some r → (q : ℕ × Target) → first_open node.0 c.ssn marking 0 r.targets ≡ Some q

@@ -52,8 +52,11 @@ put_more : (plan : Network) (depth : ℕ) (before after : List (Titles × ℕ)) 
 put_more plan depth before after here there more c kept same (inl h) =
     inl (h.0, subst (λ xs. Contains xs c) (sym same) (Contains-append_left here more c h.1))
 put_more plan depth before after here there more c kept same (inr h) =
-    inr (h.0, All-weaker (λ part. IsRankedBy before part depth) (λ part. IsRankedBy after part depth)
-    (λ part p. ranked_more before after part depth kept p) (parts_of c) h.1)
+    inr (
+      h.0,
+      All-weaker (λ part. IsRankedBy before part depth) (λ part. IsRankedBy after part depth)
+          (λ part p. ranked_more before after part depth kept p) (parts_of c) h.1,
+    )
 
 pub grows_none : (plan : Network) (depth : ℕ) (met : List (Titles × ℕ)) (here : List Titles) → Grows plan depth met here met here
 grows_none plan depth met here =
@@ -86,7 +89,8 @@ grows_on plan depth a b c x y z g h =
     }
 
 -- the ranks of the larger table are met as they say
-pub ranks_grown : (plan : Network) (depth : ℕ) (a b : List (Titles × ℕ)) (x y : List Titles) → Grows plan depth a x b y → AreRanks plan depth a
+pub ranks_grown : (plan : Network) (depth : ℕ) (a b : List (Titles × ℕ)) (x y : List Titles) → Grows plan depth a x b y
+    → AreRanks plan depth a
     → AreRanks plan depth b
 ranks_grown plan depth a b x y g ranks c r e =
     ⊎_elim
@@ -167,7 +171,8 @@ pub put_ranked : (before after : List (Titles × ℕ)) (c : Titles) (depth : ℕ
 put_ranked before after c depth puts = (depth, puts_own before after c depth puts, omega arith)
 
 -- one more part has a rank
-pub parts_ranked : (before after : List (Titles × ℕ)) (ps : List Titles) (i : ℕ) (p : Titles) (depth : ℕ) → i < length ps → p ≡ get_or ps i p
+pub parts_ranked : (before after : List (Titles × ℕ)) (ps : List Titles) (i : ℕ) (p : Titles) (depth : ℕ) → i < length ps
+    → p ≡ get_or ps i p
     → ((d : Titles) (r : ℕ) → rank_in before d ≡ Some r → rank_in after d ≡ Some r) → IsRankedBy after p depth
     → All (λ part. IsRankedBy before part depth) (take i ps) → All (λ part. IsRankedBy after part depth) (take (i + 1) ps)
 parts_ranked before after ps i p depth lt at kept here so_far =

@@ -74,7 +74,8 @@ pub relays_more : (plan : Network) (seen : Seen) (n : ℕ) (xs ys : List ℕ) (b
     → b ≡ has_relay seen n → b ≡ false → ys ≡ xs ++ n ∷ [] → AreBefore (λ i j. i < j) (IsUnusedRelay plan) n xs
     → AreBefore (λ i j. i < j) (IsUnusedRelay plan) (n + 1) ys
 relays_more plan seen n xs ys b lt whole told not_in e h =
-    before_more (λ i j. i < j) (IsUnusedRelay plan) n (n + 1) xs ys e (lt, λ uses. is_false b (has_relay seen n) told not_in (whole.relays n uses))
+    before_more (λ i j. i < j) (IsUnusedRelay plan) n (n + 1) xs ys e
+    (lt, λ uses. is_false b (has_relay seen n) told not_in (whole.relays n uses))
     (λ k l. or_own n k l) (λ k l. omega (arith, l)) (omega arith) h
 
 pub relays_same : (plan : Network) (seen : Seen) (n : ℕ) (xs : List ℕ) (b : Bool) → IsSeen plan seen → b ≡ has_relay seen n → b ≡ true
@@ -152,17 +153,21 @@ rows_end plan n r count xs counts le h = before_same IsRowBefore (IsUnusedRow pl
         omega (arith, own.2, ap (λ (x : Node). length x.table) e, node.2, le)
 
     back : (y : RowPlace) → IsRowBefore y (row_at (n + 1) 0) → IsUnusedRow plan y → IsRowBefore y (row_at n r)
-    back y (inl lt) is = ⊎_elim (λ (l : y.node < n). inl l) (λ (same : n ≡ y.node). inr (sym same, inside y (sym same) is)) (or_own n y.node lt)
+    back y (inl lt) is = ⊎_elim (λ (l : y.node < n). inl l) (λ (same : n ≡ y.node). inr (sym same, inside y (sym same) is))
+        (or_own n y.node lt)
     back y (inr bad) is = absurd (omega (arith, bad.1))
 
 -- the rows of an unused relay are not listed
-pub rows_skip : (plan : Network) (seen : Seen) (n : ℕ) (xs : List RowPlace) (b : Bool) → IsWhole plan seen → b ≡ has_relay seen n → b ≡ false
+pub rows_skip : (plan : Network) (seen : Seen) (n : ℕ) (xs : List RowPlace) (b : Bool) → IsWhole plan seen → b ≡ has_relay seen n
+    → b ≡ false
     → RowsSoFar plan n 0 xs → RowsSoFar plan (n + 1) 0 xs
-rows_skip plan seen n xs b whole told not_in h = before_same IsRowBefore (IsUnusedRow plan) (row_at n 0) (row_at (n + 1) 0) xs back (node_on n 0) h
+rows_skip plan seen n xs b whole told not_in h = before_same IsRowBefore (IsUnusedRow plan) (row_at n 0) (row_at (n + 1) 0) xs back
+    (node_on n 0) h
   where
     back : (y : RowPlace) → IsRowBefore y (row_at (n + 1) 0) → IsUnusedRow plan y → IsRowBefore y (row_at n 0)
     back y (inl lt) is = ⊎_elim (λ (l : y.node < n). inl l)
-        (λ (same : n ≡ y.node). absurd (is_false b (has_relay seen n) told not_in (whole.relays n (subst (UsesRelay plan) (sym same) is.relay))))
+        (λ (same : n ≡ y.node). absurd (is_false b (has_relay seen n) told not_in
+        (whole.relays n (subst (UsesRelay plan) (sym same) is.relay))))
         (or_own n y.node lt)
     back y (inr bad) is = absurd (omega (arith, bad.1))
 
@@ -179,7 +184,8 @@ rows_all plan n xs le h =
         inl (let lt : y.node < length plan.nodes = slice_get_within plan.nodes y.node own.0 own.1 in omega (arith, lt, le))
 
 -- targets
-target_step : (n r t : ℕ) (y : TargetPlace) → IsTargetBefore y (target_at n r (t + 1)) → IsTargetBefore y (target_at n r t) ⊎ (target_at n r t ≡ y)
+target_step : (n r t : ℕ) (y : TargetPlace) → IsTargetBefore y (target_at n r (t + 1))
+    → IsTargetBefore y (target_at n r t) ⊎ (target_at n r t ≡ y)
 target_step n r t y (inl lt) = inl (inl lt)
 target_step n r t y (inr h) = by h.1
   where
@@ -273,8 +279,13 @@ targets_end plan place t count xs counts le h =
         → IsTargetBefore y (target_at place.node place.row t)
     back y (inl lt) is = inl lt
     back y (inr k) is =
-        ⊎_elim (λ (lt : y.row < place.row). inr (k.0, inl lt)) (λ (same : place.row ≡ y.row). inr (k.0, inr (sym same,
-        inside y k.0 (sym same) is))) (or_own place.row y.row (first_of_row place.node (place.row + 1) y k.1))
+        ⊎_elim (λ (lt : y.row < place.row). inr (k.0, inl lt)) (λ (same : place.row ≡ y.row). inr (
+          k.0,
+          inr (
+            sym same,
+            inside y k.0 (sym same) is,
+          ),
+        )) (or_own place.row y.row (first_of_row place.node (place.row + 1) y k.1))
 
 -- the targets of an unused row are not listed
 pub targets_skip : (plan : Network) (seen : Seen) (place : RowPlace) (xs : List TargetPlace) (b : Bool) → IsWhole plan seen
@@ -315,7 +326,8 @@ targets_next plan n r count xs counts le h =
         (λ (same : n ≡ y.node). inr (sym same, inl (inside y (sym same) is))) (or_own n y.node lt)
     back y (inr k) is = absurd (let lt = first_of_row (n + 1) 0 y k.1 in omega (arith, lt))
 
-pub targets_all : (plan : Network) (n : ℕ) (xs : List TargetPlace) → length plan.nodes ≤ n → TargetsSoFar plan n 0 0 xs → ListsTargets plan xs
+pub targets_all : (plan : Network) (n : ℕ) (xs : List TargetPlace) → length plan.nodes ≤ n → TargetsSoFar plan n 0 0 xs
+    → ListsTargets plan xs
 targets_all plan n xs le h =
     record {
       exact = all_listed IsTargetBefore (IsUnusedTarget plan) (target_at n 0 0) xs inside h;

@@ -1,5 +1,6 @@
 -- stops that were looked at, and the walk from hop to hop
-use Rattle.std.specs.Prelude.{ℕ, ◌≡◌, ◌≢◌, ◌+◌, ◌<◌, ◌≤◌, ◌⊎◌, IsTrue, IsSome, List, [], ◌∷◌, ◌++◌, length, take, get_or, sum_by, Option, Some, None}
+use Rattle.std.specs.Prelude.{ℕ, ◌≡◌, ◌≢◌, ◌+◌, ◌<◌, ◌≤◌, ◌⊎◌, IsTrue, IsSome, List, [], ◌∷◌, ◌++◌, length, take, get_or, sum_by, Option}
+use Rattle.std.specs.Prelude.{Some, None}
 use Rattle.std.specs.Prelude.{IsSomeAnd, slice_get, refl}
 use Rattle.std.specs.List.{All, Contains}
 use Rattle.std.specs.Option.{option_and_then, option_map_or}
@@ -303,10 +304,16 @@ walk_next plan depth before after here there s t walk g sound more settled =
         ⊎ ((Decided plan c → ⊥) × All (λ part. IsRankedBy before part r) (parts_of c))
         → (Decided plan c × (IsSettled plan t after c r ⊎ ((r ≡ depth + 1) × Contains there c)))
         ⊎ ((Decided plan c → ⊥) × All (λ part. IsRankedBy after part r) (parts_of c))
-    was c r (inl h) = inl (h.0, inl (⊎_elim
-        (λ (k : IsSettled plan s before c r). settled_more plan s t before after c r more g.kept k)
-        (λ (k : (r ≡ depth) × Contains here c). subst (IsSettled plan t after c) (sym k.0)
-        (All-contains (λ x. IsSettled plan t after x depth) here c settled k.1))
-        h.1))
-    was c r (inr h) = inr (h.0, All-weaker (λ part. IsRankedBy before part r) (λ part. IsRankedBy after part r)
-        (λ part p. ranked_more before after part r g.kept p) (parts_of c) h.1)
+    was c r (inl h) = inl (
+      h.0,
+      inl (⊎_elim
+          (λ (k : IsSettled plan s before c r). settled_more plan s t before after c r more g.kept k)
+          (λ (k : (r ≡ depth) × Contains here c). subst (IsSettled plan t after c) (sym k.0)
+          (All-contains (λ x. IsSettled plan t after x depth) here c settled k.1))
+          h.1),
+    )
+    was c r (inr h) = inr (
+      h.0,
+      All-weaker (λ part. IsRankedBy before part r) (λ part. IsRankedBy after part r)
+          (λ part p. ranked_more before after part r g.kept p) (parts_of c) h.1,
+    )

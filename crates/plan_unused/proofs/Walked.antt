@@ -176,7 +176,8 @@ found plan met here seen number spot is walk m =
     cover = some_is (slice_get plan.covers number) (λ c. Covers c m.start) m.covered
 
     first : HasTitle (start_of number cover.0) m.start
-    first = (start_exact plan.nodes number cover.0 (start_of number cover.0) (cover_at plan number cover.0 is cover.1) refl m.start).1 cover.2
+    first = (start_exact plan.nodes number cover.0 (start_of number cover.0)
+        (cover_at plan number cover.0 is cover.1) refl m.start).1 cover.2
 
     ranked : IsRankedBy met (start_of number cover.0) 0
     ranked = walk.starts number cover.0 cover.1
@@ -190,7 +191,8 @@ found plan met here seen number spot is walk m =
     at = trace plan met here seen is walk m.start (take hop.0 m.markings) spot number 0 start (omega (arith, size, hop.1, m.few)) hop.2
 
 -- the row of a title is that of its class
-row_is : (plan : Network) (c : Titles) (spot : Spot) → IsClass c → Decided plan c → (has : HasTitle c spot) → row_of plan spot ≡ class_row plan c
+row_is : (plan : Network) (c : Titles) (spot : Spot) → IsClass c → Decided plan c → (has : HasTitle c spot)
+    → row_of plan spot ≡ class_row plan c
 row_is plan c spot class decided has =
     ap (row_of plan) has.2 ∙ decided has.0 (sample_of c) has.1 (sample_member c class)
 

@@ -38,12 +38,7 @@ pub(crate) fn unused_relays(
 }
 
 /// Adds a relay if it is unused.
-fn add_relay(
-    plan: &Plan,
-    node: u8,
-    seen: &Seen,
-    found: &mut List<u8>,
-) -> Result<(), OutOfMemory>
+fn add_relay(plan: &Plan, node: u8, seen: &Seen, found: &mut List<u8>) -> Result<(), OutOfMemory>
     requires node { node < length plan.now.nodes }
     requires seen { IsSeen plan.now seen.now }
     requires whole { IsWhole plan.now seen.now }

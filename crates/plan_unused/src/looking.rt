@@ -44,13 +44,25 @@ pub(crate) fn look(
     ensures wide { result ≡ Err halts.Wide → MeetsAtLeast plan.now most_classes }
 {
     let node = class_node(plan, class);
-    match node.table.find(class.selector(), class.ssn(), &sample(class)) {
+    match node
+        .table
+        .find(class.selector(), class.ssn(), &sample(class))
+    {
         Some(place) => {
             let row = RowPlace {
                 node: class.node(),
                 row: place as u16,
             };
-            look_row(alloc, plan, class, row, node.table.row(place), depth, hop, seen)
+            look_row(
+                alloc,
+                plan,
+                class,
+                row,
+                node.table.row(place),
+                depth,
+                hop,
+                seen,
+            )
         }
         None => Ok(note_gap(plan, class, seen)?),
     }

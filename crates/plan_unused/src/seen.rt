@@ -57,11 +57,7 @@ impl Seen {
     }
 
     /// Notes a target that some title takes.
-    pub(crate) fn note_target(
-        &mut self,
-        plan: &Plan,
-        place: TargetPlace,
-    ) -> Result<(), OutOfMemory>
+    pub(crate) fn note_target(&mut self, plan: &Plan, place: TargetPlace) -> Result<(), OutOfMemory>
         requires uses { UsesTarget plan.now place.node place.row place.target }
         requires seen { IsSeen plan.now self.old }
         ensures seen { OnOk result (IsSeen plan.now self.new) }

@@ -25,7 +25,8 @@ returns-clause-more c =
 pub returns-clause-settled : goal.returns-clause-settled
 returns-clause-settled c =
     ok_both c.look_targets.result (IsMore c.note_row.new.self c.look_targets.new.seen)
-    ((t : ℕ) → IsFollowed c.args.plan.now c.look_targets.new.seen c.look_targets.new.hop.met c.args.class.now c.args.depth c.args.place.row t)
+    ((t : ℕ) → IsFollowed c.args.plan.now c.look_targets.new.seen c.look_targets.new.hop.met c.args.class.now c.args.depth c.args.place.row
+    t)
     (IsSettled c.args.plan.now c.look_targets.new.seen c.look_targets.new.hop.met c.args.class.now c.args.depth)
     (λ more followed. settled_row c.args.plan.now c.look_targets.new.seen c.look_targets.new.hop.met c.args.class.now c.args.depth
     c.args.place c.args.row.now c.requires.may.sound c.requires.node c.requires.row c.requires.at

@@ -21,7 +21,8 @@ look_target-requires-clause-seen c = c.loop-target.invariant.sound
 
 pub loop-target-preserved : goal.loop-target-preserved
 loop-target-preserved c = record {
-  grows = grows_on c.args.plan.now (c.args.depth + 1) c.args.hop.now.met c.loop-target.hop.met c.look_target.new.hop.met c.args.hop.now.stops
+  grows = grows_on c.args.plan.now
+      (c.args.depth + 1) c.args.hop.now.met c.loop-target.hop.met c.look_target.new.hop.met c.args.hop.now.stops
       c.loop-target.hop.stops c.look_target.new.hop.stops c.loop-target.invariant.grows c.in_ok-look_target.ensures.grows;
   sound = c.in_ok-look_target.ensures.seen;
   more = more_on c.args.seen.now c.loop-target.seen c.look_target.new.seen c.loop-target.invariant.more c.in_ok-look_target.ensures.more;
@@ -32,6 +33,7 @@ loop-target-preserved c = record {
 
 pub returns-clause-followed : goal.returns-clause-followed
 returns-clause-followed c =
-    followed_all c.args.plan.now c.loop-target.seen c.loop-target.hop.met c.args.class.now c.args.depth c.args.place.row c.loop-target.target
+    followed_all c.args.plan.now c.loop-target.seen c.loop-target.hop.met c.args.class.now c.args.depth c.args.place.row
+    c.loop-target.target
     c.args.row.now c.requires.row (omega (arith, c.target_count-target-end.ensures, c.loop-target-test.false))
     c.loop-target.invariant.followed

@@ -10,5 +10,6 @@ note_relay-requires-clause-uses c =
 
 pub note_gap-requires-clause-gap : goal.note_gap-requires-clause-gap
 note_gap-requires-clause-gap c =
-    gap_noted c.args.plan.now c.requires.may.0 c.args.class.now _ _ _ c.requires.may.1 c.requires.row c.cover.ensures.value c.spot_of.ensures
+    gap_noted c.args.plan.now c.requires.may.0 c.args.class.now _ _ _ c.requires.may.1 c.requires.row c.cover.ensures.value
+    c.spot_of.ensures
     c.sample.ensures.value

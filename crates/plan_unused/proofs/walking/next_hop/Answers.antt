@@ -10,7 +10,8 @@ pub look-requires-clause-may : goal.look-requires-clause-may
 look-requires-clause-may c =
     may_look c.args.plan.now c.args.depth c.args.hop.met c.as_slice-class-items.result.now c.args.seen.now c.loop-class.class-index _
     c.requires.sound c.requires.depth
-    (subst (λ (xs : List Titles). IsWalk c.args.plan.now c.args.depth c.args.hop.met xs c.args.seen.now) (sym c.as_slice-class-items.ensures)
+    (subst (λ (xs : List Titles). IsWalk c.args.plan.now c.args.depth c.args.hop.met xs c.args.seen.now)
+    (sym c.as_slice-class-items.ensures)
     c.requires.walk) c.loop-class-test.true c.class-item.is
 
 pub look-requires-clause-ranks : goal.look-requires-clause-ranks
@@ -36,7 +37,8 @@ pub returns-clause-walk : goal.returns-clause-walk
 returns-clause-walk c =
     walk_next c.args.plan.now c.args.depth c.args.hop.met c.loop-class.next.met c.as_slice-class-items.result.now c.loop-class.next.stops
     c.args.seen.now c.loop-class.seen
-    (subst (λ (xs : List Titles). IsWalk c.args.plan.now c.args.depth c.args.hop.met xs c.args.seen.now) (sym c.as_slice-class-items.ensures)
+    (subst (λ (xs : List Titles). IsWalk c.args.plan.now c.args.depth c.args.hop.met xs c.args.seen.now)
+    (sym c.as_slice-class-items.ensures)
     c.requires.walk)
     c.loop-class.invariant.grows c.loop-class.invariant.sound c.loop-class.invariant.more
     (subst (All (λ x. IsSettled c.args.plan.now c.loop-class.seen c.loop-class.next.met x c.args.depth))
