@@ -1,10 +1,11 @@
 -- What a packet carries, link by link: the chunks of an SCTP packet, a message of MTP3 with its point codes, or a message of
 -- SCCP alone.
 use Rattle.std.specs.Prelude.{ℕ, zero, suc, ◌+◌, ◌-◌, ◌*◌, ◌/◌, ◌%◌, ◌^◌, ◌&&◌, ◌||◌, ◌==◌, Bool, not, nat_le, nat_lt, max}
-use Rattle.std.specs.Prelude.{if◌then◌else◌, List, [], ◌∷◌, length, take, drop, slice_range, slice_index}
+use Rattle.std.specs.Prelude.{if◌then◌else◌, List, [], ◌∷◌, length, take, drop, slice_range, slice_index, Result, Ok, Err}
 use Rattle.packet_layers.specs.declared.flow.Flow.{Flow}
 use Rattle.packet_layers.specs.declared.layer.Layer.TheVariants.{Ethernet, Cooked, Ip, Ipv6, Sctp, Mtp2, Mtp3, Sccp}
 use Rattle.packet_layers.specs.declared.fault.Fault.TheVariants.{Link, Short, Bad, Fragment}
+use Rattle.packet_layers.specs.declared.chunk_fault.ChunkFault.{ChunkFault}
 use Rattle.packet_layers.specs.declared.chunk_fault.ChunkFault.TheVariants as chunks
 use Rattle.packet_layers.specs.Values.{DataChunk, Transferred, Carried, Chunk, BadChunk, Signal, Bare, Unread, Other}
 use Rattle.packet_layers.specs.Numbers.{number_2, number_4, little_4, up_to_four, bit}
@@ -33,17 +34,26 @@ chunk_of i flow b =
     else if nat_lt (length b) 17 then BadChunk i chunks.Bad
     else Chunk i (data_of flow b)
 
+-- the length of the first chunk, if it is possible and all of the chunk was captured
+unfoldable pub chunk_size : List ℕ → Result ℕ ChunkFault
+chunk_size b =
+    if nat_lt (length b) 4 then Err chunks.Short
+    else if nat_lt (number_2 b 2) 4 then Err chunks.Bad
+    else if nat_lt (length b) (number_2 b 2) then Err chunks.Short
+    else Ok (number_2 b 2)
+
+-- the first chunk, and then those after it and its padding
+abbrev pub chunk_then : (ℕ → List Carried) → ℕ → Flow → List ℕ → Result ℕ ChunkFault → List Carried
+chunk_then next i flow b (Err fault) = BadChunk i fault ∷ []
+chunk_then next i flow b (Ok size) = chunk_of i flow (take size b) ∷ next (up_to_four size)
+
 -- The chunks from number i on of a packet that had this number of octets from there on, of which b were captured. A packet
 -- has at most the given number of chunks.
 unfoldable pub chunks_from : ℕ → ℕ → Flow → ℕ → List ℕ → List Carried
 chunks_from zero i flow whole b = []
 chunks_from (suc most) i flow whole b =
     if whole == 0 then []
-    else if nat_lt (length b) 4 then BadChunk i chunks.Short ∷ []
-    else if nat_lt (number_2 b 2) 4 then BadChunk i chunks.Bad ∷ []
-    else if nat_lt (length b) (number_2 b 2) then BadChunk i chunks.Short ∷ []
-    else chunk_of i flow (take (number_2 b 2) b)
-      ∷ chunks_from most (i + 1) flow (whole - up_to_four (number_2 b 2)) (drop (up_to_four (number_2 b 2)) b)
+    else chunk_then (λ used. chunks_from most (i + 1) flow (whole - used) (drop used b)) i flow b (chunk_size b)
 
 -- ports and verification tag of the common header
 abbrev pub flow_of : List ℕ → Flow
@@ -122,16 +132,29 @@ extension_size kind b =
 unfoldable pub is_fragment : ℕ → List ℕ → Bool
 is_fragment kind b = (kind == 44) && (not (number_2 b 2 / 8 == 0) || bit (slice_index b 3) 0)
 
+-- a fragment, which is not read if it carries SCTP
+unfoldable pub fragment : List ℕ → Carried
+fragment b = if slice_index b 0 == 132 then Unread Fragment else Other
+
+-- the size of the extension header of this kind, or what the packet carries if there is none that can be passed over
+unfoldable pub extension : ℕ → List ℕ → Result ℕ Carried
+extension kind b =
+    if not (is_extension kind) then Err Other
+    else if nat_lt (length b) 8 then Err (Unread (Short Ipv6))
+    else if is_fragment kind b then Err (fragment b)
+    else if nat_lt (length b) (extension_size kind b) then Err (Unread (Short Ipv6))
+    else Ok (extension_size kind b)
+
+abbrev pub extension_then : (ℕ → List Carried) → Result ℕ Carried → List Carried
+extension_then next (Err carried) = carried ∷ []
+extension_then next (Ok size) = next size
+
 -- what is after the extension headers, of which there are at most the given number
 unfoldable pub after_extensions : ℕ → ℕ → ℕ → List ℕ → List Carried
 after_extensions zero kind whole b = Other ∷ []
 after_extensions (suc most) kind whole b =
     if kind == 132 then sctp whole b
-    else if not (is_extension kind) then Other ∷ []
-    else if nat_lt (length b) 8 then Unread (Short Ipv6) ∷ []
-    else if is_fragment kind b then (if slice_index b 0 == 132 then Unread Fragment ∷ [] else Other ∷ [])
-    else if nat_lt (length b) (extension_size kind b) then Unread (Short Ipv6) ∷ []
-    else after_extensions most (slice_index b 0) (whole - extension_size kind b) (drop (extension_size kind b) b)
+    else extension_then (λ size. after_extensions most (slice_index b 0) (whole - size) (drop size b)) (extension kind b)
 
 -- the octets after the header; payload length 0, as above, is the whole packet
 unfoldable pub ipv6_size : List ℕ → ℕ
