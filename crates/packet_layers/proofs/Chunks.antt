@@ -1,6 +1,7 @@
 -- One chunk after another.
-use Rattle.std.proofs.Common.{◌≡◌, ℕ, zero, suc, ◌+◌, ◌-◌, ◌<◌, List, [], ◌∷◌, ◌++◌, map, take, drop, Ok, Err}
+use Rattle.std.proofs.Common.{◌≡◌, ℕ, zero, suc, ◌+◌, ◌-◌, ◌<◌, false, eqb, List, [], ◌∷◌, ◌++◌, map, take, drop, Ok, Err}
 use Rattle.std.proofs.Common.{refl, sym, ◌∙◌, ap, append_assoc, arith}
+use Rattle.std.proofs.lemmas.Bool.{ne_eqb}
 use Rattle.std.proofs.lemmas.List.{append-nil, map-append}
 use Rattle.packet_layers.specs.declared.flow.Flow.{Flow}
 use Rattle.packet_layers.specs.declared.found.Found.{Found}
@@ -19,8 +20,8 @@ next : (most i : ℕ) (flow : Flow) (whole : ℕ) (b : List ℕ) → 0 < most �
     ≡ chunk_then (λ used. chunks_from (most - 1) (i + 1) flow (whole - used) (drop used b)) i flow b (chunk_size b)
 unfolding chunks_from
 next zero i flow whole b some left = absurd (omega arith)
-next (suc most) i flow zero b some left = absurd (omega arith)
-next (suc most) i flow (suc whole) b some left = let e : suc most - 1 ≡ most = omega arith in rw e refl
+next (suc most) i flow whole b some left =
+    let e : suc most - 1 ≡ most = omega arith in let t : eqb whole 0 ≡ false = ne_eqb whole 0 (λ z. omega arith) in rw (e, t) refl
 
 pushed : (list now : List Found) (f : Found) (c : Carried) (rest : List Carried) → now ≡ list ++ f ∷ [] → found_as f ≡ c
     → map found_as now ++ rest ≡ map found_as list ++ (c ∷ rest)

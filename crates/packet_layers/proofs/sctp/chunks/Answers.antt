@@ -1,4 +1,4 @@
-use Rattle.std.proofs.Common.{arith}
+use Rattle.std.proofs.Common.{refl, arith}
 use Rattle.packet_layers.proofs.Chunks.{is_done, is_full, is_bad, goes_on}
 use Rattle.packet_layers.proofs.sctp.chunks.Goals as goal
 
