@@ -1,6 +1,7 @@
 -- One header after another, and one tag after another.
-use Rattle.std.proofs.Common.{◌≡◌, ℕ, zero, suc, ◌+◌, ◌-◌, ◌/◌, ◌<◌, ◌≤◌, Bool, true, false, List, [], ◌∷◌, length, map, take, drop, get_or, Result, Ok, Err}
-use Rattle.std.proofs.Common.{IfOk, refl, sym, ◌∙◌, ap, subst, arith}
+use Rattle.std.proofs.Common.{◌≡◌, ℕ, zero, suc, ◌+◌, ◌-◌, ◌/◌, ◌<◌, ◌≤◌, Bool, true, false, List, [], ◌∷◌, length, map, take, drop, get_or}
+use Rattle.std.proofs.Common.{Result, Ok, Err}
+use Rattle.std.proofs.Common.{IfOk, refl, sym, ◌∙◌, subst, arith}
 use Rattle.std.proofs.lemmas.Bool.{ne_eqb, lt-ltb, le-ltb}
 use Rattle.std.proofs.lemmas.List.{length-drop, take_all}
 use Rattle.packet_layers.specs.declared.found.Found.{Found}
@@ -67,7 +68,8 @@ unfolding by_type
 short_tag zero kind b tag some e t few = absurd (omega arith)
 short_tag (suc most) kind b tag some e t few = rw (← e, t, lt-ltb (length b) 4 few) refl
 
-pub is_ip : (most kind : ℕ) (b : List ℕ) (tag : Bool) → 0 < most → tag ≡ is_tag kind → tag ≡ false → kind ≡ 0x0800 → ip b ≡ by_type most kind b
+pub is_ip : (most kind : ℕ) (b : List ℕ) (tag : Bool) → 0 < most → tag ≡ is_tag kind → tag ≡ false → kind ≡ 0x0800
+    → ip b ≡ by_type most kind b
 unfolding by_type
 is_ip zero kind b tag some e f same = absurd (omega arith)
 is_ip (suc most) kind b tag some e f same = rw (← e, f, same) refl

@@ -1,7 +1,8 @@
 //! IPv6 packets (RFC 8200).
 ghost use Rattle.std.specs.Prelude.{◌≡◌, ◌≤◌, length, map, IfOk, IfErr, Ok, Err};
 ghost use Rattle.packet_layers.specs.Values.{found_as};
-ghost use Rattle.packet_layers.specs.Layers.{after_extensions, extension, extension_size, fragment, ipv6, ipv6_size, is_extension, is_fragment};
+ghost use Rattle.packet_layers.specs.Layers.{after_extensions, extension, extension_size, fragment, ipv6, ipv6_size, is_extension};
+ghost use Rattle.packet_layers.specs.Layers.{is_fragment};
 
 use crate::fault::Fault;
 use crate::found::Found;
