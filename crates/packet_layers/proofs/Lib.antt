@@ -1,0 +1,3 @@
+mod Worked
+pub mod Chunks
+pub mod Turns
