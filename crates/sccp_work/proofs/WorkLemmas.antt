@@ -4,8 +4,6 @@ use Rattle.std.proofs.Common.{ap, subst, append-nil, arith, inl, inr}
 use Rattle.std.specs.Prelude.{is_none, IsErrOf, OnOk}
 use Rattle.std.specs.Io.{StartsWith}
 use Rattle.std.specs.Io.KnownBytes.{append_known}
-use Rattle.plan_model.specs.Network.{Network}
-use Rattle.plan_verify.specs.declared.verdict.Verdict.{Verdict}
 use Rattle.sccp_io.specs.Faults.{Rose}
 use Rattle.sccp_io.specs.Files.{Contents, Reads, lacks}
 use Rattle.sccp_work.specs.Ending.{Goes, IsCut, IsSpared, Stops, Works, Answers, Outcome, Closes, answer_of, early}
@@ -13,8 +11,8 @@ use Rattle.sccp_work.specs.Moment.{Moment}
 use Rattle.sccp_work.specs.Numbers.{Batch, AreNumbers}
 use Rattle.sccp_work.specs.Texts.{read_fault}
 use Rattle.sccp_work.specs.Writing.{Writes}
-use Rattle.sccp_work.specs.Questions.{IsJudged}
-use Rattle.sccp_work.specs.Work.{Work, finish, print, read, read_on, judge, mix, serve, answered, Ends, ComesToReading}
+use Rattle.sccp_work.specs.Questions.{Question, Reply, IsTrueOf}
+use Rattle.sccp_work.specs.Work.{Work, finish, print, read, read_on, ask, serve, answered, Ends, ComesToReading}
 use Rattle.sccp_work.specs.Work.{BeginsWith, HasFiles}
 use Rattle.sccp_work.specs.declared.status.Status.{Status}
 use Rattle.sccp_work.specs.declared.status.Status.TheVariants.{NoMemory, ReadFault, WriteFault}
