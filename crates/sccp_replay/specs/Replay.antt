@@ -182,12 +182,12 @@ abbrev pub start : ℕ → Network → Standing
 start workers plan = record { workers = workers; first = plan; later = []; states = first_states plan }
 
 -- the line of an accepted first plan is printed, and then the trace is read
+abbrev pub replayed_under : List ℕ → List ℕ → ℕ → Network → Verified → Work
+replayed_under plan_name trace_name workers plan accepted =
+    print (first_plan_line plan_name accepted.bound) (read trace_name (λ octets. trace_work (start workers plan) (trace_of octets)))
+
 abbrev pub replayed : List ℕ → List ℕ → ℕ → Network → Verdict → Work
-replayed plan_name trace_name workers plan (Accepted a) =
-    print (first_plan_line plan_name a.bound) (read trace_name (λ octets. trace_work (start workers plan) (trace_of octets)))
-replayed plan_name trace_name workers plan (Refused same witness) =
-    answered (status_of (Refused same witness), verdict_text plan (Refused same witness))
-replayed plan_name trace_name workers plan (TooWide same) = answered (status_of (TooWide same), verdict_text plan (TooWide same))
+replayed plan_name trace_name workers plan = accepted_on [] (replayed_under plan_name trace_name workers plan) plan
 
 unfoldable pub replay_work : List ℕ → List ℕ → ℕ → Work
-replay_work plan_name trace_name workers = with_plan plan_name (λ plan. judge plan (replayed plan_name trace_name workers plan))
+replay_work plan_name trace_name workers = with_plan plan_name (λ plan. if_accepted [] plan (replayed_under plan_name trace_name workers plan))

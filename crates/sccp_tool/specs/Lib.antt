@@ -5,6 +5,7 @@ pub mod Connect
 pub mod Import
 pub mod Load
 pub mod Parsed
+pub mod Promise
 pub mod Replay
 pub mod Route
 pub mod Run
