@@ -1,7 +1,7 @@
 -- The ranks of subsystem numbers.
 use Rattle.std.specs.Prelude.{ℕ, ◌≡◌, ◌==◌, true, false, Option, Some, None, nat_eq, refl}
 use Rattle.std.specs.Option.{option_eq}
-use Rattle.std.proofs.Common.{arith, ap, sym, ◌∙◌}
+use Rattle.std.proofs.Common.{arith, sym}
 use Rattle.std.proofs.lemmas.Bool.Decides.{nat_tests}
 use Rattle.std.proofs.lemmas.Bool.{false≢true}
 use Rattle.plan_rules.specs.Order.{ssn_rank}

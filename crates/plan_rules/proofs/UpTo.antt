@@ -1,6 +1,6 @@
 -- The order of lists of numbers, from a place on.
 use Rattle.std.specs.Prelude.{ℕ, ◌≡◌, ◌≢◌, ◌<◌, ◌≤◌, ◌+◌, ◌==◌, ◌&&◌, ◌||◌, nat_lt, Bool, true, false, List, length, drop, refl}
-use Rattle.std.proofs.Common.{get_or, drop-cons, arith, ◌∙◌}
+use Rattle.std.proofs.Common.{get_or, drop-cons, add-one, arith, ◌∙◌}
 use Rattle.std.proofs.lemmas.Bool.{eq-eqb, ne_eqb, le-ltb}
 use Rattle.std.proofs.lemmas.List.{drop_all}
 use Rattle.plan_rules.specs.Order.{up_to}
