@@ -1,7 +1,8 @@
 -- What is found in a packet is in its octets.
-use Rattle.std.proofs.Common.{◌≡◌, ℕ, zero, suc, ◌+◌, ◌-◌, ◌*◌, ◌/◌, ◌%◌, ◌^◌, ◌<◌, ◌≤◌, Bool, true, false, cond, eqb, ltb, not, List, [], ◌∷◌, ◌++◌, length}
-use Rattle.std.proofs.Common.{take, drop, get_or, Result, Ok, Err, refl, sym, ◌∙◌, ap, subst, arith, append_assoc, length-append, length-drop}
-use Rattle.std.specs.Int.{w16, w32, to_be_bytes, to_le_bytes}
+use Rattle.std.proofs.Common.{◌≡◌, ℕ, zero, suc, ◌+◌, ◌-◌, ◌*◌, ◌%◌, ◌^◌, ◌≤◌, Bool, true, false, cond, eqb, ltb, not, List, [], ◌∷◌, ◌++◌}
+use Rattle.std.proofs.Common.{length}
+use Rattle.std.proofs.Common.{take, drop, get_or, Result, Ok, Err, refl, sym, ◌∙◌, ap, arith, append_assoc, length-append, length-drop}
+use Rattle.std.specs.Int.{w32, to_le_bytes}
 use Rattle.std.specs.List.{All}
 use Rattle.std.proofs.lemmas.Bool.{ltb-false, eqb-true, not-false}
 use Rattle.std.proofs.lemmas.List.{take-append-drop, drop-drop, length-take-le, get_or-take, append-nil}
@@ -12,27 +13,36 @@ use Rattle.packet_layers.specs.declared.fault.Fault.TheVariants.{Short}
 use Rattle.packet_layers.specs.declared.layer.Layer.TheVariants.{Sctp}
 use Rattle.packet_layers.specs.declared.chunk_fault.ChunkFault.{ChunkFault}
 use Rattle.packet_layers.specs.declared.chunk_fault.ChunkFault.TheVariants as chunks
-use Rattle.packet_layers.specs.Numbers.{number_2, number_4, up_to_four, bit}
+use Rattle.packet_layers.specs.Numbers.{number_2, up_to_four, bit}
 use Rattle.packet_layers.specs.Values.{DataChunk, Transferred, Carried, Chunk, BadChunk, Signal, Bare, Unread, Other}
 use Rattle.packet_layers.specs.Layers.{chunk_of, chunk_size, chunk_then, chunks_from, data_of, flow_of, sctp}
-use Rattle.packet_layers.specs.Places.{header_octets, chunk_octets, HasChunk, HasTransfer, IsIn}
-use Rattle.packet_layers.proofs.Octets.{AreOctets, AreOctets-drop, AreOctets-take, next_two, spelled_2, spelled_4, spelled_little}
+use Rattle.packet_layers.specs.Places.{header_octets, chunk_octets, HasChunk, HasTransfer}
+use Rattle.packet_layers.proofs.Octets.{AreOctets, AreOctets-drop, AreOctets-take, next_two, spelled_2, spelled_4}
 
 -- ---- choices
 
-either : {X : Type 0} (P : X → Type 0) (t : Bool) (x y : X) → (t ≡ true → P x) → (t ≡ false → P y) → P (cond t x y)
+pub either : {X : Type 0} (P : X → Type 0) (t : Bool) (x y : X) → (t ≡ true → P x) → (t ≡ false → P y) → P (cond t x y)
 either P true x y f g = f refl
 either P false x y f g = g refl
 
-both : {X : Type 0} (P : X → Type 0) (t : Bool) (x y : X) → P x → P y → P (cond t x y)
+pub both : {X : Type 0} (P : X → Type 0) (t : Bool) (x y : X) → P x → P y → P (cond t x y)
 both P true x y p q = p
 both P false x y p q = q
 
-one : (P : Carried → Type 0) (c : Carried) → P c → All P (c ∷ [])
+pub one : (P : Carried → Type 0) (c : Carried) → P c → All P (c ∷ [])
 one P c p = All-cons P c [] p (All-nil P)
 
-each : (P Q : Carried → Type 0) → ((c : Carried) → P c → Q c) → (cs : List Carried) → All P cs → All Q cs
+pub each : (P Q : Carried → Type 0) → ((c : Carried) → P c → Q c) → (cs : List Carried) → All P cs → All Q cs
 each P Q f cs all k d lt = f _ (all k d lt)
+
+regroup_3 : (a b c d : List ℕ) → a ++ (b ++ c ++ d) ≡ (a ++ b) ++ c ++ d
+regroup_3 a b c d = simp append_assoc
+
+regroup_4 : (a b c d e f : List ℕ) → a ++ (b ++ c ++ d ++ e) ++ f ≡ (a ++ b) ++ c ++ d ++ (e ++ f)
+regroup_4 a b c d e f = simp append_assoc
+
+regroup_5 : (a b c d e f g : List ℕ) → a ++ (b ++ c ++ d ++ e ++ f) ++ g ≡ (a ++ b) ++ c ++ d ++ e ++ (f ++ g)
+regroup_5 a b c d e f g = simp append_assoc
 
 -- ---- one chunk
 
@@ -115,16 +125,17 @@ chunk_in i size flow b octets inside size_is least =
 later_tail : (flow : Flow) (used : ℕ) (b : List ℕ) (d : DataChunk) → used % 4 ≡ 0 → HasTail flow (drop used b) d → HasTail flow b d
 later_tail flow used b d four h =
     let whole : b ≡ take used b ++ drop used b = sym (take-append-drop used b) in
-    let tail : List ℕ = chunk_octets h.flags d ++ h.after in
-    let size : length (drop used b) ≡ length (h.between ++ tail) = ap length h.parts in
-    let sum : length (h.between ++ tail) ≡ length h.between + length tail = length-append h.between tail in
-    let some : 2 ≤ length tail = omega arith in
-    let front : length (take used b) ≡ used = length-take-le used b (omega (arith, length-drop used b)) in
+    let chunk : List ℕ = chunk_octets h.flags d in
+    let size : length (drop used b) ≡ length (h.between ++ chunk ++ h.after) = ap length h.parts in
+    let some : 2 ≤ length chunk = omega arith in
+    let inside : used ≤ length b =
+    omega (arith, length-drop used b, length-append (h.between ++ chunk) h.after, length-append h.between chunk) in
+    let front : length (take used b) ≡ used = length-take-le used b inside in
     record {
       between = take used b ++ h.between;
       flags = h.flags;
       after = h.after;
-      parts = whole ∙ ap (λ (l : List ℕ). take used b ++ l) h.parts ∙ sym (append_assoc (take used b) h.between _);
+      parts = whole ∙ ap (λ (l : List ℕ). take used b ++ l) h.parts ∙ regroup_3 (take used b) h.between (chunk_octets h.flags d) h.after;
       same = h.same;
       aligned = omega (arith, length-append (take used b) h.between, h.aligned);
       unordered = h.unordered;
@@ -171,7 +182,7 @@ chunks_in (suc most) i flow whole b octets =
 -- ---- a packet
 
 -- the chunk or message is in the octets, wherever
-abbrev Within : List ℕ → Carried → Type 0
+abbrev pub Within : List ℕ → Carried → Type 0
 Within b (Chunk i d) = HasChunk b d
 Within b (BadChunk i fault) = Unit {0}
 Within b (Signal t) = HasTransfer b t
@@ -179,26 +190,20 @@ Within b (Bare octets) = ⊥
 Within b (Unread fault) = Unit {0}
 Within b Other = Unit {0}
 
-regroup : (a b c d e f g : List ℕ) → a ++ (b ++ c ++ d ++ e ++ f) ++ g ≡ (a ++ b) ++ c ++ d ++ e ++ f ++ g
-regroup a b c d e f g = simp append_assoc
-
-four_parts : (a b c d e : List ℕ) → (a ++ b ++ c ++ d) ++ e ≡ a ++ b ++ c ++ d ++ e
-four_parts a b c d e = simp append_assoc
-
 -- octets among others
-record IsPart (part : List ℕ) (b : List ℕ) : Type 0 where
-  front : List ℕ
-  back : List ℕ
-  parts : b ≡ front ++ part ++ back
+pub record IsPart (part : List ℕ) (b : List ℕ) : Type 0 where
+  pub front : List ℕ
+  pub back : List ℕ
+  pub parts : b ≡ front ++ part ++ back
 
-is_take : (n : ℕ) (b : List ℕ) → IsPart (take n b) b
+pub is_take : (n : ℕ) (b : List ℕ) → IsPart (take n b) b
 is_take n b = record { front = []; back = drop n b; parts = sym (take-append-drop n b) }
 
-is_drop : (n : ℕ) (b : List ℕ) → IsPart (drop n b) b
+pub is_drop : (n : ℕ) (b : List ℕ) → IsPart (drop n b) b
 is_drop n b = record {
   front = take n b;
   back = [];
-  parts = sym (take-append-drop n b) ∙ ap (λ (l : List ℕ). take n b ++ l) (sym (append-nil (drop n b)));
+  parts = sym (append-nil (take n b ++ drop n b) ∙ take-append-drop n b);
 }
 
 wider_chunk : (part b : List ℕ) (d : DataChunk) → IsPart part b → HasChunk part d → HasChunk b d
@@ -209,7 +214,7 @@ wider_chunk part b d p h = record {
   flags = h.flags;
   after = h.after ++ p.back;
   parts = p.parts ∙ ap (λ (l : List ℕ). p.front ++ l ++ p.back) h.parts
-      ∙ regroup p.front h.before (header_octets d.flow h.checksum) h.between (chunk_octets h.flags d) h.after p.back;
+      ∙ regroup_5 p.front h.before (header_octets d.flow h.checksum) h.between (chunk_octets h.flags d) h.after p.back;
   four = h.four;
   aligned = h.aligned;
   unordered = h.unordered;
@@ -227,7 +232,7 @@ wider_transfer part b t p h =
       selection = h.selection;
       after = h.after ++ p.back;
       parts = p.parts ∙ ap (λ (l : List ℕ). p.front ++ l ++ p.back) h.parts
-          ∙ regroup p.front h.before octets [] t.payload h.after p.back;
+          ∙ regroup_4 p.front h.before octets t.payload h.after p.back;
       service = h.service;
       origin = h.origin;
       destination = h.destination;
@@ -241,7 +246,7 @@ wider part b p (Bare octets) h = h
 wider part b p (Unread fault) h = tt
 wider part b p Other h = tt
 
-widen : (part b : List ℕ) (cs : List Carried) → IsPart part b → All (Within part) cs → All (Within b) cs
+pub widen : (part b : List ℕ) (cs : List Carried) → IsPart part b → All (Within part) cs → All (Within b) cs
 widen part b cs p = each (Within part) (Within b) (wider part b p) cs
 
 -- ---- SCTP
@@ -253,7 +258,7 @@ spelled_header b octets some =
     let p0 = spelled_2 b 0 octets (omega arith) in
     let p2 = spelled_2 b 2 octets (omega arith) in
     let p4 = spelled_4 b 4 octets (omega arith) in
-    four_parts _ _ _ _ _ ∙ rw (last, p4, p2, p0) refl
+    rw (last, p4, p2, p0) refl
 
 has_chunk : (b : List ℕ) (d : DataChunk) → AreOctets b → 12 ≤ length b → HasTail (flow_of b) (drop 12 b) d → HasChunk b d
 has_chunk b d octets some h =
@@ -266,7 +271,8 @@ has_chunk b d octets some h =
       between = h.between;
       flags = h.flags;
       after = h.after;
-      parts = sym front ∙ ap (λ (l : List ℕ). header_octets d.flow checksum ++ l) h.parts;
+      parts = sym front ∙ ap (λ (l : List ℕ). header_octets d.flow checksum ++ l) h.parts
+          ∙ regroup_3 (header_octets d.flow checksum) h.between (chunk_octets h.flags d) h.after;
       four = length-take-le 4 (drop 8 b) (omega (arith, length-drop 8 b));
       aligned = h.aligned;
       unordered = h.unordered;

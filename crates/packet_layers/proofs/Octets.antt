@@ -1,8 +1,8 @@
 -- Numbers and the octets that spell them.
-use Rattle.std.proofs.Common.{◌≡◌, ℕ, zero, suc, ◌+◌, ◌-◌, ◌*◌, ◌/◌, ◌%◌, ◌^◌, ◌<◌, ◌≤◌, List, [], ◌∷◌, ◌++◌, length, take, drop, get_or}
+use Rattle.std.proofs.Common.{◌≡◌, ℕ, zero, suc, ◌+◌, ◌<◌, ◌≤◌, List, [], ◌∷◌, ◌++◌, length, take, drop, get_or}
 use Rattle.std.proofs.Common.{refl, sym, ◌∙◌, ap, subst, arith}
-use Rattle.std.specs.Int.{w16, w32, to_be_bytes, to_le_bytes, from_le_bytes}
-use Rattle.std.proofs.lemmas.List.{take-append-drop, drop-drop, drop_more, get_or-drop}
+use Rattle.std.specs.Int.{w16, w32, to_be_bytes, to_le_bytes}
+use Rattle.std.proofs.lemmas.List.{drop_more, get_or-drop}
 use Rattle.std.proofs.lemmas.Nat.{be_bytes_2, be_bytes_4, le_bytes_4}
 use Rattle.packet_layers.specs.Numbers.{number_2, number_4, little_4}
 

@@ -1,5 +1,6 @@
 //! The links by which packets come, by the numbers of tcpdump's list of link types.
-ghost use Rattle.std.specs.Prelude.{◌≡◌, ◌≤◌, length, map, IfOk};
+ghost use Rattle.std.specs.Prelude.{◌≡◌, All, map, IfOk};
+ghost use Rattle.packet_layers.specs.Places.{IsIn};
 ghost use Rattle.packet_layers.specs.Values.{found_as};
 ghost use Rattle.packet_layers.specs.Layers.{by_type, cooked, cooked_2, ethernet, found_in, is_tag, raw};
 
@@ -107,22 +108,16 @@ fn raw<'a>(alloc: Global, octets: &'a [u8]) -> Result<List<Found<'a>>, OutOfMemo
     }
 }
 
-/// What the octets of a packet carry, in their order. The packet came by this link and had the original number of octets
-/// before it was captured, so the octets may be only its first ones.
-///
-/// `octets` begin with the header of the link: Ethernet (1), Linux cooked (113, 276), IP of either version (12, 14, 101),
-/// IPv4 (228), IPv6 (229), SCTP (248), MTP2 (140), MTP3 (141) or SCCP (142). Any other link gives `Fault::Link`. The only
-/// error is want of memory.
+// What a packet carries, by its link.
 #[tactic(auto, unfolding(crate::specs::Layers::found_in))]
-pub fn found_in<'a>(
+fn by_link<'a>(
     alloc: Global,
     link: u16,
-    original: u32,
+    original: usize,
     octets: &'a [u8],
 ) -> Result<List<Found<'a>>, OutOfMemory>
-    ensures exact { IfOk result (λ list. map found_as list ≡ found_in link original octets.now) }
+    ensures { IfOk result (λ list. map found_as list ≡ found_in link original octets.now) }
 {
-    let original = original as usize;
     match link {
         1 => ethernet(alloc, octets),
         113 => cooked(alloc, octets),
@@ -136,4 +131,22 @@ pub fn found_in<'a>(
         140 => single(alloc, mtp2(original, octets)),
         _ => single(alloc, Found::Unread(Fault::Link(link))),
     }
+}
+
+/// What the octets of a packet carry, in their order. The packet came by this link and had the original number of octets
+/// before it was captured, so the octets may be only its first ones.
+///
+/// `octets` begin with the header of the link: Ethernet (1), Linux cooked (113, 276), IP of either version (12, 14, 101),
+/// IPv4 (228), IPv6 (229), SCTP (248), MTP2 (140), MTP3 (141) or SCCP (142). Any other link gives `Fault::Link`. The only
+/// error is want of memory.
+pub fn found_in<'a>(
+    alloc: Global,
+    link: u16,
+    original: u32,
+    octets: &'a [u8],
+) -> Result<List<Found<'a>>, OutOfMemory>
+    ensures exact { IfOk result (λ list. map found_as list ≡ found_in link original octets.now) }
+    ensures is_in { IfOk result (λ list. All (IsIn octets.now) (map found_as list)) }
+{
+    by_link(alloc, link, original as usize, octets)
 }
