@@ -4,13 +4,15 @@ use Rattle.std.proofs.Common.{List, [], ◌∷◌, length, take, drop, get_or, m
 use Rattle.std.specs.Prelude.{slice_range}
 use Rattle.std.specs.List.{All}
 use Rattle.std.proofs.lemmas.Bool.{ltb-false}
+use Rattle.std.proofs.lemmas.List.Elements.{All-head}
 use Rattle.std.proofs.lemmas.List.{append-nil, drop_more}
-use Rattle.packet_layers.specs.declared.layer.Layer.TheVariants.{Ethernet, Cooked, Ip, Ipv6, Mtp2, Mtp3, Sccp}
+use Rattle.packet_layers.specs.declared.layer.Layer.TheVariants.{Ethernet, Cooked, Loopback, M2pa, Ip, Ipv6, Mtp2, Mtp3, Sccp}
 use Rattle.packet_layers.specs.declared.fault.Fault.TheVariants.{Link, Short, Bad, Fragment}
 use Rattle.packet_layers.specs.declared.found.Found.{Found}
-use Rattle.packet_layers.specs.Numbers.{number_2}
+use Rattle.packet_layers.specs.Numbers.{number_2, number_4, little_4}
 use Rattle.packet_layers.specs.Values.{Carried, Chunk, BadChunk, Signal, Bare, Unread, Other, found_as}
-use Rattle.packet_layers.specs.Layers.{transfer_of, label, mtp3, unit_of, mtp2, ip, ip_header, ip_size, is_ip, is_extension}
+use Rattle.packet_layers.specs.Layers.{by_family, loopback, loopback_2, m2pa, is_m2pa, transfer_of, label, mtp3, unit_of, mtp2, ip}
+use Rattle.packet_layers.specs.Layers.{ip_header, ip_size, is_ip, is_extension}
 use Rattle.packet_layers.specs.Layers.{extension_size, is_fragment, fragment, extension, extension_then, after_extensions, ipv6}
 use Rattle.packet_layers.specs.Layers.{ipv6_size, is_tag, by_type, ethernet, cooked, cooked_2, raw, sccp, whole_mtp3, sctp, found_in}
 use Rattle.packet_layers.specs.Places.{HasTransfer, IsIn}
@@ -45,6 +47,19 @@ mtp3_in b octets = either (Within b) (ltb (length b) 5) (Unread (Short Mtp3)) (S
 
 part_in : (part b : List ℕ) → AreOctets part → IsPart part b → All (Within b) (mtp3 part ∷ [])
 part_in part b octets p = widen part b (mtp3 part ∷ []) p (alone part (mtp3 part) (mtp3_in part octets))
+
+m2pa_in : (b : List ℕ) → AreOctets b → All (Within b) (m2pa b ∷ [])
+unfolding m2pa
+m2pa_in b octets =
+    let size = number_4 b 4 in
+    let P = λ (c : Carried). All (Within b) (c ∷ []) in
+    both P (ltb (length b) 16) (Unread (Short M2pa)) _ (alone b (Unread (Short M2pa)) tt)
+    (both P (not (is_m2pa b)) (Unread (Bad M2pa)) _ (alone b (Unread (Bad M2pa)) tt)
+    (both P (not (eqb (get_or b 3 0) 1)) Other _ (alone b Other tt)
+    (both P (ltb size 17) Other (mtp3 (slice_range b 17 size)) (alone b Other tt)
+    (widen (drop 17 b) b (mtp3 (take (size - 17) (drop 17 b)) ∷ []) (is_drop 17 b)
+    (part_in (take (size - 17) (drop 17 b)) (drop 17 b) (AreOctets-take (size - 17) (drop 17 b) (AreOctets-drop 17 b octets))
+    (is_take (size - 17) (drop 17 b)))))))
 
 -- ---- IP
 
@@ -137,6 +152,29 @@ unfolding cooked_2
 cooked_2_in b octets = both (All (Within b)) (ltb (length b) 20) (Unread (Short Cooked) ∷ []) _ (alone b (Unread (Short Cooked)) tt)
     (header_in 20 (number_2 b 0) b octets)
 
+by_family_in : (family : ℕ) (b : List ℕ) → AreOctets b → All (Within b) (by_family family (drop 4 b))
+unfolding by_family
+by_family_in family b octets =
+    let inner : List ℕ = drop 4 b in
+    let octets' : AreOctets inner = AreOctets-drop 4 b octets in
+    widen inner b _ (is_drop 4 b)
+    (both (All (Within inner)) (eqb family 2) (ip inner) _ (ip_in inner octets')
+    (both (All (Within inner)) (eqb family 24 || (eqb family 28 || eqb family 30)) (ipv6 inner) (Other ∷ []) (ipv6_in inner octets')
+    (alone inner Other tt)))
+
+loopback_in : (b : List ℕ) → AreOctets b → All (Within b) (loopback b)
+unfolding loopback
+loopback_in b octets =
+    both (All (Within b)) (ltb (length b) 4) (Unread (Short Loopback) ∷ []) _ (alone b (Unread (Short Loopback)) tt)
+    (both (All (Within b)) (ltb (little_4 b 0) 65536) (by_family (little_4 b 0) (drop 4 b)) (by_family (number_4 b 0) (drop 4 b))
+    (by_family_in (little_4 b 0) b octets) (by_family_in (number_4 b 0) b octets))
+
+loopback_2_in : (b : List ℕ) → AreOctets b → All (Within b) (loopback_2 b)
+unfolding loopback_2
+loopback_2_in b octets =
+    both (All (Within b)) (ltb (length b) 4) (Unread (Short Loopback) ∷ []) (by_family (number_4 b 0) (drop 4 b))
+    (alone b (Unread (Short Loopback)) tt) (by_family_in (number_4 b 0) b octets)
+
 raw_in : (b : List ℕ) → AreOctets b → All (Within b) (raw b)
 unfolding raw
 raw_in b octets =
@@ -192,15 +230,21 @@ found_is_in link original b octets =
     (both P (eqb link 113) (cooked b) _ (all_in b _ (cooked_in b octets))
     (both P (eqb link 276) (cooked_2 b) _ (all_in b _ (cooked_2_in b octets))
     (both P (eqb link 101 || (eqb link 12 || eqb link 14)) (raw b) _ (all_in b _ (raw_in b octets))
+    (both P (eqb link 0) (loopback b) _ (all_in b _ (loopback_in b octets))
+    (both P (eqb link 108) (loopback_2 b) _ (all_in b _ (loopback_2_in b octets))
     (both P (eqb link 228) (ip b) _ (all_in b _ (ip_in b octets))
     (both P (eqb link 229) (ipv6 b) _ (all_in b _ (ipv6_in b octets))
     (both P (eqb link 248) (sctp (max (length b) original) b) _ (all_in b _ (sctp_in (max (length b) original) b octets))
     (both P (eqb link 142) (sccp original b ∷ []) _ (sccp_in original b)
     (both P (eqb link 141) (whole_mtp3 original b ∷ []) _ (all_in b (whole_mtp3 original b ∷ []) (whole_mtp3_in original b octets))
     (both P (eqb link 140) (mtp2 original b ∷ []) (Unread (Link link) ∷ []) (all_in b (mtp2 original b ∷ []) (mtp2_in original b octets))
-    (one (IsIn b) (Unread (Link link)) tt))))))))))
+    (one (IsIn b) (Unread (Link link)) tt))))))))))))
 
 pub answered : {E : Type 0} (link original : ℕ) (b : List ℕ) (r : Result (List Found) E) → AreOctets b
     → IfOk r (λ l. map found_as l ≡ found_in link original b) → IfOk r (λ l. All (IsIn b) (map found_as l))
 answered link original b (Ok l) octets e = subst (λ (cs : List Carried). All (IsIn b) cs) (sym e) (found_is_in link original b octets)
 answered link original b (Err e) octets h = tt
+
+pub one_answered : (b : List ℕ) (f : Found) → AreOctets b → found_as f ≡ m2pa b → IsIn b (found_as f)
+one_answered b f octets e =
+    subst (λ (c : Carried). IsIn b c) (sym e) (All-head (IsIn b) (m2pa b) [] (all_in b (m2pa b ∷ []) (m2pa_in b octets)))
