@@ -1,2 +1,3 @@
 pub mod UnitLemmas
 pub mod ToldLemmas
+pub mod PieceLemmas

@@ -41,14 +41,20 @@ HasRead s b = (whole : Bool) (rest : List ℕ) → told whole (b ++ rest) ≡ wi
 abbrev pub midway : At → ℕ → List ℕ → Option FileFault → Standing
 midway at place kept fault = record { at = at; place = place; kept = kept; fault = fault; at_end = false }
 
--- However the file goes on: these packets and what is reported from the second position are what is reported from the first.
-abbrev pub Going : At → ℕ → List ℕ → List Captured → At → ℕ → List ℕ → Type 0
-Going at place b packets at' place' b' =
-    (whole : Bool) (more : List ℕ) → told_of whole at place (b ++ more) ≡ with_front packets (told_of whole at' place' (b' ++ more))
+-- However the file goes on, what is reported from the second position on follows the second packets as what is reported from
+-- the first position on follows the first.
+abbrev pub GoesOn : List Captured → At → ℕ → List ℕ → List Captured → At → ℕ → List ℕ → Type 0
+GoesOn packets at place b packets' at' place' b' = (whole : Bool) (more : List ℕ)
+    → with_front packets (told_of whole at place (b ++ more)) ≡ with_front packets' (told_of whole at' place' (b' ++ more))
 
 -- no further unit is whole, or the next one cannot be read
 abbrev pub Ends : Option FileFault → At → ℕ → List ℕ → Type 0
 Ends fault at place b = MatchOption fault (unit at place b ≡ Needs) (λ f. unit at place b ≡ Fails f)
+
+-- what is kept of the rest of a piece
+abbrev pub left : Option FileFault → List ℕ → List ℕ
+left None rest = rest
+left (Some fault) rest = []
 
 -- A reader that kept these octets took a piece: it gave these packets, and this is its state now.
 pub record TakesPiece (at : At) (place : ℕ) (kept piece : List ℕ) (packets : List Captured) (now : Standing) : Type 0 where

@@ -10,8 +10,9 @@ mod file_fault;
 mod held;
 mod numbers;
 mod order;
-//mod pieces;
-//mod reader;
+mod pieces;
+mod progress;
+mod reader;
 mod step;
 mod units;
 
@@ -19,4 +20,4 @@ pub use fed::Fed;
 pub use file_fault::{Damage, FileFault};
 pub use held::{BadPacket, Held, Packet, PacketOctets};
 pub use order::Order;
-//pub use reader::Reader;
+pub use reader::Reader;
