@@ -1,3 +1,4 @@
 pub mod UnitLemmas
 pub mod ToldLemmas
 pub mod PieceLemmas
+pub mod ReaderLemmas

@@ -1,6 +1,8 @@
 //! The units that a piece of a capture file completes.
-ghost use Rattle.std.specs.Prelude.{◌≡◌, ◌<◌, ◌≤◌, ◌+◌, ◌^◌, [], ◌++◌, length, take, drop, map, List, ℕ, ◌==◌, IfNone, IfOk, OnOk, OnErr};
-ghost use Rattle.capture_file.specs.Units.{Needs, unit, is_end};
+ghost use Rattle.std.specs.Prelude.{◌≡◌, true, ◌<◌, ◌≤◌, ◌+◌, ◌^◌, [], ◌++◌, length, take, drop, map, List, ℕ, ◌==◌, IfNone, IfOk, OnOk, OnErr};
+ghost use Rattle.capture_file.specs.Packets.{only};
+ghost use Rattle.capture_file.specs.Units.{Needs, unit};
+ghost use Rattle.capture_file.specs.Told.{ending};
 ghost use Rattle.capture_file.specs.Standings.{GoesOn, Ends, TakesPiece, IsStanding, midway, left};
 ghost use Rattle.capture_file.specs.Views.{at_of, captured};
 
@@ -161,12 +163,12 @@ pub fn take_piece<'a>(
     Ok(progress)
 }
 
-/// Whether the file may end at what is expected, with nothing kept or something.
-pub fn is_end(expected: Expected, nothing: bool) -> bool
-    ensures { (kept : List ℕ) → nothing ≡ (length kept == 0) → result ≡ is_end (at_of expected) kept }
+/// The fault of a file that ends here, with nothing kept or something.
+pub fn ending(expected: Expected, place: u64, nothing: bool) -> Option<FileFault>
+    ensures { (kept : List ℕ) → nothing ≡ (length kept == 0) → only result ≡ ending true (at_of expected) place kept }
 {
     match expected {
-        Expected::Heading => false,
-        Expected::NextRecord(_, _) => nothing,
+        Expected::NextRecord(_, _) if nothing => None,
+        _ => Some(FileFault::Cut(place)),
     }
 }

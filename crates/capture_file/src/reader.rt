@@ -8,7 +8,7 @@ ghost use Rattle.capture_file.specs.Views.{told_as};
 use crate::expected::Expected;
 use crate::fed::Fed;
 use crate::file_fault::FileFault;
-use crate::pieces::{is_end, take_piece};
+use crate::pieces::{ending, take_piece};
 use sccp_base::{List as Packets, OutOfMemory};
 use std::alloc::Global;
 use std::marker::Model;
@@ -109,9 +109,14 @@ impl Reader {
         ensures file { (b : List ℕ) → HasRead self.old b → told true b ≡ with_front (told false b).packets (only result) }
         ensures short { length self.new.kept ≤ 262172 }
     {
-        if !self.at_end && self.fault.is_none() && !is_end(self.expected, self.kept.is_empty()) {
-            self.fault = Some(FileFault::Cut(self.place));
+        if self.at_end {
+            return self.fault;
         }
+        if self.fault.is_some() {
+            self.at_end = true;
+            return self.fault;
+        }
+        self.fault = ending(self.expected, self.place, self.kept.is_empty());
         self.at_end = true;
         self.fault
     }
