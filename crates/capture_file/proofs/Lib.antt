@@ -1,3 +1,4 @@
+mod Worked
 pub mod UnitLemmas
 pub mod ToldLemmas
 pub mod PieceLemmas

@@ -2,10 +2,10 @@
 use Rattle.std.proofs.Common.{◌≡◌, ℕ, List, [], ◌++◌, lit≤, Bool, true, false, Option, Some, None, refl, sym, ◌∙◌, ap}
 use Rattle.std.specs.Prelude.{is_some}
 use Rattle.std.proofs.lemmas.List.{append-nil}
-use Rattle.capture_file.specs.Packets.{Told, only, with_front}
-use Rattle.capture_file.specs.Units.{At, FileStart, Needs, unit}
+use Rattle.capture_file.specs.Packets.{only, with_front}
+use Rattle.capture_file.specs.Units.{FileStart, Needs, unit}
 use Rattle.capture_file.specs.Told.{ending, told_from, told_of, told}
-use Rattle.capture_file.specs.Standings.{Standing, IsStanding, HasRead, ahead, ahead_unless, beginning}
+use Rattle.capture_file.specs.Standings.{Standing, IsStanding, HasRead, ahead, ahead_unless}
 use Rattle.capture_file.specs.declared.file_fault.FileFault.{FileFault}
 use Rattle.capture_file.proofs.UnitLemmas.{unit-nothing}
 use Rattle.capture_file.proofs.ToldLemmas.{told-needs}
@@ -34,11 +34,13 @@ pub told-end : (s : Standing) (b : List ℕ) (fault : Option FileFault) → HasR
 told-end s b fault read e = ap (told true) (sym (append-nil b)) ∙ read true [] ∙ ap (with_front (told false b).packets) (sym e)
 
 -- nothing was fed
-pub read-nothing : (kept : List ℕ) → kept ≡ [] → HasRead (record { at = FileStart; place = 0; kept = kept; fault = None; at_end = false }) []
+pub read-nothing : (kept : List ℕ) → kept ≡ [] → HasRead (record { at = FileStart; place = 0; kept = kept; fault = None; at_end = false })
+    []
 unfolding told_from
 read-nothing kept none = λ whole rest. ap (λ l. told_of whole FileStart 0 (l ++ rest)) (sym none)
 
-pub stands-beginning : (kept : List ℕ) → kept ≡ [] → IsStanding (record { at = FileStart; place = 0; kept = kept; fault = None; at_end = false })
+pub stands-beginning : (kept : List ℕ) → kept ≡ []
+    → IsStanding (record { at = FileStart; place = 0; kept = kept; fault = None; at_end = false })
 stands-beginning kept none = record {
   short = rw none (lit≤ tt);
   unfinished = ap (unit FileStart 0) none ∙ unit-nothing FileStart 0;

@@ -1,13 +1,15 @@
 -- What is reported of octets, unit by unit.
-use Rattle.std.proofs.Common.{◌≡◌, ◌<◌, ◌≤◌, ◌+◌, ◌-◌, ℕ, zero, suc, List, [], ◌∷◌, ◌++◌, length, drop, Bool, true, false, Option, Some, None, refl, sym, ◌∙◌, ap, subst, append_assoc, arith, length-append}
+use Rattle.std.proofs.Common.{◌≡◌, ◌<◌, ◌≤◌, ◌+◌, ℕ, zero, suc, List, [], ◌∷◌, ◌++◌, length, drop, Bool, Option, Some, refl, sym, ◌∙◌, ap}
+use Rattle.std.proofs.Common.{append_assoc, arith}
 use Rattle.std.proofs.lemmas.List.{append-nil, length-drop, drop-append-le}
 use Rattle.capture_file.specs.Packets.{Captured, Told, only, with_front}
 use Rattle.capture_file.specs.Units.{At, Step, Takes, Needs, Fails, unit}
 use Rattle.capture_file.specs.Told.{ending, told_by, told_from, told_of}
 use Rattle.capture_file.specs.declared.file_fault.FileFault.{FileFault}
-use Rattle.capture_file.proofs.UnitLemmas.{StaysAs, unit-stays, IsWithin, unit-within, unit-nothing}
+use Rattle.capture_file.proofs.UnitLemmas.{unit-stays, IsWithin, unit-within, unit-nothing}
 
-pub with_front-twice : (front back : List Captured) (told : Told) → with_front front (with_front back told) ≡ with_front (front ++ back) told
+pub with_front-twice : (front back : List Captured) (told : Told)
+    → with_front front (with_front back told) ≡ with_front (front ++ back) told
 with_front-twice front back told = λ i. record { packets = sym (append_assoc front back told.packets) i; fault = told.fault }
 
 pub with_front-only : (front : List Captured) (fault : Option FileFault)
@@ -24,12 +26,15 @@ told-nothing (suc units) whole at place [] none = ap (told_by (told_from units w
 told-nothing (suc units) whole at place (x ∷ xs) none = absurd (omega arith)
 
 abbrev Same : ℕ → ℕ → Bool → Type 0
-Same n m whole = (at : At) (place : ℕ) (b : List ℕ) → length b ≤ n → length b ≤ m → told_from n whole at place b ≡ told_from m whole at place b
+Same n m whole = (at : At) (place : ℕ) (b : List ℕ) → length b ≤ n → length b ≤ m
+    → told_from n whole at place b ≡ told_from m whole at place b
 
-same-by : (n m : ℕ) (whole : Bool) (at : At) (place : ℕ) (b : List ℕ) (step : Step) → IsWithin (length b) step → length b ≤ suc n → length b ≤ suc m
+same-by : (n m : ℕ) (whole : Bool) (at : At) (place : ℕ) (b : List ℕ) (step : Step) → IsWithin (length b) step → length b ≤ suc n
+    → length b ≤ suc m
     → Same n m whole → told_by (told_from n whole) whole at place b step ≡ told_by (told_from m whole) whole at place b step
 same-by n m whole at place b (Takes packets used after) within few some each =
-    ap (with_front packets) (each after (place + used) (drop used b) (omega (arith, length-drop used b, within.0)) (omega (arith, length-drop used b, within.0)))
+    ap (with_front packets) (each after (place + used) (drop used b) (omega (arith, length-drop used b, within.0))
+    (omega (arith, length-drop used b, within.0)))
 same-by n m whole at place b Needs within few some each = refl
 same-by n m whole at place b (Fails fault) within few some each = refl
 
@@ -57,7 +62,8 @@ told-takes whole at place b packets used after e =
     ∙ ap (with_front packets) (told-enough (length b) (length (drop used b)) whole after (place + used) (drop used b)
     (omega (arith, length-drop used b)) (omega arith))
 
-pub told-needs : (whole : Bool) (at : At) (place : ℕ) (b : List ℕ) → unit at place b ≡ Needs → told_of whole at place b ≡ ending whole at place b
+pub told-needs : (whole : Bool) (at : At) (place : ℕ) (b : List ℕ) → unit at place b ≡ Needs
+    → told_of whole at place b ≡ ending whole at place b
 told-needs whole at place b e = told-unit whole at place b Needs e
 
 pub told-fails : (whole : Bool) (at : At) (place : ℕ) (b : List ℕ) (fault : FileFault) → unit at place b ≡ Fails fault

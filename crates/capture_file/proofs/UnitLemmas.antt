@@ -1,12 +1,11 @@
 -- A unit that is whole stays so, whatever follows it.
-use Rattle.std.proofs.Common.{◌≡◌, ◌<◌, ◌≤◌, ◌+◌, ℕ, List, [], ◌∷◌, ◌++◌, length, Bool, true, false, cond, ltb, refl, sym, ◌∙◌, ap, subst, arith, length-append}
-use Rattle.std.specs.Prelude.{◌%◌, ◌==◌, ◌&&◌, ◌||◌, slice_index, slice_range}
-use Rattle.std.proofs.lemmas.Bool.{ltb-true, ltb-false, le-ltb, cond_both}
+use Rattle.std.proofs.Common.{◌≡◌, ◌<◌, ◌≤◌, ◌+◌, ℕ, List, [], ◌++◌, length, Bool, true, false, cond, ltb, refl, arith, length-append}
+use Rattle.std.specs.Prelude.{◌==◌, ◌&&◌, slice_range}
+use Rattle.std.proofs.lemmas.Bool.{ltb-false, le-ltb, cond_both}
 use Rattle.std.proofs.lemmas.List.{get_or_append_left, take-append-le, drop-append-le, length-drop}
-use Rattle.std.proofs.lemmas.Bool.Decides.{nat_tests}
 use Rattle.capture_file.specs.Numbers.{number_2, number_4}
-use Rattle.capture_file.specs.Packets.{Captured, Packet}
-use Rattle.capture_file.specs.Units.{At, FileStart, Record, Step, Takes, Needs, Fails, most, unit, kind_of, heading_at, packet_at, record_at, start_by}
+use Rattle.capture_file.specs.Units.{At, FileStart, Record, Step, Takes, Needs, Fails, most, unit, kind_of, heading_at, packet_at}
+use Rattle.capture_file.specs.Units.{record_at, start_by}
 use Rattle.capture_file.specs.declared.order.Order.{Order}
 use Rattle.capture_file.specs.declared.order.Order.TheVariants.{Big, Little}
 use Rattle.capture_file.specs.declared.units.FileKind.{FileKind}
@@ -24,11 +23,19 @@ number_2-append Little b more place le =
 pub number_4-append : (order : Order) (b more : List ℕ) (place : ℕ) → place + 4 ≤ length b
     → number_4 order (b ++ more) place ≡ number_4 order b place
 number_4-append Big b more place le =
-    rw (get_or_append_left b more 0 place (omega arith), get_or_append_left b more 0 (place + 1) (omega arith),
-    get_or_append_left b more 0 (place + 2) (omega arith), get_or_append_left b more 0 (place + 3) (omega arith)) refl
+    rw (
+      get_or_append_left b more 0 place (omega arith),
+      get_or_append_left b more 0 (place + 1) (omega arith),
+      get_or_append_left b more 0 (place + 2) (omega arith),
+      get_or_append_left b more 0 (place + 3) (omega arith),
+    ) refl
 number_4-append Little b more place le =
-    rw (get_or_append_left b more 0 place (omega arith), get_or_append_left b more 0 (place + 1) (omega arith),
-    get_or_append_left b more 0 (place + 2) (omega arith), get_or_append_left b more 0 (place + 3) (omega arith)) refl
+    rw (
+      get_or_append_left b more 0 place (omega arith),
+      get_or_append_left b more 0 (place + 1) (omega arith),
+      get_or_append_left b more 0 (place + 2) (omega arith),
+      get_or_append_left b more 0 (place + 3) (omega arith),
+    ) refl
 
 pub slice_range-append : (b more : List ℕ) (start end : ℕ) → start ≤ end → end ≤ length b
     → slice_range (b ++ more) start end ≡ slice_range b start end
@@ -73,7 +80,12 @@ kind_of-append b more le = rw (number_4-append Big b more 0 le, number_4-append 
 stays-heading : (order : Order) (place : ℕ) (b more : List ℕ) → StaysAs (heading_at order place b) (heading_at order place (b ++ more))
 stays-heading order place b more =
     stays-enough 24 b more _ _ (λ le. stays _ _
-    (rw (number_2-append order b more 4 (omega arith), number_2-append order b more 6 (omega arith), number_4-append order b more 20 (omega arith)) refl))
+    (rw (
+      number_2-append order b more 4 (omega arith),
+      number_2-append order b more 6 (omega arith),
+      number_4-append order b more 20
+          (omega arith),
+    ) refl))
 
 stays-packet : (order : Order) (link captured : ℕ) (b more : List ℕ) → 16 ≤ length b
     → StaysAs (packet_at order link captured b) (packet_at order link captured (b ++ more))
@@ -81,7 +93,8 @@ stays-packet order link captured b more some =
     stays-enough (16 + captured) b more _ _ (λ le.
     rw (number_4-append order b more 12 (omega arith), slice_range-append b more 16 (16 + captured) (omega arith) le) refl)
 
-stays-record : (order : Order) (link place : ℕ) (b more : List ℕ) → StaysAs (record_at order link place b) (record_at order link place (b ++ more))
+stays-record : (order : Order) (link place : ℕ) (b more : List ℕ)
+    → StaysAs (record_at order link place b) (record_at order link place (b ++ more))
 stays-record order link place b more =
     stays-enough 16 b more _ _ (λ le. rw (number_4-append order b more 8 (omega arith))
     (stays-if (ltb most (number_4 order b 8)) (ltb most (number_4 order b 8)) _ _ _ _ refl refl
@@ -115,7 +128,8 @@ within-if size false s t first second = second
 
 within-heading : (order : Order) (place : ℕ) (b : List ℕ) → IsWithin (length b) (heading_at order place b)
 within-heading order place b =
-    within-enough 24 (length b) _ (λ le. within-if (length b) ((number_2 order b 4 == 2) && (number_2 order b 6 == 4)) _ _ (omega arith, le) tt)
+    within-enough 24 (length b) _ (λ le. within-if (length b) ((number_2 order b 4 == 2) && (number_2 order b 6 == 4)) _ _
+    (omega arith, le) tt)
 
 within-record : (order : Order) (link place : ℕ) (b : List ℕ) → IsWithin (length b) (record_at order link place b)
 within-record order link place b =

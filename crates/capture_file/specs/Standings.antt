@@ -1,5 +1,5 @@
 -- A reader of a capture file that arrives in pieces.
-use Rattle.std.specs.Prelude.{◌≡◌, ℕ, ◌+◌, ◌≤◌, Bool, false, List, [], ◌++◌, length, Option, Some, None, if◌then◌else◌}
+use Rattle.std.specs.Prelude.{◌≡◌, ℕ, ◌≤◌, Bool, false, List, [], ◌++◌, length, Option, Some, None, if◌then◌else◌}
 use Rattle.std.specs.Option.{MatchOption}
 use Rattle.capture_file.specs.Packets.{Captured, Told, only, with_front}
 use Rattle.capture_file.specs.Units.{At, FileStart, Needs, Fails, unit}

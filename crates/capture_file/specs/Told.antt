@@ -1,5 +1,5 @@
 -- What is reported of the octets of a capture file.
-use Rattle.std.specs.Prelude.{ℕ, zero, suc, ◌+◌, Bool, not, ◌&&◌, if◌then◌else◌, List, length, drop, Option, Some, None}
+use Rattle.std.specs.Prelude.{ℕ, zero, suc, ◌+◌, Bool, not, ◌&&◌, if◌then◌else◌, List, length, drop, Some, None}
 use Rattle.capture_file.specs.Packets.{Told, only, with_front}
 use Rattle.capture_file.specs.Units.{At, FileStart, Step, Takes, Needs, Fails, unit, is_end}
 use Rattle.capture_file.specs.declared.file_fault.FileFault.TheVariants.{Cut}

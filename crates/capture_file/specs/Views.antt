@@ -6,9 +6,8 @@ use Rattle.capture_file.specs.declared.expected.Expected.{Expected}
 use Rattle.capture_file.specs.declared.expected.Expected.TheVariants.{Heading, NextRecord}
 use Rattle.capture_file.specs.declared.step.Content.{Content}
 use Rattle.capture_file.specs.declared.step.Content.TheVariants.{NoPacket, Whole}
-use Rattle.capture_file.specs.declared.step.UnitRead.{UnitRead}
 use Rattle.capture_file.specs.declared.step.Reading.{Reading}
-use Rattle.capture_file.specs.declared.step.Reading.TheVariants.{Read, TooFew, Refused}
+use Rattle.capture_file.specs.declared.step.Reading.TheVariants.{Read, Unfinished, Refused}
 use Rattle.capture_file.specs.declared.held.Held.{Held}
 use Rattle.capture_file.specs.declared.held.Held.TheVariants.{OfPacket, OfBad}
 use Rattle.capture_file.specs.declared.held.PacketOctets.{PacketOctets}
@@ -26,7 +25,7 @@ content_of (Whole link original octets) = Packet link original octets.now ∷ []
 
 abbrev pub step_of : Reading → Step
 step_of (Read u) = Takes (content_of u.content) u.used (at_of u.next)
-step_of (TooFew asked) = Needs
+step_of (Unfinished asked) = Needs
 step_of (Refused fault) = Fails fault
 
 abbrev pub octets_of : PacketOctets → List ℕ
@@ -43,5 +42,5 @@ told_as fed = record { packets = map captured fed.packets; fault = fed.fault }
 -- of that number of octets: a whole unit has one at least and no more than that, and what is needed is more and not too much
 abbrev pub IsProgress : Reading → ℕ → Type 0
 IsProgress (Read u) size = (0 < u.used) × (u.used ≤ size)
-IsProgress (TooFew asked) size = (size < asked) × (asked ≤ 262172)
+IsProgress (Unfinished asked) size = (size < asked) × (asked ≤ 262172)
 IsProgress (Refused fault) size = Unit {0}

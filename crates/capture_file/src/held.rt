@@ -8,7 +8,7 @@ pub enum BadPacket {
     /// The block names no interface of its section.
     NoInterface,
     /// The block has fewer octets than its captured length says.
-    TooFew,
+    BadLength,
     /// The captured length is above 262,144.
     TooLong,
 }

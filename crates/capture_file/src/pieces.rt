@@ -1,5 +1,6 @@
 //! The units that a piece of a capture file completes.
-ghost use Rattle.std.specs.Prelude.{◌≡◌, true, ◌<◌, ◌≤◌, ◌+◌, ◌^◌, [], ◌++◌, length, take, drop, map, List, ℕ, ◌==◌, IfNone, IfOk, OnOk, OnErr};
+ghost use Rattle.std.specs.Prelude.{◌≡◌, true, ◌<◌, ◌≤◌, ◌+◌, ◌^◌, [], ◌++◌, length, take, drop, map, List, ℕ, ◌==◌, IfNone, IfOk, OnOk};
+ghost use Rattle.std.specs.Prelude.{OnErr};
 ghost use Rattle.capture_file.specs.Packets.{only};
 ghost use Rattle.capture_file.specs.Units.{Needs, unit};
 ghost use Rattle.capture_file.specs.Told.{ending};
@@ -40,7 +41,7 @@ pub fn take_units<'a>(
                 place += read.used as u64;
                 rest = &rest[read.used..];
             }
-            Reading::TooFew(_) => {
+            Reading::Unfinished(_) => {
                 return Ok(Progress {
                     packets,
                     expected,
@@ -79,7 +80,7 @@ fn fill<'a>(
 {
     let mut rest = piece;
     'moves: while !rest.is_empty() {
-        let Reading::TooFew(asked) = unit(expected, place, &kept[taken..]) else {
+        let Reading::Unfinished(asked) = unit(expected, place, &kept[taken..]) else {
             return Ok(rest);
         };
         let count = rest.len().min(asked - (kept.len() - taken));
@@ -136,7 +137,7 @@ pub fn take_piece<'a>(
                 place += read.used as u64;
                 taken += read.used;
             }
-            Reading::TooFew(_) => {
+            Reading::Unfinished(_) => {
                 drop_front(alloc, kept, taken)?;
                 return Ok(Progress {
                     packets,

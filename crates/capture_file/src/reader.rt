@@ -1,5 +1,6 @@
 //! The reader of a capture file, which is fed the file in pieces.
-ghost use Rattle.std.specs.Prelude.{◌≡◌, ◌≤◌, ◌++◌, ◌+◌, ◌<◌, ◌^◌, ◌↔◌, [], length, true, false, Bool, List, ℕ, IfOk, OnOk, OnErr, IsTrue, Some, None};
+ghost use Rattle.std.specs.Prelude.{◌≡◌, ◌≤◌, ◌++◌, ◌+◌, ◌<◌, ◌^◌, ◌↔◌, [], length, true, false, Bool, List, ℕ, IfOk, OnOk, OnErr, IsTrue};
+ghost use Rattle.std.specs.Prelude.{Some, None};
 ghost use Rattle.capture_file.specs.Packets.{only, with_front};
 ghost use Rattle.capture_file.specs.Told.{told};
 ghost use Rattle.capture_file.specs.Standings.{beginning, ahead, HasRead};
@@ -33,7 +34,8 @@ impl Model for Reader {
 
     ghost view = { λ r. record { at = at_of r.expected; place = r.place; kept = r.kept.items; fault = r.fault; at_end = r.at_end } };
 
-    ghost invariant = { λ r. IsStanding (record { at = at_of r.expected; place = r.place; kept = r.kept.items; fault = r.fault; at_end = r.at_end }) };
+    ghost invariant = { λ r. IsStanding
+        (record { at = at_of r.expected; place = r.place; kept = r.kept.items; fault = r.fault; at_end = r.at_end }) };
 }
 
 impl Reader {

@@ -22,6 +22,6 @@ pub struct UnitRead<'a> {
 #[derive(Clone, Copy)]
 pub enum Reading<'a> {
     Read(UnitRead<'a>),
-    TooFew(usize),
+    Unfinished(usize),
     Refused(FileFault),
 }

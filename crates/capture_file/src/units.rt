@@ -11,6 +11,7 @@ use crate::step::{Content, Reading, UnitRead};
 
 // The magic numbers of pcap, with times in microseconds and in nanoseconds.
 const MICROSECONDS: u32 = 0xA1B2_C3D4;
+
 const NANOSECONDS: u32 = 0xA1B2_3C4D;
 
 // The most octets of a packet.
@@ -45,7 +46,7 @@ fn heading(order: Order, place: u64, octets: &[u8]) -> Reading<'_>
     ensures progress { IsProgress result (length octets.now) }
 {
     if octets.len() < 24 {
-        return Reading::TooFew(24);
+        return Reading::Unfinished(24);
     }
     if number_2(order, octets, 4) == 2 && number_2(order, octets, 6) == 4 {
         Reading::Read(UnitRead {
@@ -66,10 +67,14 @@ fn packet(order: Order, link: u16, captured: usize, octets: &[u8]) -> Reading<'_
     ensures progress { IsProgress result (length octets.now) }
 {
     if octets.len() < 16 + captured {
-        return Reading::TooFew(16 + captured);
+        return Reading::Unfinished(16 + captured);
     }
     Reading::Read(UnitRead {
-        content: Content::Whole(link, number_4(order, octets, 12), &octets[16..16 + captured]),
+        content: Content::Whole(
+            link,
+            number_4(order, octets, 12),
+            &octets[16..16 + captured],
+        ),
         used: 16 + captured,
         next: Expected::NextRecord(order, link),
     })
@@ -81,7 +86,7 @@ fn record(order: Order, link: u16, place: u64, octets: &[u8]) -> Reading<'_>
     ensures progress { IsProgress result (length octets.now) }
 {
     if octets.len() < 16 {
-        return Reading::TooFew(16);
+        return Reading::Unfinished(16);
     }
     let captured = number_4(order, octets, 8);
     if captured > MOST {
@@ -111,7 +116,7 @@ pub fn unit(expected: Expected, place: u64, octets: &[u8]) -> Reading<'_>
     match expected {
         Expected::Heading => {
             if octets.len() < 4 {
-                return Reading::TooFew(4);
+                return Reading::Unfinished(4);
             }
             start(place, octets)
         }

@@ -1,4 +1,4 @@
-use Rattle.std.proofs.Common.{◌+◌, ◌≤◌, ◌++◌, length, sym, ◌∙◌, ap, arith, length-append}
+use Rattle.std.proofs.Common.{arith}
 use Rattle.capture_file.proofs.PieceLemmas.{moved-more, front-more, longer}
 use Rattle.capture_file.proofs.pieces.fill.Goals as goal
 

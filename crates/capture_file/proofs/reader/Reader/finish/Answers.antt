@@ -1,7 +1,7 @@
-use Rattle.std.proofs.Common.{◌≡◌, ◌==◌, ℕ, List, [], true, length, vec_len, sym, ◌∙◌, ap, arith}
+use Rattle.std.proofs.Common.{◌≡◌, ◌==◌, [], true, length, vec_len, sym, ◌∙◌, ap, arith}
 use Rattle.capture_file.specs.Packets.{only}
 use Rattle.capture_file.specs.Told.{ending}
-use Rattle.capture_file.specs.Standings.{Standing, ahead}
+use Rattle.capture_file.specs.Standings.{ahead}
 use Rattle.capture_file.specs.Views.{at_of}
 use Rattle.capture_file.proofs.ReaderLemmas.{ahead-at_end, ahead-fault, ahead-ends, told-end}
 use Rattle.capture_file.proofs.reader.Reader.finish.Goals as goal
@@ -32,4 +32,5 @@ returns-clause-file c =
     rw (← c.self.view_is) (ahead-ends c.self.inside.fault _ c.if-self.false c.if-is_some.ensures c.self.invariant.unfinished) in
     let size : vec_len c.self.inside.kept ≡ length c.self.inside.kept.items = omega (arith, c.self.inside.kept.ok.0) in
     let empty : c.is_empty.result ≡ (length c.self.inside.kept.items == 0) = c.is_empty.ensures ∙ ap (λ n. n == 0) size in
-    λ b read. told-end c.args.self.now b c.ending-self-inside.result read (c.ending-self-inside.ensures c.self.inside.kept.items empty ∙ sym e)
+    λ b read. told-end c.args.self.now b c.ending-self-inside.result read (c.ending-self-inside.ensures c.self.inside.kept.items empty
+    ∙ sym e)
