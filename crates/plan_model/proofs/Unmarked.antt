@@ -2,9 +2,8 @@
 use Rattle.std.specs.Prelude.{ℕ, ◌≡◌, ◌==◌, ◌||◌, Bool, true, false, if◌then◌else◌, List, [], ◌∷◌, None, refl}
 use Rattle.std.specs.List.{find, list_any}
 use Rattle.std.specs.Option.{unwrap_or}
-use Rattle.std.proofs.Common.{arith, sym, ◌∙◌, ap}
+use Rattle.std.proofs.Common.{sym, ◌∙◌, ap}
 use Rattle.std.proofs.lemmas.Bool.{false≢true}
-use Rattle.std.proofs.lemmas.Bool.Decides.{nat_tests}
 use Rattle.sccp_base.specs.Marks.{holds, is_at, same_mark, point_of as point_of_mark}
 use Rattle.sccp_base.specs.declared.mark.Mark.{Mark}
 use Rattle.sccp_base.specs.declared.mark.Mark.TheVariants.{PointCode, Sccp, Subsystem}
@@ -12,7 +11,7 @@ use Rattle.plan_rules.specs.declared.target.Target.{Target}
 use Rattle.plan_rules.specs.declared.target.Target.TheVariants.{Relay, Final}
 use Rattle.plan_rules.specs.Target.{point_of}
 use Rattle.plan_model.specs.declared.node.Node.{Node}
-use Rattle.plan_model.specs.Targets.{marks, closing}
+use Rattle.plan_model.specs.Targets.{closing}
 
 neither : (a b : Bool) → (a || b) ≡ false → (a ≡ false) × (b ≡ false)
 neither false b e = (refl, e)
@@ -45,7 +44,8 @@ unmarked node ssn marking (Relay pc strip put selector named) e =
     next (holds marking) (PointCode pc) (Sccp pc ∷ []) (not_held marking (PointCode pc) e)
     (next (holds marking) (Sccp pc) [] (not_held marking (Sccp pc) e) refl)
 unmarked node ssn marking (Final pc named) e =
-    let last = next (holds marking) (Subsystem pc (unwrap_or named ssn)) [] (not_held marking (Subsystem pc (unwrap_or named ssn)) e) refl in
+    let last = next (holds marking) (Subsystem pc (unwrap_or named ssn)) []
+    (not_held marking (Subsystem pc (unwrap_or named ssn)) e) refl in
     elim (pc == node.pc) as (λ b. find (holds marking) (if b then Subsystem pc (unwrap_or named ssn) ∷ []
     else PointCode pc ∷ Sccp pc ∷ Subsystem pc (unwrap_or named ssn) ∷ []) ≡ None) [
       | true ↦ last

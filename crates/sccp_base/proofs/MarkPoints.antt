@@ -58,4 +58,5 @@ next_at marks point place next ascending at e =
 pub none_at : (marks : List Mark) (point place : ℕ) → BelongsAt marks (PointCode point) place → length marks ≤ place
     → list_any (is_at point) marks ≡ false
 none_at marks point place at size =
-    list_any_none (is_at point) marks (λ k d lt. below_point (get_or marks k d) point (at.below k d (omega arith) (omega (arith, lt, size))))
+    list_any_none (is_at point) marks (λ k d lt. below_point (get_or marks k d) point
+    (at.below k d (omega arith) (omega (arith, lt, size))))
