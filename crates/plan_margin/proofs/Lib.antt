@@ -1,0 +1,6 @@
+-- Lemmas of this crate, one file a subject.
+pub mod Arriving
+pub mod Closing
+pub mod Counting
+pub mod Passing
+pub mod Sets
