@@ -30,8 +30,8 @@ use Rattle.plan_margin.specs.Outages.{IsEndAllowed, ArrivesWithin}
 use Rattle.plan_margin.specs.Searching.{StopsOne, AllArrive}
 
 last-back : (h : Hop) (hs : List Hop) (P : Step → Type 0) → (P h.step → ⊥) → IsSomeAnd (last (h ∷ hs)) P → IsSomeAnd (last hs) P
-last-back h [] P no e = absurd (no e)
-last-back h (k ∷ ks) P no e = e
+last-back h [] P never e = absurd (never e)
+last-back h (k ∷ ks) P never e = e
 
 -- what holds of the last step of a route, by its first step
 abbrev LastAfter : Network → ℕ → ℕ → List Mark → Spot → Option Spot → Type 0
@@ -114,8 +114,8 @@ stops_back plan c next place left most In digits back lost some class decided op
 pub stops_here : (plan : Network) (c : Titles) (place left : ℕ) (digits : List ℕ) (lost : List Mark) (x : Step) → 0 < left → IsClass c
     → Decided plan c → OpensClass plan c place lost → IsMember c digits → brought plan c place digits ≡ Some x → next_of x ≡ None
     → (IsEndAllowed plan c.cover x → ⊥) → ArrivesWithin plan c.cover left lost (spot_of c digits) → ⊥
-stops_here plan c place left digits lost x some class decided opens member is ends no here =
-    no (arrived_here plan c.cover (left - 1) left lost (spot_of c digits) x (omega arith)
+stops_here plan c place left digits lost x some class decided opens member is ends never here =
+    never (arrived_here plan c.cover (left - 1) left lost (spot_of c digits) x (omega arith)
     (stepped plan c place lost digits x class decided opens member is) ends here)
 
 -- titles whose first step is an allowed end

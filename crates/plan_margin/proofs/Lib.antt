@@ -2,5 +2,6 @@
 pub mod Arriving
 pub mod Closing
 pub mod Counting
+pub mod Following
 pub mod Passing
 pub mod Sets

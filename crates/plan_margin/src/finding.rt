@@ -114,7 +114,7 @@ fn copies(alloc: Global, marks: &Marking) -> Result<List<Marking>, OutOfMemory>
     ensures { IfOk result (λ copies. copies ≡ replicate 14 marks.now) }
 {
     let mut copies = List::new(alloc);
-    for _ in 0..14 {
+    for _ in 0..14_u8 {
         copies.push(marks.try_clone(alloc)?)?;
     }
     Ok(copies)

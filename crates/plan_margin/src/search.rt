@@ -86,7 +86,7 @@ fn explore_parts(
     let parts = parts(alloc, class)?;
     for part in parts.as_slice() {
         match explore(alloc, plan, part, left, set, count)? {
-            Found::Through { cut: other } => cut = cut || other,
+            Found::Through { cut: other } => cut = cut | other,
             found => return Ok(found),
         }
     }
@@ -123,10 +123,11 @@ fn explore_targets(
 fn turn_at(plan: &Plan, class: &Class, row: &Row, place: u8, set: &OutageSet) -> Turn
     requires node { class.now.node < length plan.now.nodes }
     requires row { class_row plan.now class.now ≡ Some row.now }
-    ensures { IsTurn plan.now class.now place set.now result }
+    ensures turn { IsTurn plan.now class.now place set.now result }
+    ensures few { length row.now.targets ≤ 8 }
 {
     let node = &plan.nodes().as_slice()[usize::from(class.node())];
-    match row.target(usize::from(place)) {
+    match row.targets().get(usize::from(place)) {
         None => Turn::Past,
         Some(target) => turn_of(node, target, set),
     }
@@ -212,6 +213,7 @@ fn follow_either(
     requires class { IsClass class.now }
     requires decided { Decided plan.now class.now }
     requires row { class_row plan.now class.now ≡ Some row.now }
+    requires short { length row.now.targets ≤ 8 }
     requires passes { PassesOver plan.now class.now place set.now }
     requires turn { IsTurn plan.now class.now place set.now (Either point) }
     requires set { IsOutageSet set.now }
@@ -280,6 +282,7 @@ fn follow_lost(
     requires class { IsClass class.now }
     requires decided { Decided plan.now class.now }
     requires row { class_row plan.now class.now ≡ Some row.now }
+    requires short { length row.now.targets ≤ 8 }
     requires passes { PassesOver plan.now class.now place set.now }
     requires turn { IsTurn plan.now class.now place set.now (Either point) }
     requires set { IsOutageSet set.now }
@@ -359,7 +362,8 @@ fn carried(
             digits: carry_back(plan, class, place, &digits),
             lost,
         },
-        other => other,
+        Found::Through { cut } => Found::Through { cut },
+        Found::Wide => Found::Wide,
     }
 }
 
