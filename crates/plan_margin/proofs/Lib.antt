@@ -5,3 +5,4 @@ pub mod Counting
 pub mod Following
 pub mod Passing
 pub mod Sets
+pub mod Starting

@@ -137,7 +137,7 @@ pub record IsWithLost (set : OutageSet) (point : ℕ) (more : OutageSet) : Type 
   pub up : more.up ≡ set.up
   pub ascending : IsAscending more.lost
 
-own_point : (p : ℕ) → same_mark (PointCode p) (PointCode p) ≡ true
+pub own_point : (p : ℕ) → same_mark (PointCode p) (PointCode p) ≡ true
 own_point p = grind (arith)
 
 pub up_set : (set more : OutageSet) (point : ℕ) → IsOutageSet set → IsFree set point → IsWithUp set point more → IsOutageSet more

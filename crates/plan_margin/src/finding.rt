@@ -1,10 +1,11 @@
 //! The number of points that can be lost, from none on.
-ghost use Rattle.std.specs.Prelude.{◌≡◌, ◌<◌, ◌≤◌, ◌+◌, IfOk, length, replicate};
+ghost use Rattle.std.specs.Prelude.{◌≡◌, ◌<◌, ◌≤◌, ◌+◌, IfOk, IsSomeAnd, length, replicate, slice_get};
 ghost use Rattle.sccp_base.specs.declared.mark.Mark.{Mark};
 ghost use Rattle.sccp_base.specs.declared.mark.Mark.TheVariants.{PointCode as PointMark};
 ghost use Rattle.sccp_base.specs.Marks.{holds, same_mark};
-ghost use Rattle.plan_model.specs.Network.{point_of};
+ghost use Rattle.plan_model.specs.Network.{IsPlan, point_of};
 ghost use Rattle.plan_classes.specs.Titles.{spot_of};
+ghost use Rattle.plan_classes.specs.Classes.{start_of};
 ghost use Rattle.plan_margin.specs.Outages.{route_in};
 ghost use Rattle.plan_margin.specs.Searching.{MayExplore, IsFoundIf, Spares};
 ghost use Rattle.plan_margin.specs.Margins.{IsMargin};
@@ -32,7 +33,7 @@ pub fn find_margin(
     requires few { losses ≤ 99 }
     ensures { IfOk result (IsMargin plan.now cover losses) }
 {
-    let class = start(plan, cover);
+    let class = start_in(plan, cover);
     for most in 0..losses + 1 {
         match explore_start(alloc, plan, &class, most)? {
             Found::Stopped { digits, lost } => {
@@ -47,6 +48,17 @@ pub fn find_margin(
         }
     }
     Ok(Margin::Survives)
+}
+
+/// The titles of the cover, which are at a relay of the plan.
+fn start_in(plan: &Plan, cover: u16) -> Class
+    requires { cover < length plan.now.covers }
+    ensures value { IsSomeAnd (slice_get plan.now.covers cover) (λ c. result ≡ start_of cover c) }
+    ensures may { MayExplore plan.now result }
+    ensures plan { IsPlan plan.now }
+{
+    let _covers = plan.covers();
+    start(plan, cover)
 }
 
 /// The search for a stopped title of a cover, in all outages of up to this number of points that spare the relay of the cover.

@@ -3,7 +3,7 @@ use Rattle.std.specs.Option.{option_copied}
 use Rattle.sccp_base.specs.declared.mark.Mark.{Mark}
 use Rattle.plan_rules.specs.Rule.{Rule}
 use Rattle.plan_model.specs.declared.hop.Step.TheVariants.{NoRow, Overgrown}
-use Rattle.plan_classes.specs.Titles.{IsPart}
+use Rattle.plan_classes.specs.Titles.{IsPart, Splits}
 use Rattle.plan_classes.specs.Classes.{class_targets}
 use Rattle.plan_classes.proofs.Taking.{row_targets}
 use Rattle.plan_classes.proofs.Parting.{part_of}
@@ -31,7 +31,11 @@ explore_parts-loop-part-preserved t c =
     }
 
 pub explore_parts-returns-clause-found : goal.explore_parts-returns-clause-found
-explore_parts-returns-clause-found t c = ?
+explore_parts-returns-clause-found t c =
+    parts_whole c.args.plan.now c.args.class.now c.args.left c.args.set.now.most (IsIn c.args.set.now) c.as_slice-part-items.result.now
+    c.loop-part.part-index c.loop-part.cut
+    (subst (Splits c.args.class.now) (sym c.as_slice-part-items.ensures) c.in_ok-parts.ensures.splits) c.loop-part-test.false
+    c.loop-part.invariant.arrive
 
 pub explore_targets-follow_row-requires : goal.explore_targets-follow_row-requires
 explore_targets-follow_row-requires t c = (
@@ -121,7 +125,18 @@ follow_lost-follow_row-found-requires t c =
     )
 
 pub follow_lost-returns-clause-found : goal.follow_lost-returns-clause-found
-follow_lost-returns-clause-found t c = ?
+follow_lost-returns-clause-found t c =
+    let more = c.in_ok-with_lost.with_lost in
+    let made : IsWithLost c.args.set.now c.args.point more = record {
+      most = c.in_ok-with_lost.ensures.most;
+      lost = c.in_ok-with_lost.ensures.lost;
+      up = c.in_ok-with_lost.ensures.up;
+      ascending = c.in_ok-with_lost.ensures.ascending;
+    } in
+    ok_map c.follow_row-found.result (λ f. IsFound c.args.plan.now c.args.class.now c.args.left more f)
+    (λ f. IsFoundIf c.args.plan.now c.args.class.now c.args.left c.args.set.now.most (IsInWith c.args.set.now c.args.point true) f)
+    (λ f h. lost_found c.args.plan.now c.args.class.now c.args.left c.args.point c.args.set.now more f made h)
+    c.follow_row-found.ensures.found
 
 pub follow_row-follow_row-requires : goal.follow_row-follow_row-requires
 follow_row-follow_row-requires t c =
@@ -215,7 +230,12 @@ follow_target-returns-in-NotEquipped-clause-found t c =
     (c.in-NotEquipped.ensures.exact c.sample.result c.sample.ensures.member) refl (λ h. h))
 
 pub follow_target-returns-in-TooLong-clause-found : goal.follow_target-returns-in-TooLong-clause-found
-follow_target-returns-in-TooLong-clause-found t c = ?
+follow_target-returns-in-TooLong-clause-found t c =
+    ok_is c.stopped-in-TooLong.result (Stopped c.longest.result c.args.set.now.lost)
+    (λ f. IsFound c.args.plan.now c.args.class.now c.args.left c.args.set.now f) c.stopped-in-TooLong.ensures
+    (target_stop c.args.plan.now c.args.class.now c.args.place c.args.left c.args.set.now c.longest.result Overgrown c.requires.some
+    c.requires.class c.requires.decided c.requires.takes c.requires.set c.longest.ensures.0
+    (c.in-TooLong.ensures.exact c.longest.result c.longest.ensures) refl (λ h. h))
 
 pub follow_up-follow_target-found-requires : goal.follow_up-follow_target-found-requires
 follow_up-follow_target-found-requires t c =
@@ -265,4 +285,14 @@ follow_up-follow_target-found-requires t c =
     )
 
 pub follow_up-returns-clause-found : goal.follow_up-returns-clause-found
-follow_up-returns-clause-found t c = ?
+follow_up-returns-clause-found t c =
+    let more = c.in_ok-with_up.with_up in
+    let made : IsWithUp c.args.set.now c.args.point more = record {
+      most = c.in_ok-with_up.ensures.most;
+      lost = c.in_ok-with_up.ensures.lost;
+      up = c.in_ok-with_up.ensures.up;
+    } in
+    ok_map c.follow_target-found.result (λ f. IsFound c.args.plan.now c.args.class.now c.args.left more f)
+    (λ f. IsFoundIf c.args.plan.now c.args.class.now c.args.left c.args.set.now.most (IsInWith c.args.set.now c.args.point false) f)
+    (λ f h. up_found c.args.plan.now c.args.class.now c.args.left c.args.point c.args.set.now more f made h)
+    c.follow_target-found.ensures.found
