@@ -1,5 +1,5 @@
 -- a title's first hop, and whether it arrives
-use Rattle.std.specs.Prelude.{ℕ, ◌≡◌, ◌-◌, ◌<◌, ◌≤◌, true, Bool, List, [], ◌∷◌, length, replicate, Option, Some, None, IsSomeAnd, slice_get, refl}
+use Rattle.std.specs.Prelude.{ℕ, ◌≡◌, ◌-◌, ◌<◌, Bool, List, [], ◌∷◌, length, replicate, Option, Some, None, IsSomeAnd, slice_get, refl}
 use Rattle.std.specs.Prelude.{if◌then◌else◌}
 use Rattle.std.specs.List.{list_any, filter_map}
 use Rattle.std.specs.Option.{option_and_then, option_map_or}
@@ -7,11 +7,10 @@ use Rattle.std.proofs.Common.{suc, sym, ◌∙◌, ap, subst, arith}
 use Rattle.sccp_base.specs.declared.mark.Mark.{Mark}
 use Rattle.plan_rules.specs.Rows.{has_selector}
 use Rattle.plan_rules.specs.Rule.{Rule}
-use Rattle.plan_rules.specs.declared.target.Target.{Target}
 use Rattle.plan_model.specs.declared.node.Node.{Node}
 use Rattle.plan_model.specs.declared.spot.Spot.{Spot}
 use Rattle.plan_model.specs.declared.hop.Step.{Step}
-use Rattle.plan_model.specs.declared.hop.Step.TheVariants.{Sent, Ended, Blocked, NoRow, Overgrown}
+use Rattle.plan_model.specs.declared.hop.Step.TheVariants.{Sent, NoRow}
 use Rattle.plan_model.specs.declared.hop.Hop.{Hop}
 use Rattle.plan_model.specs.Network.{Network}
 use Rattle.plan_model.specs.Next.{next_of}
@@ -20,10 +19,9 @@ use Rattle.plan_model.specs.Steps.{step, step_at, step_by, taken, blocked, closi
 use Rattle.plan_model.specs.Routes.{route, onward}
 use Rattle.plan_model.specs.Verdicts.{last}
 use Rattle.plan_model.proofs.Ways.{hop_at, last-onward}
-use Rattle.plan_classes.specs.declared.leads.Image.TheVariants.{Next, Ends, NotEquipped, TooLong}
-use Rattle.plan_classes.specs.Titles.{Titles, IsClass, IsMember, IsLongest, spot_of}
-use Rattle.plan_classes.specs.Classes.{Decided, Opens, class_row, class_targets, sample_of, HasImage}
-use Rattle.plan_classes.specs.Leading.{brought, OpensClass, Takes, GoesOnTo, ImageIsExact}
+use Rattle.plan_classes.specs.Titles.{Titles, IsClass, IsMember, spot_of}
+use Rattle.plan_classes.specs.Classes.{Decided, Opens, class_row, class_targets, sample_of}
+use Rattle.plan_classes.specs.Leading.{brought, OpensClass, Takes, GoesOnTo}
 use Rattle.plan_classes.proofs.Taking.{opens_takes}
 use Rattle.plan_check.proofs.Soundness.{some_of}
 use Rattle.plan_margin.specs.Outages.{IsEndAllowed, ArrivesWithin}
@@ -96,7 +94,8 @@ arrive_next plan c next place left most In cut some class decided opens goes cov
 }
 
 -- a title of the next class that is stopped, carried back
-pub stops_back : (plan : Network) (c next : Titles) (place left most : ℕ) (In : List Mark → Type 0) (digits back : List ℕ) (lost : List Mark)
+pub stops_back : (plan : Network) (c next : Titles) (place left most : ℕ) (In : List Mark
+    → Type 0) (digits back : List ℕ) (lost : List Mark)
     → 0 < left → IsClass c → Decided plan c → OpensClass plan c place lost → next.cover ≡ c.cover → IsMember c back
     → brought plan c place back ≡ Some (Sent (spot_of next digits) place) → StopsOne plan next (left - 1) most In digits lost
     → StopsOne plan c left most In back lost
@@ -119,7 +118,8 @@ stops_here plan c place left digits lost x some class decided opens member is en
     (stepped plan c place lost digits x class decided opens member is) ends here)
 
 -- titles whose first step is an allowed end
-pub arrive_here : (plan : Network) (c : Titles) (place left most : ℕ) (In : List Mark → Type 0) (x : Step) (cut : Bool) → 0 < left → IsClass c
+pub arrive_here : (plan : Network) (c : Titles) (place left most : ℕ) (In : List Mark → Type 0) (x : Step) (cut : Bool) → 0 < left
+    → IsClass c
     → Decided plan c → ((marks : List Mark) → In marks → OpensClass plan c place marks)
     → ((digits : List ℕ) → IsMember c digits → brought plan c place digits ≡ Some x) → next_of x ≡ None → IsEndAllowed plan c.cover x
     → AllArrive plan c left most In cut
@@ -156,5 +156,6 @@ all_closed plan c left marks r some inside row none here =
   where
     node_there : (plan : Network) (c : Titles) (r : Rule) → class_row plan c ≡ Some r
         → (node : Node) × (slice_get plan.nodes c.node ≡ Some node)
-    node_there plan c r row = elim (slice_get plan.nodes c.node) as (λ o. option_and_then (λ x. row_for x (spot_of c (sample_of c))) o ≡ Some r
+    node_there plan c r row = elim (slice_get plan.nodes c.node) as (λ o. option_and_then (λ x. row_for x (spot_of c (sample_of c))) o
+        ≡ Some r
         → (node : Node) × (o ≡ Some node)) [ None ↦ λ e. absurd (cc) | Some node ↦ λ e. (node, refl) ] row

@@ -1,15 +1,15 @@
 -- which targets the marks of lost points close
-use Rattle.std.specs.Prelude.{ℕ, ◌≡◌, ◌<◌, ◌==◌, Bool, true, false, cond, if◌then◌else◌, List, [], ◌∷◌, length, Option, Some, None, is_none, refl}
+use Rattle.std.specs.Prelude.{ℕ, ◌≡◌, ◌==◌, Bool, true, false, cond, if◌then◌else◌, List, [], ◌∷◌, Some, None, is_none, refl}
 use Rattle.std.specs.List.{All, find}
 use Rattle.std.specs.Option.{unwrap_or}
-use Rattle.std.proofs.Common.{sym, ◌∙◌, ap, subst, suc, arith}
+use Rattle.std.proofs.Common.{sym, ◌∙◌, ap, suc, arith}
 use Rattle.sccp_base.specs.declared.mark.Mark.{Mark}
 use Rattle.sccp_base.specs.declared.mark.Mark.TheVariants.{PointCode, Sccp, Subsystem}
 use Rattle.sccp_base.specs.Marks.{holds}
 use Rattle.plan_rules.specs.declared.target.Target.{Target}
 use Rattle.plan_rules.specs.declared.target.Target.TheVariants.{Relay, Final}
 use Rattle.plan_model.specs.declared.node.Node.{Node}
-use Rattle.plan_model.specs.Steps.{closing, marks}
+use Rattle.plan_model.specs.Steps.{closing}
 use Rattle.plan_margin.specs.Outages.{IsPointMark}
 use Rattle.plan_margin.specs.Searching.{point_of_target}
 
@@ -37,7 +37,8 @@ no_subsystem (Subsystem p s ∷ ms) pc ssn all = absurd (all_head (Subsystem p s
 found_first : (m : Mark) (rest held : List Mark) → holds held m ≡ true → is_none (find (holds held) (m ∷ rest)) ≡ false
 found_first m rest held h = ap (λ (b : Bool). is_none (cond b (Some m) (find (holds held) rest))) h
 
-found_later : (m : Mark) (rest held : List Mark) → holds held m ≡ false → find (holds held) rest ≡ None → find (holds held) (m ∷ rest) ≡ None
+found_later : (m : Mark) (rest held : List Mark) → holds held m ≡ false → find (holds held) rest ≡ None
+    → find (holds held) (m ∷ rest) ≡ None
 found_later m rest held h e = ap (λ (b : Bool). cond b (Some m) (find (holds held) rest)) h ∙ e
 
 -- a target is closed if the point whose loss closes it is lost

@@ -1,12 +1,11 @@
 -- how many marks a list has that holds those of another
-use Rattle.std.specs.Prelude.{ℕ, ◌≡◌, ◌≢◌, ◌+◌, ◌<◌, ◌≤◌, ◌⊎◌, ◌||◌, true, false, Bool, List, [], ◌∷◌, length, refl, get_or}
+use Rattle.std.specs.Prelude.{ℕ, ◌≡◌, ◌≢◌, ◌<◌, ◌≤◌, ◌||◌, true, false, List, [], ◌∷◌, length, refl, get_or}
 use Rattle.std.specs.List.{All, AllPairs}
 use Rattle.std.specs.Ordering.{ordering_reverse}
 use Rattle.std.specs.declared.cmp.Ordering.TheVariants.{Less, Greater}
 use Rattle.std.proofs.Common.{zero, suc, sym, ◌∙◌, ap, subst, inl, inr, ⊎_elim, arith}
 use Rattle.std.proofs.lemmas.Bool.{false≢true, or_cases}
 use Rattle.sccp_base.specs.declared.mark.Mark.{Mark}
-use Rattle.sccp_base.specs.declared.mark.Mark.TheVariants.{PointCode, Sccp, Subsystem}
 use Rattle.sccp_base.specs.Marks.{IsAscending, mark_cmp, same_mark, holds}
 use Rattle.sccp_base.specs.MarkOrder.{mark_cmp_total}
 use Rattle.sccp_base.proofs.Among.{Among, All-among}

@@ -1,8 +1,8 @@
 -- what is found of a class, from what is found of its parts, of its next classes and of smaller sets of outages
-use Rattle.std.specs.Prelude.{ℕ, ◌≡◌, ◌+◌, ◌-◌, ◌<◌, ◌≤◌, ◌⊎◌, ◌||◌, true, false, Bool, List, length, take, get_or, Option, Some, None, Result, Ok, Err}
-use Rattle.std.specs.Prelude.{IfOk, slice_get, refl}
-use Rattle.std.specs.List.{All, Any}
-use Rattle.std.proofs.Common.{suc, sym, ◌∙◌, ap, subst, inl, inr, ⊎_elim, arith, take_all}
+use Rattle.std.specs.Prelude.{ℕ, ◌≡◌, ◌+◌, ◌<◌, ◌≤◌, ◌||◌, true, false, Bool, List, length, take, get_or, Some, None, Result, Ok, Err}
+use Rattle.std.specs.Prelude.{IfOk}
+use Rattle.std.specs.List.{All}
+use Rattle.std.proofs.Common.{sym, subst, ⊎_elim, arith, take_all}
 use Rattle.std.proofs.lemmas.Bool.{cases_Bool, or_left, or_right}
 use Rattle.std.proofs.lemmas.List.Elements.{All-push}
 use Rattle.std.proofs.lemmas.List.{take_more}
@@ -10,8 +10,6 @@ use Rattle.sccp_base.specs.declared.mark.Mark.{Mark}
 use Rattle.sccp_base.specs.declared.mark.Mark.TheVariants.{PointCode}
 use Rattle.sccp_base.specs.Marks.{holds}
 use Rattle.plan_rules.specs.Rule.{Rule}
-use Rattle.plan_model.specs.declared.node.Node.{Node}
-use Rattle.plan_model.specs.declared.spot.Spot.{Spot}
 use Rattle.plan_model.specs.declared.hop.Step.{Step}
 use Rattle.plan_model.specs.Network.{Network}
 use Rattle.plan_model.specs.Next.{next_of}
@@ -46,7 +44,8 @@ own_stop plan c left set digits is member stopped =
 pub no_row_stop : (plan : Network) (c : Titles) (left : ℕ) (set : OutageSet) → IsClass c → IsOutageSet set → 0 < left
     → class_row plan c ≡ None → StopsOne plan c left set.most (IsIn set) (sample_of c) set.lost
 no_row_stop plan c left set class is some none =
-    own_stop plan c left set (sample_of c) is (sample_member c class) (no_row plan c.cover left set.lost (spot_of c (sample_of c)) some none)
+    own_stop plan c left set (sample_of c) is (sample_member c class)
+    (no_row plan c.cover left set.lost (spot_of c (sample_of c)) some none)
 
 pub past_stop : (plan : Network) (c : Titles) (left place : ℕ) (set : OutageSet) (r : Rule) → IsClass c → IsOutageSet set → 0 < left
     → c.node < length plan.nodes → class_row plan c ≡ Some r → PassesOver plan c place set → length (class_targets plan c) ≤ place

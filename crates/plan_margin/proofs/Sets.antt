@@ -1,8 +1,9 @@
 -- sets of outages, and what they say of a target
-use Rattle.std.specs.Prelude.{ℕ, ◌≡◌, ◌+◌, ◌<◌, ◌≤◌, ◌⊎◌, ◌||◌, true, false, Bool, List, length, Option, Some, None, IsSomeAnd, slice_get, is_none, refl}
+use Rattle.std.specs.Prelude.{ℕ, ◌≡◌, ◌+◌, ◌<◌, ◌≤◌, ◌||◌, true, false, List, length, Option, Some, None, IsSomeAnd, slice_get, is_none}
+use Rattle.std.specs.Prelude.{refl}
 use Rattle.std.specs.List.{All}
-use Rattle.std.proofs.Common.{suc, sym, ◌∙◌, ap, subst, inl, inr, ⊎_elim, arith}
-use Rattle.std.proofs.lemmas.Bool.{false≢true, cases_Bool, cases_lt, or_cases, or_left, or_right, false_from_ne_true}
+use Rattle.std.proofs.Common.{suc, sym, ◌∙◌, ap, subst, ⊎_elim, arith}
+use Rattle.std.proofs.lemmas.Bool.{false≢true, cases_lt, or_cases, or_left, or_right, false_from_ne_true}
 use Rattle.std.proofs.lemmas.Option.{slice_get_within}
 use Rattle.sccp_base.specs.declared.mark.Mark.{Mark}
 use Rattle.sccp_base.specs.declared.mark.Mark.TheVariants.{PointCode}
@@ -28,7 +29,8 @@ pub own_outage : (set : OutageSet) → IsOutageSet set → IsIn set set.lost
 own_outage set is = record { points = is.points; lost = λ m h. h; up = is.apart }
 
 -- a fact on the target at a place from another one
-pub of_target_map : (plan : Network) (c : Titles) (place : ℕ) (P Q : Node → Target → Type 0) → ((node : Node) (t : Target) → P node t → Q node t)
+pub of_target_map : (plan : Network) (c : Titles) (place : ℕ) (P Q : Node → Target → Type 0)
+    → ((node : Node) (t : Target) → P node t → Q node t)
     → OfTarget plan c place P → OfTarget plan c place Q
 of_target_map plan c place P Q f h =
     let n = some_of (slice_get plan.nodes c.node) (λ x. IsSomeAnd (slice_get (class_targets plan c) place) (P x)) h in
@@ -104,13 +106,15 @@ either_closes plan c place point set marks turn held =
 pub either_opens : (plan : Network) (c : Titles) (place point : ℕ) (set : OutageSet) (marks : List Mark) → All IsPointMark marks
     → IsTurn plan c place set (Either point) → holds marks (PointCode point) ≡ false → IsOpenAt plan c marks place
 either_opens plan c place point set marks points turn held =
-    of_target_map plan c place (λ node t. IsTurnBy (point_of_target node t) set (Either point)) (λ node t. closing node c.ssn marks t ≡ None)
+    of_target_map plan c place (λ node t. IsTurnBy (point_of_target node t) set (Either point)) (λ node t. closing node c.ssn marks t
+    ≡ None)
     (λ node t h. by_point node t (point_of_target node t) refl h) turn
   where
     by_point : (node : Node) (t : Target) (o : Option ℕ) → point_of_target node t ≡ o → IsTurnBy o set (Either point)
         → closing node c.ssn marks t ≡ None
     by_point node t None e h = absurd h
-    by_point node t (Some p) e h = up_opens node c.ssn marks t p points e (subst (λ (q : ℕ). holds marks (PointCode q) ≡ false) (sym h.0) held)
+    by_point node t (Some p) e h = up_opens node c.ssn marks t p points e
+        (subst (λ (q : ℕ). holds marks (PointCode q) ≡ false) (sym h.0) held)
 
 -- one more target is passed over
 pub passes_more : (plan : Network) (c : Titles) (place : ℕ) (set more : OutageSet) → PassesOver plan c place set
@@ -145,12 +149,14 @@ up_set set more point is free made = record {
   points = subst (All IsPointMark) (sym made.lost) is.points;
   few = omega (arith, ap length made.lost, made.most, is.few);
   apart = λ m h. ap (λ (ms : List Mark). holds ms m) made.lost ∙ ⊎_elim
-      (λ (e : same_mark (PointCode point) m ≡ true). subst (λ (k : Mark). holds set.lost k ≡ false) (same_mark_is (PointCode point) m e) free.not_lost)
+      (λ (e : same_mark (PointCode point) m ≡ true). subst (λ (k : Mark). holds set.lost k ≡ false)
+      (same_mark_is (PointCode point) m e) free.not_lost)
       (λ (e : holds set.up m ≡ true). is.apart m e)
       (or_cases (same_mark (PointCode point) m) (holds set.up m) (sym (made.up m) ∙ h));
 }
 
-pub up_inner : (set more : OutageSet) (point : ℕ) (marks : List Mark) → IsWithUp set point more → IsIn more marks → IsInWith set point false marks
+pub up_inner : (set more : OutageSet) (point : ℕ) (marks : List Mark) → IsWithUp set point more → IsIn more marks
+    → IsInWith set point false marks
 up_inner set more point marks made inside = record {
   inside = record {
     points = inside.points;
@@ -161,12 +167,14 @@ up_inner set more point marks made inside = record {
       ∙ or_left (same_mark (PointCode point) (PointCode point)) (holds set.up (PointCode point)) (own_point point));
 }
 
-pub up_outer : (set more : OutageSet) (point : ℕ) (marks : List Mark) → IsWithUp set point more → IsInWith set point false marks → IsIn more marks
+pub up_outer : (set more : OutageSet) (point : ℕ) (marks : List Mark) → IsWithUp set point more → IsInWith set point false marks
+    → IsIn more marks
 up_outer set more point marks made h = record {
   points = h.inside.points;
   lost = λ m k. h.inside.lost m (sym (ap (λ (ms : List Mark). holds ms m) made.lost) ∙ k);
   up = λ m k. ⊎_elim
-      (λ (e : same_mark (PointCode point) m ≡ true). subst (λ (x : Mark). holds marks x ≡ false) (same_mark_is (PointCode point) m e) h.held)
+      (λ (e : same_mark (PointCode point) m ≡ true). subst (λ (x : Mark). holds marks x ≡ false)
+      (same_mark_is (PointCode point) m e) h.held)
       (λ (e : holds set.up m ≡ true). h.inside.up m e)
       (or_cases (same_mark (PointCode point) m) (holds set.up m) (sym (made.up m) ∙ k));
 }

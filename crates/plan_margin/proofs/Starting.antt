@@ -1,8 +1,8 @@
 -- the outages of a cover, and what the search from its start says of them
-use Rattle.std.specs.Prelude.{ℕ, ◌≡◌, ◌+◌, ◌<◌, ◌≤◌, true, false, Bool, List, [], length, Option, Some, None, IsSomeAnd, slice_get, refl, replicate}
-use Rattle.std.specs.List.{All}
+use Rattle.std.specs.Prelude.{ℕ, ◌≡◌, ◌+◌, ◌<◌, ◌≤◌, true, false, Bool, List, [], length, Option, Some, None, IsSomeAnd, slice_get, refl}
+use Rattle.std.specs.Prelude.{replicate}
 use Rattle.std.specs.Option.{option_map_or}
-use Rattle.std.proofs.Common.{suc, sym, ◌∙◌, ap, subst, ⊎_elim, arith}
+use Rattle.std.proofs.Common.{sym, ◌∙◌, ap, subst, ⊎_elim, arith}
 use Rattle.std.proofs.lemmas.Bool.{false≢true, cases_lt}
 use Rattle.std.proofs.lemmas.Option.{slice_get_cases}
 use Rattle.sccp_base.specs.declared.mark.Mark.{Mark}
@@ -51,14 +51,16 @@ entry_spared : (plan : Network) (number : ℕ) (cover : Cover) (marks : List Mar
     → SparesEntry plan number marks → holds marks (PointCode (point_of plan cover.node)) ≡ false
 entry_spared plan number cover marks at spares =
     let n = some_of (slice_get plan.nodes cover.node) (λ node. holds marks (PointCode node.pc) ≡ false)
-    (subst (λ (o : Option Cover). IsSomeAnd o (λ c. IsSomeAnd (slice_get plan.nodes c.node) (λ node. holds marks (PointCode node.pc) ≡ false)))
+    (subst (λ (o : Option Cover). IsSomeAnd o (λ c. IsSomeAnd (slice_get plan.nodes c.node) (λ node. holds marks (PointCode node.pc)
+    ≡ false)))
     at spares) in
     ap (λ (o : Option Node). holds marks (PointCode (option_map_or (λ x. x.pc) o 0))) n.1 ∙ n.2
 
 spares_entry : (plan : Network) (number : ℕ) (cover : Cover) (marks : List Mark) → IsPlan plan → slice_get plan.covers number ≡ Some cover
     → holds marks (PointCode (point_of plan cover.node)) ≡ false → SparesEntry plan number marks
 spares_entry plan number cover marks is at spared =
-    subst (λ (o : Option Cover). IsSomeAnd o (λ c. IsSomeAnd (slice_get plan.nodes c.node) (λ node. holds marks (PointCode node.pc) ≡ false)))
+    subst (λ (o : Option Cover). IsSomeAnd o (λ c. IsSomeAnd (slice_get plan.nodes c.node) (λ node. holds marks (PointCode node.pc)
+    ≡ false)))
     (sym at)
     (elim (slice_get plan.nodes cover.node) as (λ o. slice_get plan.nodes cover.node ≡ o
     → holds marks (PointCode (option_map_or (λ (x : Node). x.pc) o 0)) ≡ false

@@ -21,7 +21,8 @@ pub record IsStop (plan : Network) (number count : ℕ) (stop : Stop) : Type 0 w
 -- What a margin says if up to `losses` points may be lost. The loss of this number of points stops a title, and of fewer none.
 -- Or no title is stopped by the loss of that number of points, or of any number.
 abbrev pub IsMargin : Network → ℕ → ℕ → Margin → Type 0
-IsMargin plan number losses (Stopped stop) = (count : ℕ) × (count ≤ losses) × SurvivesBelow plan number count × IsStop plan number count stop
+IsMargin plan number losses (Stopped stop) = (count : ℕ) × (count ≤ losses) × SurvivesBelow plan number count
+    × IsStop plan number count stop
 IsMargin plan number losses Survives = SurvivesBelow plan number (losses + 1)
 IsMargin plan number losses SurvivesAny = SurvivesAll plan number
 IsMargin plan number losses (TooWide count) = (count ≤ losses) × SurvivesBelow plan number count

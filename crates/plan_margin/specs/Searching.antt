@@ -42,7 +42,8 @@ pub record MayExplore (plan : Network) (c : Titles) : Type 0 where
   pub cover : c.cover < length plan.covers
 
 -- a title of the class, and lost points that stop it
-pub record StopsOne (plan : Network) (c : Titles) (left most : ℕ) (In : List Mark → Type 0) (digits : List ℕ) (lost : List Mark) : Type 0 where
+pub record StopsOne (plan : Network) (c : Titles) (left most : ℕ) (In : List Mark
+    → Type 0) (digits : List ℕ) (lost : List Mark) : Type 0 where
   pub member : IsMember c digits
   pub within : In lost
   pub few : length lost ≤ most

@@ -62,12 +62,7 @@ fn start_in(plan: &Plan, cover: u16) -> Class
 }
 
 /// The search for a stopped title of a cover, in all outages of up to this number of points that spare the relay of the cover.
-fn explore_start(
-    alloc: Global,
-    plan: &Plan,
-    class: &Class,
-    most: u8,
-) -> Result<Found, OutOfMemory>
+fn explore_start(alloc: Global, plan: &Plan, class: &Class, most: u8) -> Result<Found, OutOfMemory>
     requires may { MayExplore plan.now class.now }
     ensures { IfOk result (IsFoundIf plan.now class.now 14 most (Spares plan.now class.now.node)) }
 {

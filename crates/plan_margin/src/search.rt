@@ -5,7 +5,8 @@ ghost use Rattle.plan_classes.specs.declared.leads.Image.TheVariants.{Next, Ends
 ghost use Rattle.plan_classes.specs.Classes.{Decided, HasImage, class_row, class_targets};
 ghost use Rattle.plan_classes.specs.Leading.{ImageIsExact};
 ghost use Rattle.plan_margin.specs.declared.found.Found.TheVariants.{Stopped as StoppedFound};
-ghost use Rattle.plan_margin.specs.Searching.{MayExplore, IsOutageSet, IsFound, IsFoundIf, IsWithinLimit, most_ways, PassesOver, TakesIn, IsTurn};
+ghost use Rattle.plan_margin.specs.Searching.{MayExplore, IsOutageSet, IsFound, IsFoundIf, IsWithinLimit, most_ways, PassesOver, TakesIn};
+ghost use Rattle.plan_margin.specs.Searching.{IsTurn};
 ghost use Rattle.plan_margin.specs.Searching.{IsInWith, IsTurnBy, point_of_target};
 ghost use Rattle.plan_margin.specs.declared.turn.Turn.TheVariants.{Either};
 
@@ -190,7 +191,9 @@ fn follow_row(
         Turn::Past => stopped(alloc, set, sample(class)),
         Turn::Lost => follow_row(alloc, plan, class, row, place + 1, left, set, count),
         Turn::Taken => follow_target(alloc, plan, class, row, place, left, set, count),
-        Turn::Either(point) => follow_either(alloc, plan, class, row, place, left, point, set, count),
+        Turn::Either(point) => follow_either(
+            alloc, plan, class, row, place, left, point, set, count,
+        ),
     }
 }
 

@@ -1,4 +1,4 @@
-use Rattle.std.proofs.Common.{◌≡◌, sym, ◌∙◌, subst, arith, true, false, rules}
+use Rattle.std.proofs.Common.{subst, arith}
 use Rattle.sccp_base.specs.Marks.{IsAscending}
 use Rattle.plan_margin.specs.declared.found.Found.{Found}
 use Rattle.plan_margin.specs.Searching.{IsFoundIf, AllArrive, Spares}

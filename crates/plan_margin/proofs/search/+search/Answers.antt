@@ -1,21 +1,19 @@
-use Rattle.std.proofs.Common.{ℕ, ◌≡◌, ◌+◌, ◌-◌, ◌<◌, ◌≤◌, ◌∙◌, Bor, List, Option, length, refl, sym, ap, subst, arith, rules, true, false}
+use Rattle.std.proofs.Common.{ℕ, ◌≡◌, ◌<◌, ◌∙◌, Bor, List, Option, length, refl, sym, ap, subst, arith, rules, true, false}
 use Rattle.std.specs.Option.{option_copied}
-use Rattle.sccp_base.specs.declared.mark.Mark.{Mark}
 use Rattle.plan_rules.specs.Rule.{Rule}
 use Rattle.plan_model.specs.declared.hop.Step.TheVariants.{NoRow, Overgrown}
-use Rattle.plan_classes.specs.Titles.{IsPart, Splits}
+use Rattle.plan_classes.specs.Titles.{Splits}
 use Rattle.plan_classes.specs.Classes.{class_targets}
 use Rattle.plan_classes.proofs.Taking.{row_targets}
-use Rattle.plan_classes.proofs.Parting.{part_of}
 use Rattle.plan_margin.specs.declared.found.Found.{Found}
 use Rattle.plan_margin.specs.declared.found.Found.TheVariants.{Stopped}
 use Rattle.plan_margin.specs.declared.turn.Turn.{Turn}
-use Rattle.plan_margin.specs.declared.turn.Turn.TheVariants.{Past, Lost, Taken, Either}
+use Rattle.plan_margin.specs.declared.turn.Turn.TheVariants.{Lost, Taken, Either}
 use Rattle.plan_margin.specs.Searching.{IsFound, IsFoundIf, IsIn, IsInWith, IsTurn, IsTurnBy, StopsOne, point_of_target}
 use Rattle.plan_margin.proofs.Passing.{opens_here}
-use Rattle.plan_margin.proofs.Sets.{IsFree, IsWithLost, IsWithUp, lost_is_closed, taken_is_open, either_is_free, either_closes, either_opens}
+use Rattle.plan_margin.proofs.Sets.{IsWithLost, IsWithUp, lost_is_closed, taken_is_open, either_is_free, either_closes, either_opens}
 use Rattle.plan_margin.proofs.Sets.{passes_more, of_target_within, lost_set, up_set, lost_inner, up_inner, too_many}
-use Rattle.plan_margin.proofs.Following.{ok_is, ok_map, no_row_stop, past_stop, target_stop, both_found, part_stop, parts_more, parts_whole}
+use Rattle.plan_margin.proofs.Following.{ok_is, ok_map, no_row_stop, past_stop, target_stop, parts_more, parts_whole}
 use Rattle.plan_margin.proofs.Following.{lost_found, up_found}
 use Rattle.plan_margin.proofs.search.+search.Goals as goal
 
@@ -52,7 +50,14 @@ explore_targets-follow_row-requires t c = (
             c.requires.decided,
             (
               search rules,
-              (record { closed = λ marks inside k near. absurd (omega (arith, near)); within = omega arith }, (c.requires.set, c.requires.few)),
+              (
+                record {
+                  closed = λ marks inside k near. absurd
+                      (omega (arith, near));
+                  within = omega arith;
+                },
+                (c.requires.set, c.requires.few),
+              ),
             ),
           ),
         ),
@@ -89,8 +94,7 @@ follow_lost-follow_row-found-requires t c =
     } in
     let inside : c.args.place < length (class_targets c.args.plan.now c.args.class.now) =
     of_target_within c.args.plan.now c.args.class.now c.args.place
-    (λ node t. IsTurnBy (point_of_target node t) c.args.set.now (Either c.args.point)) c.requires.turn in
-    (
+    (λ node t. IsTurnBy (point_of_target node t) c.args.set.now (Either c.args.point)) c.requires.turn in (
       search rules,
       (
         c.requires.some,
@@ -144,8 +148,7 @@ follow_row-follow_row-requires t c =
     c.turn_at.ensures.turn in
     let inside : c.args.place < length (class_targets c.args.plan.now c.args.class.now) =
     of_target_within c.args.plan.now c.args.class.now c.args.place
-    (λ node t. IsTurnBy (point_of_target node t) c.args.set.now Lost) turn in
-    (
+    (λ node t. IsTurnBy (point_of_target node t) c.args.set.now Lost) turn in (
       search rules,
       (
         c.requires.some,
@@ -179,8 +182,7 @@ follow_row-follow_target-requires t c =
     c.turn_at.ensures.turn in
     let inside : c.args.place < length (class_targets c.args.plan.now c.args.class.now) =
     of_target_within c.args.plan.now c.args.class.now c.args.place
-    (λ node t. IsTurnBy (point_of_target node t) c.args.set.now Taken) turn in
-    (
+    (λ node t. IsTurnBy (point_of_target node t) c.args.set.now Taken) turn in (
       search rules,
       (
         c.requires.some,
@@ -247,8 +249,7 @@ follow_up-follow_target-found-requires t c =
     } in
     let inside : c.args.place < length (class_targets c.args.plan.now c.args.class.now) =
     of_target_within c.args.plan.now c.args.class.now c.args.place
-    (λ node t. IsTurnBy (point_of_target node t) c.args.set.now (Either c.args.point)) c.requires.turn in
-    (
+    (λ node t. IsTurnBy (point_of_target node t) c.args.set.now (Either c.args.point)) c.requires.turn in (
       search rules,
       (
         c.requires.some,

@@ -1,4 +1,4 @@
-use Rattle.std.proofs.Common.{◌+◌, ◌-◌, ◌*◌, ◌≡◌, ◌≤◌, ◌<◌, ℕ, take, length, true, List}
+use Rattle.std.proofs.Common.{◌+◌, ◌-◌, ◌*◌, ◌<◌, take}
 use Rattle.std.specs.List.{All}
 use Rattle.plan_margin.specs.Searching.{IsIn, AllArrive, most_ways}
 use Rattle.plan_margin.proofs.search.+search.Given as goal
