@@ -1,0 +1,22 @@
+//! What a captured packet carries: the chunks of an SCTP packet (RFC 9260) in IP over any of several links, a message of
+//! MTP3 with its point codes (Q.704), or a message of SCCP alone.
+//!
+//! The crates above may rely on one call, `found_in`. It gives exactly what the definitions find in the octets of a packet,
+//! and everything that it lends is in those octets.
+#![tactic(auto)]
+
+mod chunk_fault;
+mod data;
+mod fault;
+mod flow;
+mod found;
+mod layer;
+mod transfer;
+
+pub use chunk_fault::ChunkFault;
+pub use data::Data;
+pub use fault::Fault;
+pub use flow::Flow;
+pub use found::Found;
+pub use layer::Layer;
+pub use transfer::Transfer;

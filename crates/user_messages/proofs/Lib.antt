@@ -1,0 +1,1 @@
+-- Lemmas and worked examples.

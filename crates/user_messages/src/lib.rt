@@ -1,0 +1,11 @@
+//! The user messages of SCTP associations, put together from DATA chunks in the order of a capture (RFC 9260, sections
+//! 3.3.1 and 6.9).
+#![tactic(auto)]
+
+mod given;
+mod key;
+mod place;
+
+pub use given::Given;
+pub use key::Key;
+pub use place::Place;
