@@ -1,1 +1,3 @@
 -- Lemmas and worked examples.
+mod Worked
+mod Keys

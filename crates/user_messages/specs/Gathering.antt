@@ -1,12 +1,13 @@
--- What each chunk of a capture gives, and what is kept of those before.
-use Rattle.std.specs.Prelude.{◌≡◌, ℕ, zero, suc, ◌+◌, ◌&&◌, ◌==◌, nat_lt, Bool, not, if◌then◌else◌, List, [], ◌∷◌, ◌++◌, length, take, drop, filter, find, map, slice_get, Option, Some, None, option_map}
+-- What each chunk of a capture gives, and what is kept of those before it.
+use Rattle.std.specs.Prelude.{ℕ, zero, suc, ◌+◌, ◌&&◌, ◌==◌, nat_lt, Bool, not, if◌then◌else◌, List, [], ◌∷◌, ◌++◌, length, take, drop, filter}
+use Rattle.std.specs.Prelude.{find, map, slice_get, Option, Some, None, option_map}
 use Rattle.std.specs.List.{list_any}
 use Rattle.packet_layers.specs.Values.{DataChunk}
 use Rattle.user_messages.specs.declared.key.Key.{Key}
 use Rattle.user_messages.specs.declared.place.Place.{Place}
 use Rattle.user_messages.specs.declared.given.Given.{Given}
 use Rattle.user_messages.specs.declared.given.Given.TheVariants.{Whole, Repeated, Waits}
-use Rattle.user_messages.specs.Chunks.{key_of, same_key, goes_on}
+use Rattle.user_messages.specs.Chunks.{key_of, same_key, same_chunk, goes_on}
 use Rattle.user_messages.specs.UserMessages.{message_of}
 
 -- a chunk at its place in the capture
@@ -17,6 +18,10 @@ pub record Received : Type 0 where
 abbrev pub chunks_of : List Received → List DataChunk
 chunks_of cs = map (λ c. c.chunk) cs
 
+-- one of these chunks has the association and the number of that one
+abbrev pub has_key : List Received → Received → Bool
+has_key cs c = list_any (λ d. same_chunk c.chunk d.chunk) cs
+
 -- What is kept: the keys of chunks that a later one may repeat, the latest first, 65,536 at most; and the chunks of user
 -- messages that are not whole yet, in the order in which they arrived, 256 at most.
 pub record Gathered : Type 0 where
@@ -26,9 +31,13 @@ pub record Gathered : Type 0 where
 abbrev pub nothing : Gathered
 nothing = record { seen = []; waiting = [] }
 
+-- ---- chunks that are there already
+
 -- a key goes to the front
 abbrev pub remembered : Key → List Key → List Key
 remembered key seen = take 65536 (key ∷ filter (λ k. not (same_key key k)) seen)
+
+-- ---- messages that become whole
 
 abbrev pub follow : (Received → Option (List Received)) → Option Received → Option (List Received)
 follow next None = None
@@ -53,33 +62,43 @@ both_parts (Some front) (Some back) = Some (front ++ back)
 both_parts (Some front) None = None
 both_parts None back = None
 
--- the chunks of the whole message that this one is a part of, if all have arrived
+-- the chunks of the message that this one is a part of, if all have arrived
 unfoldable pub run_of : List Received → Received → Option (List Received)
 run_of waiting c = both_parts (up_to (length waiting + 1) waiting c) (after (length waiting + 1) waiting c)
 
--- a chunk has the key of one of these
-abbrev pub is_in : List Received → Received → Bool
-is_in run c = list_any (λ d. same_key (key_of d.chunk) (key_of c.chunk)) run
+-- the chunks that wait, after one more, and what it gives
+pub record Outcome : Type 0 where
+  pub waiting : List Received
+  pub given : Given
 
--- one more waits; if too many do, the first is given up
-abbrev pub waits : Gathered → Received → Gathered × Given
-waits g c =
-    if nat_lt (length g.waiting) 256 then (record g { waiting = g.waiting ++ c ∷ [] }, Waits None)
-    else (record g { waiting = drop 1 g.waiting ++ c ∷ [] }, Waits (option_map (λ d. d.place) (slice_get g.waiting 0)))
+abbrev pub giving : List Received → Given → Outcome
+giving waiting given = record { waiting = waiting; given = given }
 
--- a message that is whole no longer waits
-abbrev pub joins : Gathered → Received → Option (List Received) → Gathered × Given
-joins g c None = waits g c
-joins g c (Some run) = (record g { waiting = filter (λ d. not (is_in run d)) g.waiting }, Whole (message_of (chunks_of run)))
+-- one more waits; if 256 wait already, the first of them is given up
+abbrev pub waits : List Received → Received → Outcome
+waits waiting c =
+    if nat_lt (length waiting) 256 then giving (waiting ++ c ∷ []) (Waits None)
+    else giving (drop 1 waiting ++ c ∷ []) (Waits (option_map (λ d. d.place) (slice_get waiting 0)))
+
+-- the chunks of a message that is whole wait no longer
+abbrev pub joins : List Received → Received → Option (List Received) → Outcome
+joins waiting c None = waits waiting c
+joins waiting c (Some run) = giving (filter (λ d. not (has_key run d)) waiting) (Whole (message_of (chunks_of run)))
 
 -- a chunk that repeats none
-unfoldable pub first_copy : Gathered → Received → Gathered × Given
-first_copy g c = if c.chunk.begins && c.chunk.ends then (g, Whole c.chunk.payload) else joins g c (run_of g.waiting c)
+unfoldable pub first_copy : List Received → Received → Outcome
+first_copy waiting c =
+    if c.chunk.begins && c.chunk.ends then giving waiting (Whole c.chunk.payload) else joins waiting c (run_of waiting c)
 
--- What a chunk gives, and what is kept after it. A chunk whose verification tag is 0 belongs to no association (section
--- 8.5.1), and repeats none.
+-- ---- a chunk
+
+abbrev pub keeping : List Key → Outcome → Gathered × Given
+keeping seen o = (record { seen = seen; waiting = o.waiting }, o.given)
+
+-- What a chunk gives, and what is kept after it. A chunk whose verification tag is 0 belongs to no association (RFC 9260,
+-- section 8.5.1), and repeats none.
 unfoldable pub took : Gathered → Received → Gathered × Given
 took g c =
-    if c.chunk.flow.tag == 0 then first_copy g c
-    else if list_any (same_key (key_of c.chunk)) g.seen then (record g { seen = remembered (key_of c.chunk) g.seen }, Repeated)
-    else first_copy (record g { seen = remembered (key_of c.chunk) g.seen }) c
+    if c.chunk.flow.tag == 0 then keeping g.seen (first_copy g.waiting c)
+    else if list_any (same_key (key_of c.chunk)) g.seen then keeping (remembered (key_of c.chunk) g.seen) (giving g.waiting Repeated)
+    else keeping (remembered (key_of c.chunk) g.seen) (first_copy g.waiting c)
