@@ -1,3 +1,5 @@
 -- Lemmas and worked examples.
 mod Worked
 mod Keys
+mod Lists
+mod Seen
