@@ -3,3 +3,4 @@ mod Worked
 mod Keys
 mod Lists
 mod Seen
+mod Runs

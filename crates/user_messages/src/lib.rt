@@ -4,8 +4,10 @@
 
 mod given;
 mod key;
+mod laws;
 mod place;
 
 pub use given::Given;
 pub use key::Key;
+pub use laws::{messages_are_whole, repeats_are_found, repeats_arrived_before};
 pub use place::Place;
