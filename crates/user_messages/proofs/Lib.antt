@@ -4,3 +4,5 @@ mod Keys
 mod Lists
 mod Seen
 mod Runs
+mod Apart
+mod Chains
