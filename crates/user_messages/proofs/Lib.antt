@@ -6,3 +6,4 @@ mod Seen
 mod Runs
 mod Apart
 mod Chains
+mod Stories

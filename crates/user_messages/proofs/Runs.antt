@@ -151,7 +151,7 @@ run_is waiting c run h =
 
 -- ---- what waits has arrived
 
-Among-drop : (d : Received) (xs : List Received) → Among d (drop 1 xs) → Among d xs
+pub Among-drop : (d : Received) (xs : List Received) → Among d (drop 1 xs) → Among d xs
 Among-drop d [] m = absurd m
 Among-drop d (x ∷ xs) m = inr m
 
@@ -160,7 +160,7 @@ still_waits waiting c d =
     first_cases (λ o. Among d o.waiting → Among d waiting ⊎ (c ≡ d)) waiting c (λ _ _. λ m. inl m)
     (λ run _. λ m. inl (Among-unfilter (λ x. not (has_key run x)) d waiting m).0)
     (λ _. waits_cases (λ o. Among d o.waiting → Among d waiting ⊎ (c ≡ d)) waiting c (λ m. last_of waiting (λ x. x) m)
-    (λ m. last_of (drop 1 waiting) (Among-drop d waiting) m))
+    (λ _. λ m. last_of (drop 1 waiting) (Among-drop d waiting) m))
   where
     last_of : (front : List Received) → (Among d front → Among d waiting) → Among d (front ++ c ∷ []) → Among d waiting ⊎ (c ≡ d)
     last_of front f m = ⊎_elim (λ a. inl (f a)) (λ b. ⊎_elim (λ (q : c ≡ d). inr q) (λ z. absurd z) b) (Among-parts d front (c ∷ []) m)
@@ -212,4 +212,4 @@ is_whole cs c octets =
         first_cases (λ o. o.given ≡ Whole octets → IsMadeOf cs c octets) (kept_after nothing cs).waiting c
         (λ b e. λ k. let q : c.chunk.payload ≡ octets = cc in single b e q)
         (λ run e. λ k. let q : message_of (chunks_of run) ≡ octets = cc in several run (run_is (kept_after nothing cs).waiting c run e) q)
-        (λ _. waits_cases (λ o. o.given ≡ Whole octets → IsMadeOf cs c octets) (kept_after nothing cs).waiting c (λ e. absurd (cc)) (λ e. absurd (cc)))
+        (λ _. waits_cases (λ o. o.given ≡ Whole octets → IsMadeOf cs c octets) (kept_after nothing cs).waiting c (λ e. absurd (cc)) (λ _. λ e. absurd (cc)))

@@ -3,7 +3,7 @@ use Rattle.std.specs.Prelude.{◌≡◌, ◌≢◌, ◌⊎◌, ℕ, ◌+◌, ◌
 use Rattle.std.specs.Prelude.{Option, Some, None, refl, slice_get, option_map}
 use Rattle.std.specs.List.{list_any}
 use Rattle.std.proofs.Common.{zero, suc, inl, inr, ⊎_elim, sym, ap, subst, ◌∙◌, arith, append_assoc}
-use Rattle.std.proofs.lemmas.Bool.{false≢true, cond_both, cases_Bool, ne_eqb, and_parts}
+use Rattle.std.proofs.lemmas.Bool.{false≢true, cond_both, cases_Bool, ne_eqb, and_parts, ltb-false}
 use Rattle.std.proofs.lemmas.List.{append-nil}
 use Rattle.sccp_base.proofs.Among.{Among, Among-unfilter}
 use Rattle.user_messages.specs.declared.key.Key.{Key}
@@ -37,11 +37,12 @@ took_cases P g c of_none repeats is_new =
 
 pub waits_cases : (P : Outcome → Type 0) (waiting : List Received) (c : Received)
     → P (giving (waiting ++ c ∷ []) (Waits None))
-    → P (giving (drop 1 waiting ++ c ∷ []) (Waits (option_map (λ d. d.place) (slice_get waiting 0))))
+    → (256 ≤ length waiting → P (giving (drop 1 waiting ++ c ∷ []) (Waits (option_map (λ d. d.place) (slice_get waiting 0)))))
     → P (waits waiting c)
 waits_cases P waiting c room full =
     cond_both (nat_lt (length waiting) 256) (giving (waiting ++ c ∷ []) (Waits None))
-    (giving (drop 1 waiting ++ c ∷ []) (Waits (option_map (λ d. d.place) (slice_get waiting 0)))) P (λ _. room) (λ _. full)
+    (giving (drop 1 waiting ++ c ∷ []) (Waits (option_map (λ d. d.place) (slice_get waiting 0)))) P (λ _. room)
+    (λ e. full (ltb-false (length waiting) 256 e))
 
 pub first_cases : (P : Outcome → Type 0) (waiting : List Received) (c : Received)
     → (c.chunk.begins ≡ true → c.chunk.ends ≡ true → P (giving waiting (Whole c.chunk.payload)))
@@ -105,7 +106,7 @@ seen_along cs = along SeenPast seen_past cs [] nothing (λ k m. absurd m)
 pub never_repeated : (waiting : List Received) (c : Received) → (first_copy waiting c).given ≡ Repeated → ⊥
 never_repeated waiting c =
     first_cases (λ o. o.given ≡ Repeated → ⊥) waiting c (λ _ _. λ e. absurd (cc)) (λ run _. λ e. absurd (cc))
-    (λ _. waits_cases (λ o. o.given ≡ Repeated → ⊥) waiting c (λ e. absurd (cc)) (λ e. absurd (cc)))
+    (λ _. waits_cases (λ o. o.given ≡ Repeated → ⊥) waiting c (λ e. absurd (cc)) (λ _. λ e. absurd (cc)))
 
 pub is_hidden : (cs : List Received) (c : Received) → last_given cs c ≡ Repeated → has_key cs c ≡ true
 is_hidden cs c =
