@@ -7,3 +7,4 @@ mod Runs
 mod Apart
 mod Chains
 mod Stories
+mod Come

@@ -1,10 +1,11 @@
 // The main properties of the definitions, over the chunks of any capture. Each function has a law as its contract, and does
 // nothing.
-ghost use Rattle.std.specs.Prelude.{◌≡◌, ◌≢◌, ◌<◌, ℕ, true, List, ◌∷◌, ◌++◌, length};
+ghost use Rattle.std.specs.Prelude.{◌≡◌, ◌≢◌, ◌<◌, ℕ, true, List, [], ◌∷◌, ◌++◌, length, All, Contains};
 ghost use Rattle.user_messages.specs.declared.given.Given.TheVariants.{Whole, Repeated};
 ghost use Rattle.user_messages.specs.Chunks.{same_chunk};
-ghost use Rattle.user_messages.specs.Gathering.{Received, has_key};
-ghost use Rattle.user_messages.specs.Captures.{IsMadeOf, last_given};
+ghost use Rattle.user_messages.specs.Gathering.{Received, chunks_of, has_key};
+ghost use Rattle.user_messages.specs.UserMessages.{IsUserMessage, message_of};
+ghost use Rattle.user_messages.specs.Captures.{AreApart, HaveNumbers, IsMadeOf, NoneGivenUp, NoneTwice, last_given};
 
 /// A chunk is taken for a repeat only if one with its association and its number arrived before. So no chunk is left out
 /// that was not there already.
@@ -23,4 +24,19 @@ pub fn repeats_are_found()
 /// message.
 pub fn messages_are_whole()
     ensures { (cs : List Received) (c : Received) (octets : List ℕ) → last_given cs c ≡ Whole octets → IsMadeOf cs c octets }
+{}
+
+/// Take a capture in which no two chunks have one association and one number, and none is given up. If chunks of it are a whole
+/// user message, the one of them that arrives last gives the data of the message, in whatever order they arrive and whatever
+/// other chunks arrive between them.
+pub fn whole_messages_are_given()
+    ensures { (cs : List Received) (c : Received) (run : List Received) → NoneTwice (cs ++ c ∷ []) → HaveNumbers (cs ++ c ∷ []) →
+        NoneGivenUp cs → IsUserMessage (chunks_of run) → All (Contains (cs ++ c ∷ [])) run → Contains run c →
+        last_given cs c ≡ Whole (message_of (chunks_of run)) }
+{}
+
+/// Take a capture in which no two chunks have one association and one number. No chunk of it is in two of the messages that
+/// are given.
+pub fn no_chunk_is_given_twice()
+    ensures { (cs : List Received) → NoneTwice cs → AreApart cs }
 {}
