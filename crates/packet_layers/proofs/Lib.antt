@@ -1,1 +1,3 @@
--- Lemmas.
+mod Worked
+pub mod Chunks
+pub mod Turns

@@ -1,2 +1,4 @@
 -- The definitions of this crate, one file a subject.
 pub mod Values
+pub mod Numbers
+pub mod Layers
