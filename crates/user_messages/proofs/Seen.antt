@@ -28,12 +28,13 @@ pub took_cases : (P : Gathered × Given → Type 0) (g : Gathered) (c : Received
     → P (took g c)
 unfolding took
 took_cases P g c of_none repeats is_new =
-    cond_both (c.chunk.flow.tag == 0) (keeping g.seen (first_copy g.waiting c))
-    (cond (list_any (same_key (key_of c.chunk)) g.seen) (keeping (remembered (key_of c.chunk) g.seen) (giving g.waiting Repeated))
-    (keeping (remembered (key_of c.chunk) g.seen) (first_copy g.waiting c)))
-    P of_none
-    (λ n. cond_both (list_any (same_key (key_of c.chunk)) g.seen) (keeping (remembered (key_of c.chunk) g.seen) (giving g.waiting Repeated))
-    (keeping (remembered (key_of c.chunk) g.seen) (first_copy g.waiting c)) P (repeats n) (is_new n))
+    elim (c.chunk.flow.tag == 0) as (λ b. (c.chunk.flow.tag == 0) ≡ b
+    → P (keeping (cond b g.seen (remembered (key_of c.chunk) g.seen))
+    (cond (not b && list_any (same_key (key_of c.chunk)) g.seen) (giving g.waiting Repeated) (first_copy g.waiting c)))) [
+      | true ↦ of_none
+      | false ↦ λ n. cond_both (list_any (same_key (key_of c.chunk)) g.seen) (giving g.waiting Repeated) (first_copy g.waiting c)
+          (λ o. P (keeping (remembered (key_of c.chunk) g.seen) o)) (repeats n) (is_new n)
+    ] refl
 
 pub waits_cases : (P : Outcome → Type 0) (waiting : List Received) (c : Received)
     → P (giving (waiting ++ c ∷ []) (Waits None))

@@ -15,6 +15,9 @@ pub record Received : Type 0 where
   pub place : Place
   pub chunk : DataChunk
 
+abbrev pub received : Place → DataChunk → Received
+received place chunk = record { place = place; chunk = chunk }
+
 abbrev pub chunks_of : List Received → List DataChunk
 chunks_of cs = map (λ c. c.chunk) cs
 
@@ -33,9 +36,16 @@ nothing = record { seen = []; waiting = [] }
 
 -- ---- chunks that are there already
 
+-- A chunk whose verification tag is 0 belongs to no association (RFC 9260, section 8.5.1), and repeats none.
+abbrev pub is_repeat : List Key → Key → Bool
+is_repeat seen key = not (key.tag == 0) && list_any (same_key key) seen
+
 -- a key goes to the front
 abbrev pub remembered : Key → List Key → List Key
 remembered key seen = take 65536 (key ∷ filter (λ k. not (same_key key k)) seen)
+
+abbrev pub noted : Key → List Key → List Key
+noted key seen = if key.tag == 0 then seen else remembered key seen
 
 -- ---- messages that become whole
 
@@ -95,10 +105,8 @@ first_copy waiting c =
 abbrev pub keeping : List Key → Outcome → Gathered × Given
 keeping seen o = (record { seen = seen; waiting = o.waiting }, o.given)
 
--- What a chunk gives, and what is kept after it. A chunk whose verification tag is 0 belongs to no association (RFC 9260,
--- section 8.5.1), and repeats none.
+-- what a chunk gives, and what is kept after it
 unfoldable pub took : Gathered → Received → Gathered × Given
 took g c =
-    if c.chunk.flow.tag == 0 then keeping g.seen (first_copy g.waiting c)
-    else if list_any (same_key (key_of c.chunk)) g.seen then keeping (remembered (key_of c.chunk) g.seen) (giving g.waiting Repeated)
-    else keeping (remembered (key_of c.chunk) g.seen) (first_copy g.waiting c)
+    keeping (noted (key_of c.chunk) g.seen)
+    (if is_repeat g.seen (key_of c.chunk) then giving g.waiting Repeated else first_copy g.waiting c)

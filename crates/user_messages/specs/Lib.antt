@@ -2,4 +2,5 @@
 pub mod Chunks
 pub mod UserMessages
 pub mod Gathering
+pub mod Runs
 pub mod Captures

@@ -16,13 +16,20 @@ pub struct Key {
 }
 
 /// The key of a chunk.
-pub fn key_of(data: &Data<'_>) -> Key
-    ensures { result ≡ key_of (data_as data.now) }
+pub fn key_of(chunk: &Data<'_>) -> Key
+    ensures { result ≡ key_of (data_as chunk.now) }
 {
     Key {
-        source: data.flow.source,
-        destination: data.flow.destination,
-        tag: data.flow.tag,
-        tsn: data.tsn,
+        source: chunk.flow.source,
+        destination: chunk.flow.destination,
+        tag: chunk.flow.tag,
+        tsn: chunk.tsn,
     }
+}
+
+/// Whether two keys are the same.
+pub fn same_key(a: Key, b: Key) -> bool
+    ensures { result ≡ same_key a b }
+{
+    a.source == b.source && a.destination == b.destination && a.tag == b.tag && a.tsn == b.tsn
 }
