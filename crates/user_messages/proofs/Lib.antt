@@ -8,3 +8,4 @@ mod Apart
 mod Chains
 mod Stories
 mod Come
+mod Steps
