@@ -1,10 +1,9 @@
 -- Chunks of which no two have one association and one number.
-use Rattle.std.specs.Prelude.{◌≡◌, ◌⊎◌, ℕ, ◌+◌, ◌≤◌, Bool, true, false, List, [], ◌∷◌, ◌++◌, length, refl}
+use Rattle.std.specs.Prelude.{◌≡◌, ◌+◌, ◌≤◌, true, false, List, [], ◌∷◌, ◌++◌, length, refl}
 use Rattle.std.proofs.Common.{inl, inr, ⊎_elim, sym, ap, subst, ◌∙◌, arith}
 use Rattle.std.proofs.lemmas.Bool.{false≢true, false_from_ne_true}
 use Rattle.std.proofs.lemmas.List.{length-append}
 use Rattle.sccp_base.proofs.Among.{Among, list_any-none}
-use Rattle.user_messages.specs.declared.key.Key.{Key}
 use Rattle.user_messages.specs.Chunks.{key_of, same_key, same_chunk}
 use Rattle.user_messages.specs.Gathering.{Received, has_key}
 use Rattle.user_messages.specs.Captures.{NoneTwice}
@@ -55,12 +54,11 @@ parts_apart (c ∷ xs) ys x y h m n e =
 pub none_twice-append : (xs ys : List Received) → NoneTwice xs → NoneTwice ys
     → ((x y : Received) → Among x xs → Among y ys → key_of x.chunk ≡ key_of y.chunk → ⊥) → NoneTwice (xs ++ ys)
 none_twice-append [] ys h k apart = k
-none_twice-append (x ∷ xs) ys h k apart =
-    (
-      has_key-false (xs ++ ys) x (λ d m e. ⊎_elim (λ a. has_key-not xs x d h.0 a e) (λ b. apart x d (inl refl) b e)
-          (Among-parts d xs ys m)),
-      none_twice-append xs ys h.1 k (λ a b m n e. apart a b (inr m) n e),
-    )
+none_twice-append (x ∷ xs) ys h k apart = (
+  has_key-false (xs ++ ys) x (λ d m e. ⊎_elim (λ a. has_key-not xs x d h.0 a e) (λ b. apart x d (inl refl) b e)
+      (Among-parts d xs ys m)),
+  none_twice-append xs ys h.1 k (λ a b m n e. apart a b (inr m) n e),
+)
 
 -- they are no more than the chunks of a list that has them all
 pub no_more : (xs ys : List Received) → NoneTwice xs → ((x : Received) → Among x xs → Among x ys) → length xs ≤ length ys

@@ -1,22 +1,22 @@
 -- A user message of which all chunks arrived, and none was given up, is given at its last chunk.
-use Rattle.std.specs.Prelude.{◌≡◌, ◌⊎◌, ℕ, ◌<◌, ◌^◌, ◌==◌, Bool, true, false, not, List, [], ◌∷◌, ◌++◌, All, Contains, filter, flat_map, Option, Some, None, refl}
+use Rattle.std.specs.Prelude.{◌≡◌, ◌⊎◌, ◌<◌, ◌^◌, true, List, [], ◌∷◌, ◌++◌, All, Contains}
+use Rattle.std.specs.Prelude.{Some, None, refl}
 use Rattle.std.specs.List.{list_any}
 use Rattle.std.proofs.Common.{inl, inr, ⊎_elim, sym, ap, subst, ◌∙◌, append_assoc}
 use Rattle.std.proofs.lemmas.Bool.{false≢true}
 use Rattle.std.proofs.lemmas.List.{append-nil}
 use Rattle.sccp_base.proofs.Among.{Among, All-among}
-use Rattle.user_messages.specs.declared.given.Given.{Given}
-use Rattle.user_messages.specs.declared.given.Given.TheVariants.{Whole, Repeated, Waits}
+use Rattle.user_messages.specs.declared.given.Given.TheVariants.{Whole, Waits}
 use Rattle.user_messages.specs.Chunks.{key_of, same_key, goes_on}
 use Rattle.user_messages.specs.UserMessages.{IsInStep, Begins, Ends, IsUserMessage, message_of}
-use Rattle.user_messages.specs.Gathering.{Received, Gathered, chunks_of, has_key, nothing, run_of, first_copy, took, remembered}
+use Rattle.user_messages.specs.Gathering.{Received, chunks_of, nothing, run_of, first_copy}
 use Rattle.user_messages.specs.Captures.{kept_after, all_given, last_given, NoneTwice, NoneGivenUp, HaveNumbers}
 use Rattle.user_messages.proofs.Keys.{goes_on_has, next_key, key_before, key_is}
 use Rattle.user_messages.proofs.Lists.{Among-left, Among-right, Among-parts, Among-split, among, contained, any_among}
-use Rattle.user_messages.proofs.Seen.{took_cases, first_cases, waits_cases}
+use Rattle.user_messages.proofs.Repeats.{took_cases, first_cases}
 use Rattle.user_messages.proofs.Apart.{same_one, none_twice-front, parts_apart}
 use Rattle.user_messages.proofs.Chains.{in_step-back, in_step-front, last_split, no_repeat, run_found}
-use Rattle.user_messages.proofs.Stories.{joined, Story, Along, whole_story}
+use Rattle.user_messages.proofs.Stories.{joined, Along, whole_story}
 
 -- ---- chunks of one message go together
 
@@ -204,7 +204,8 @@ module _ (cs : List Received) (c : Received) (front back : List Received) (diffe
   pub comes : last_given cs c ≡ Whole (message_of (chunks_of (front ++ c ∷ back)))
   unfolding story
   comes =
-      took_cases (λ o. o.1 ≡ Whole (message_of (chunks_of (front ++ c ∷ back)))) (kept_after nothing cs) c (λ _. first) (λ _ f. absurd (there f)) (λ _ _. first)
+      took_cases (λ o. o.1 ≡ Whole (message_of (chunks_of (front ++ c ∷ back)))) (kept_after nothing cs) c (λ _. first)
+      (λ _ f. absurd (there f)) (λ _ _. first)
     where
       some_is : (x y : List Received) → Some x ≡ Some y → x ≡ y
       some_is x y e = cc

@@ -2,7 +2,7 @@
 mod Worked
 mod Keys
 mod Lists
-mod Seen
+mod Repeats
 mod Runs
 mod Apart
 mod Chains

@@ -1,16 +1,17 @@
 -- The chunks that are put together are a whole user message.
-use Rattle.std.specs.Prelude.{◌≡◌, ◌⊎◌, ℕ, ◌+◌, Bool, true, false, cond, not, List, [], ◌∷◌, ◌++◌, length, find, drop, filter, slice_get, Option, Some, None, refl, option_map, Contains}
+use Rattle.std.specs.Prelude.{◌≡◌, ◌⊎◌, ℕ, ◌+◌, true, false, cond, not, List, [], ◌∷◌, ◌++◌, length, find, drop}
+use Rattle.std.specs.Prelude.{Option, Some, None, refl, option_map, Contains}
 use Rattle.std.proofs.Common.{zero, suc, inl, inr, ⊎_elim, sym, ap, subst, ◌∙◌, append_assoc}
 use Rattle.std.proofs.lemmas.List.{append-nil}
 use Rattle.sccp_base.proofs.Among.{Among, Among-unfilter, find-Some}
-use Rattle.user_messages.specs.declared.given.Given.{Given}
-use Rattle.user_messages.specs.declared.given.Given.TheVariants.{Whole, Repeated, Waits}
+use Rattle.user_messages.specs.declared.given.Given.TheVariants.{Whole}
 use Rattle.user_messages.specs.Chunks.{goes_on}
 use Rattle.user_messages.specs.UserMessages.{IsInStep, Begins, Ends, IsUserMessage, message_of}
-use Rattle.user_messages.specs.Gathering.{Received, Gathered, chunks_of, has_key, nothing, follow, up_to, after, both_parts, run_of, first_copy, took}
+use Rattle.user_messages.specs.Gathering.{Received, Gathered, chunks_of, has_key, nothing, follow, up_to, after, both_parts, run_of}
+use Rattle.user_messages.specs.Gathering.{first_copy, took}
 use Rattle.user_messages.specs.Captures.{kept_after, last_given, IsMadeOf}
 use Rattle.user_messages.proofs.Lists.{Among-left, Among-right, Among-parts, All-from_among, contained}
-use Rattle.user_messages.proofs.Seen.{took_cases, first_cases, waits_cases, along}
+use Rattle.user_messages.proofs.Repeats.{took_cases, first_cases, waits_cases, along}
 
 -- ---- chunks in step
 
@@ -67,7 +68,8 @@ unfolding up_to
 up_to_is zero waiting c run h = absurd (cc)
 up_to_is (suc most) waiting c run h =
     elim (c.chunk.begins) as (λ b. c.chunk.begins ≡ b
-    → cond b (Some (c ∷ [])) (option_map (λ r. r ++ c ∷ []) (follow (up_to most waiting) (find (λ d. goes_on d.chunk c.chunk) waiting))) ≡ Some run
+    → cond b (Some (c ∷ [])) (option_map (λ r. r ++ c ∷ []) (follow (up_to most waiting) (find (λ d. goes_on d.chunk c.chunk) waiting)))
+    ≡ Some run
     → UpTo waiting c run) [
       | true ↦ λ e k. let same : run ≡ c ∷ [] = cc in
           record { before = []; parts = same; waited = λ d m. absurd m; begins = e; in_step = tt }
@@ -96,12 +98,14 @@ record OnFrom (waiting : List Received) (c : Received) (back : List Received) : 
   ends : Ends (chunks_of (c ∷ back))
   in_step : IsInStep (chunks_of (c ∷ back))
 
-after_is : (most : ℕ) (waiting : List Received) (c : Received) (back : List Received) → after most waiting c ≡ Some back → OnFrom waiting c back
+after_is : (most : ℕ) (waiting : List Received) (c : Received) (back : List Received) → after most waiting c ≡ Some back
+    → OnFrom waiting c back
 unfolding after
 after_is zero waiting c back h = absurd (cc)
 after_is (suc most) waiting c back h =
     elim (c.chunk.ends) as (λ b. c.chunk.ends ≡ b
-    → cond b (Some []) (follow (λ d. option_map (λ r. d ∷ r) (after most waiting d)) (find (λ d. goes_on c.chunk d.chunk) waiting)) ≡ Some back
+    → cond b (Some []) (follow (λ d. option_map (λ r. d ∷ r) (after most waiting d)) (find (λ d. goes_on c.chunk d.chunk) waiting))
+    ≡ Some back
     → OnFrom waiting c back) [
       | true ↦ λ e k. let same : [] ≡ back = cc in
           subst (OnFrom waiting c) same (record { waited = λ d m. absurd m; ends = e; in_step = tt })
@@ -184,7 +188,8 @@ waiting_along cs = along WaitingPast waiting_past cs [] nothing (λ d m. absurd 
 
 pub is_whole : (cs : List Received) (c : Received) (octets : List ℕ) → last_given cs c ≡ Whole octets → IsMadeOf cs c octets
 is_whole cs c octets =
-    took_cases (λ o. o.1 ≡ Whole octets → IsMadeOf cs c octets) (kept_after nothing cs) c (λ _. made) (λ _ _. λ e. absurd (cc)) (λ _ _. made)
+    took_cases (λ o. o.1 ≡ Whole octets → IsMadeOf cs c octets) (kept_after nothing cs) c (λ _. made) (λ _ _. λ e. absurd (cc))
+    (λ _ _. made)
   where
     single : c.chunk.begins ≡ true → c.chunk.ends ≡ true → c.chunk.payload ≡ octets → IsMadeOf cs c octets
     single b e q = record {
@@ -196,7 +201,8 @@ is_whole cs c octets =
       octets_are = sym q ∙ sym (append-nil c.chunk.payload);
     }
 
-    several : (run : List Received) → IsRun (kept_after nothing cs).waiting c run → message_of (chunks_of run) ≡ octets → IsMadeOf cs c octets
+    several : (run : List Received) → IsRun (kept_after nothing cs).waiting c run → message_of (chunks_of run) ≡ octets
+        → IsMadeOf cs c octets
     several run r q = record {
       run = run;
       arrived = All-from_among (λ d. Contains (cs ++ c ∷ []) d) run
@@ -212,4 +218,5 @@ is_whole cs c octets =
         first_cases (λ o. o.given ≡ Whole octets → IsMadeOf cs c octets) (kept_after nothing cs).waiting c
         (λ b e. λ k. let q : c.chunk.payload ≡ octets = cc in single b e q)
         (λ run e. λ k. let q : message_of (chunks_of run) ≡ octets = cc in several run (run_is (kept_after nothing cs).waiting c run e) q)
-        (λ _. waits_cases (λ o. o.given ≡ Whole octets → IsMadeOf cs c octets) (kept_after nothing cs).waiting c (λ e. absurd (cc)) (λ _. λ e. absurd (cc)))
+        (λ _. waits_cases (λ o. o.given ≡ Whole octets → IsMadeOf cs c octets) (kept_after nothing cs).waiting c (λ e. absurd (cc))
+        (λ _. λ e. absurd (cc)))

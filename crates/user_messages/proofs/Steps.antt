@@ -1,5 +1,6 @@
 -- The steps in which the code puts a message together.
-use Rattle.std.specs.Prelude.{◌≡◌, ℕ, ◌+◌, ◌-◌, ◌<◌, Bool, true, false, cond, List, [], ◌∷◌, ◌++◌, length, map, find, IfOk, Option, Some, None, Result, refl, option_map}
+use Rattle.std.specs.Prelude.{◌≡◌, ℕ, ◌+◌, ◌-◌, ◌<◌, true, false, List, [], ◌∷◌, ◌++◌, length, find, IfOk, Option, Some}
+use Rattle.std.specs.Prelude.{None, Result, refl, option_map}
 use Rattle.std.proofs.Common.{zero, suc, sym, ap, subst, ◌∙◌, arith, append_assoc}
 use Rattle.std.proofs.lemmas.Bool.{cond-true, cond-false}
 use Rattle.std.proofs.lemmas.List.{append-nil, map-append}
@@ -34,7 +35,8 @@ by_parts front back = λ i. a_run (sym (keys-append front back) i) (sym (octets-
 one_more : (front : List Received) (c : Received) → longer (put_together front) c.chunk ≡ put_together (front ++ c ∷ [])
 unfolding put_together longer
 one_more front c =
-    let keys : keys_of (chunks_of front) ++ key_of c.chunk ∷ [] ≡ keys_of (chunks_of (front ++ c ∷ [])) = sym (keys-append front (c ∷ [])) in
+    let keys : keys_of (chunks_of front) ++ key_of c.chunk ∷ [] ≡ keys_of (chunks_of (front ++ c ∷ [])) =
+    sym (keys-append front (c ∷ [])) in
     let octets : message_of (chunks_of front) ++ c.chunk.payload ≡ message_of (chunks_of (front ++ c ∷ [])) =
     ap (λ (o : List ℕ). message_of (chunks_of front) ++ o) (sym (append-nil c.chunk.payload)) ∙ sym (octets-append front (c ∷ [])) in
     λ i. a_run (keys i) (octets i)
@@ -128,7 +130,8 @@ unfolding after
 after-on zero waiting c o h b f = absurd (omega arith)
 after-on (suc most) waiting c o h b f =
     let less : suc most - 1 ≡ most = omega arith in
-    cond-false c.chunk.ends (Some []) (follow (λ d. option_map (λ r. d ∷ r) (after most waiting d)) (find (λ d. goes_on c.chunk d.chunk) waiting)) b
+    cond-false c.chunk.ends (Some []) (follow (λ d. option_map (λ r. d ∷ r) (after most waiting d))
+    (find (λ d. goes_on c.chunk d.chunk) waiting)) b
     ∙ ap (follow (λ d. option_map (λ r. d ∷ r) (after most waiting d))) f
     ∙ ap (λ n. follow (λ d. option_map (λ r. d ∷ r) (after n waiting d)) o) (sym less)
 
@@ -144,7 +147,8 @@ after-more most waiting c d run r h b f e =
     subst (λ o. IfOk r (λ more. more ≡ o))
     (by_rest (after (most - 1) waiting d) ∙ ap (option_map (longer_by run)) (sym (after-on most waiting c (Some d) h b f))) e
   where
-    by_rest : (o : Option (List Received)) → option_map (longer_by (longer run d.chunk)) o ≡ option_map (longer_by run) (option_map (λ r. d ∷ r) o)
+    by_rest : (o : Option (List Received)) → option_map (longer_by (longer run d.chunk)) o
+        ≡ option_map (longer_by run) (option_map (λ r. d ∷ r) o)
     by_rest None = refl
     by_rest (Some more) = ap Some (first_more run d more)
 

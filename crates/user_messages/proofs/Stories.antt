@@ -1,5 +1,6 @@
 -- What was given of a capture that has none twice: messages of which no two have a chunk in common, and no chunk that waits.
-use Rattle.std.specs.Prelude.{◌≡◌, ◌⊎◌, ℕ, ◌≤◌, ◌==◌, Bool, true, false, not, List, [], ◌∷◌, ◌++◌, length, map, drop, filter, flat_map, slice_get, Option, Some, None, refl}
+use Rattle.std.specs.Prelude.{◌≡◌, ◌⊎◌, ℕ, ◌≤◌, true, false, not, List, [], ◌∷◌, ◌++◌, length, map, drop, filter, flat_map}
+use Rattle.std.specs.Prelude.{slice_get, Option, Some, None, refl}
 use Rattle.std.specs.Prelude.{option_map, Contains}
 use Rattle.std.specs.List.{list_any}
 use Rattle.std.proofs.Common.{inl, inr, ⊎_elim, sym, ap, subst, ◌∙◌, arith, append_assoc}
@@ -10,23 +11,25 @@ use Rattle.sccp_base.proofs.Among.{Among, Among-filter, Among-unfilter}
 use Rattle.user_messages.specs.declared.key.Key.{Key}
 use Rattle.user_messages.specs.declared.place.Place.{Place}
 use Rattle.user_messages.specs.declared.given.Given.{Given}
-use Rattle.user_messages.specs.declared.given.Given.TheVariants.{Whole, Repeated, Waits}
+use Rattle.user_messages.specs.declared.given.Given.TheVariants.{Whole, Waits}
 use Rattle.user_messages.specs.Chunks.{key_of, same_key, same_chunk}
 use Rattle.user_messages.specs.UserMessages.{IsUserMessage, message_of}
-use Rattle.user_messages.specs.Gathering.{Received, Gathered, Outcome, chunks_of, has_key, nothing, run_of, giving, waits, first_copy, keeping, took, remembered}
-use Rattle.user_messages.specs.Captures.{kept_after, all_given, message_in, messages_of, NoneTwice, AreApart}
+use Rattle.user_messages.specs.Gathering.{Received, Gathered, chunks_of, has_key, nothing, giving, first_copy}
+use Rattle.user_messages.specs.Gathering.{keeping, took, remembered}
+use Rattle.user_messages.specs.Captures.{kept_after, all_given, message_in, NoneTwice, AreApart}
 use Rattle.user_messages.proofs.Keys.{key_is}
 use Rattle.user_messages.proofs.Lists.{Among-left, Among-right, Among-parts, any_among, among_any, All-from_among, contained}
-use Rattle.user_messages.proofs.Seen.{SeenPast, seen_past, took_cases, first_cases, waits_cases}
+use Rattle.user_messages.proofs.Repeats.{SeenPast, seen_past, took_cases, first_cases, waits_cases}
 use Rattle.user_messages.proofs.Runs.{IsRun, run_is, Among-drop}
-use Rattle.user_messages.proofs.Apart.{has_key-found, has_key-false, same_one, none_twice-front, none_twice-append, parts_apart, same_from}
+use Rattle.user_messages.proofs.Apart.{has_key-found, same_one, none_twice-front, none_twice-append, parts_apart, same_from}
 use Rattle.user_messages.proofs.Chains.{no_repeat}
 
 abbrev pub joined : List (List Received) → List Received
 joined runs = flat_map (λ run. run) runs
 
 pub joined-more : (runs : List (List Received)) (run : List Received) → joined (runs ++ run ∷ []) ≡ joined runs ++ run
-joined-more runs run = flat_map-append (λ (r : List Received). r) runs (run ∷ []) ∙ ap (λ (l : List Received). joined runs ++ l) (append-nil run)
+joined-more runs run = flat_map-append (λ (r : List Received). r) runs (run ∷ [])
+    ∙ ap (λ (l : List Received). joined runs ++ l) (append-nil run)
 
 -- what is kept and what was given, after the chunks of a list
 pub record Story (past : List Received) (g : Gathered) (runs : List (List Received)) : Type 0 where
@@ -68,7 +71,8 @@ module _ (past : List Received) (g : Gathered) (c : Received) (runs : List (List
   in_joined d run m = Among-parts d (joined runs) run (subst (λ l. Among d l) (joined-more runs run) m)
 
   -- a message becomes whole
-  whole_turn : (seen : List Key) (waiting run : List Received) (given : Given) → SeenPast (past ++ c ∷ []) (record { seen = seen; waiting = waiting })
+  whole_turn : (seen : List Key) (waiting run : List Received) (given : Given)
+      → SeenPast (past ++ c ∷ []) (record { seen = seen; waiting = waiting })
       → IsUserMessage (chunks_of run) → ((d : Received) → Among d run → Among d g.waiting ⊎ (c ≡ d)) → Among c run
       → ((d : Received) → Among d waiting → Among d g.waiting) → ((d : Received) → Among d waiting → Among d run → ⊥)
       → ((d : Received) → Among d g.waiting → Among d waiting ⊎ Among d run)
@@ -81,20 +85,24 @@ module _ (past : List Received) (g : Gathered) (c : Received) (runs : List (List
       waited = λ d m. Among-left d past (c ∷ []) (story.waited d (fewer d m));
       told = λ d m. ⊎_elim (λ a. Among-left d past (c ∷ []) (story.told d a)) (λ b. arrived d (members d b)) (in_joined d run m);
       whole = λ r m. ⊎_elim (λ a. story.whole r a)
-          (λ b. ⊎_elim (λ (e : run ≡ r). subst (λ l. IsUserMessage (chunks_of l)) e whole) (λ z. absurd z) b) (Among-parts r runs (run ∷ []) m);
+          (λ b. ⊎_elim (λ (e : run ≡ r). subst (λ l. IsUserMessage (chunks_of l)) e whole) (λ z. absurd z) b)
+          (Among-parts r runs (run ∷ []) m);
       apart = λ d m n. ⊎_elim (λ a. story.apart d (fewer d m) a) (λ b. out d m b) (in_joined d run n);
       once = subst NoneTwice (sym (joined-more runs run)) (none_twice-append (joined runs) run story.once
           (no_repeat (past ++ c ∷ []) differ run (λ d m. arrived d (members d m)) whole.in_step whole.ends)
           (λ x y m n e. ⊎_elim
-          (λ (a : Among y g.waiting). story.apart y a (subst (λ z. Among z (joined runs)) (same_one past x y (none_twice-front past (c ∷ []) differ) (story.told x m) (story.waited y a) e) m))
+          (λ (a : Among y g.waiting). story.apart y a (subst (λ z. Among z (joined runs))
+          (same_one past x y (none_twice-front past (c ∷ []) differ) (story.told x m) (story.waited y a) e) m))
           (λ (q : c ≡ y). new x (story.told x m) (e ∙ ap (λ (z : Received). key_of z.chunk) (sym q))) (members y n)));
     };
     given = says;
     held = λ _ h d m. ⊎_elim
         (λ (a : Among d past). ⊎_elim
-        (λ (w : Among d g.waiting). ⊎_elim (λ s. inl s) (λ r. inr (subst (λ l. Among d l) (sym (joined-more runs run)) (Among-right d (joined runs) run r))) (splits d w))
+        (λ (w : Among d g.waiting). ⊎_elim (λ s. inl s) (λ r. inr
+        (subst (λ l. Among d l) (sym (joined-more runs run)) (Among-right d (joined runs) run r))) (splits d w))
         (λ j. inr (subst (λ l. Among d l) (sym (joined-more runs run)) (Among-left d (joined runs) run j))) (h d a))
-        (λ b. ⊎_elim (λ (q : c ≡ d). inr (subst (λ l. Among d l) (sym (joined-more runs run)) (Among-right d (joined runs) run (subst (λ z. Among z run) q c_in))))
+        (λ b. ⊎_elim (λ (q : c ≡ d). inr (subst (λ l. Among d l) (sym (joined-more runs run))
+        (Among-right d (joined runs) run (subst (λ z. Among z run) q c_in))))
         (λ z. absurd z) b)
         (Among-parts d past (c ∷ []) m);
   }
@@ -154,13 +162,15 @@ module _ (past : List Received) (g : Gathered) (c : Received) (runs : List (List
           (λ d m n. out d (Among-unfilter (λ x. not (has_key run x)) d g.waiting m).1 n)
           (λ d m. ⊎_elim
           (λ (e : has_key run d ≡ true). let k = has_key-found run d e in
-          inr (subst (λ z. Among z run) (sym (same_one (past ++ c ∷ []) d k.0 differ (arrived d (inl m)) (arrived k.0 (r.waited k.0 k.1)) k.2)) k.1))
+          inr (subst (λ z. Among z run) (sym (same_one (past ++ c ∷ []) d k.0 differ (arrived d (inl m))
+          (arrived k.0 (r.waited k.0 k.1)) k.2)) k.1))
           (λ (e : has_key run d ≡ false). inl (Among-filter (λ x. not (has_key run x)) d g.waiting (ap not e) m))
           (cases_Bool (has_key run d)))
           refl
         where
           out : (d : Received) → not (has_key run d) ≡ true → Among d run → ⊥
-          out d e n = false≢true (sym (not-true (has_key run d) e) ∙ among_any (λ x. same_chunk d.chunk x.chunk) d run n (same_from d d refl))
+          out d e n = false≢true (sym (not-true (has_key run d) e)
+              ∙ among_any (λ x. same_chunk d.chunk x.chunk) d run n (same_from d d refl))
 
   pub turn : Turn past g c runs (took g c)
   turn =
@@ -197,13 +207,15 @@ story_along [] past g runs story differ = record {
 story_along (c ∷ cs) past g runs story differ =
     let apart : NoneTwice ((past ++ c ∷ []) ++ cs) = subst NoneTwice (sym (append_assoc past (c ∷ []) cs)) differ in
     let t : Turn past g c runs (took g c) = turn past g c runs story (none_twice-front (past ++ c ∷ []) cs apart) in
-    let a : Along (past ++ c ∷ []) (took g c).0 cs (runs ++ t.more) = story_along cs (past ++ c ∷ []) (took g c).0 (runs ++ t.more) t.story apart in
+    let a : Along (past ++ c ∷ []) (took g c).0 cs (runs ++ t.more) = story_along cs (past ++ c ∷ []) (took g c).0
+    (runs ++ t.more) t.story apart in
     record {
       more = t.more ++ a.more;
       story = subst (λ l. Story l (kept_after (took g c).0 cs) (runs ++ (t.more ++ a.more))) (append_assoc past (c ∷ []) cs)
           (subst (λ l. Story ((past ++ c ∷ []) ++ cs) (kept_after (took g c).0 cs) l) (append_assoc runs t.more a.more) a.story);
       given = ap (λ (l : List (List ℕ)). l ++ flat_map message_in (all_given (took g c).0 cs)) t.given
-          ∙ ap (λ (l : List (List ℕ)). data_of t.more ++ l) a.given ∙ sym (map-append (λ (run : List Received). message_of (chunks_of run)) t.more a.more);
+          ∙ ap (λ (l : List (List ℕ)). data_of t.more ++ l) a.given
+          ∙ sym (map-append (λ (run : List Received). message_of (chunks_of run)) t.more a.more);
       held = λ kept h. subst (λ l. Held l (kept_after (took g c).0 cs) (runs ++ (t.more ++ a.more))) (append_assoc past (c ∷ []) cs)
           (subst (λ l. Held ((past ++ c ∷ []) ++ cs) (kept_after (took g c).0 cs) l) (append_assoc runs t.more a.more)
           (a.held (λ place m. kept place (inr m)) (t.held (λ place e. kept place (inl e)) h)));

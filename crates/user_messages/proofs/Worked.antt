@@ -1,5 +1,5 @@
 -- Worked captures, computed on the definitions.
-use Rattle.std.specs.Prelude.{◌≡◌, ℕ, Bool, true, false, List, [], ◌∷◌, Some, None, refl}
+use Rattle.std.specs.Prelude.{◌≡◌, ℕ, Bool, true, false, List, [], ◌∷◌, None, refl}
 use Rattle.user_messages.specs.declared.given.Given.TheVariants.{Whole, Repeated, Waits}
 use Rattle.user_messages.specs.Chunks.{goes_on}
 use Rattle.user_messages.specs.Gathering.{Received, nothing, took, first_copy, run_of, up_to, after}

@@ -1,5 +1,5 @@
 -- What the chunks of a whole capture give, said without what is kept of them.
-use Rattle.std.specs.Prelude.{◌≡◌, ◌≢◌, ℕ, ◌<◌, ◌^◌, Bool, true, false, List, [], ◌∷◌, ◌++◌, All, Contains, Some, map, flat_map}
+use Rattle.std.specs.Prelude.{◌≡◌, ℕ, ◌<◌, ◌^◌, false, List, [], ◌∷◌, ◌++◌, All, Contains, Some, map, flat_map}
 use Rattle.user_messages.specs.declared.given.Given.{Given}
 use Rattle.user_messages.specs.declared.given.Given.TheVariants.{Whole, Repeated, Waits}
 use Rattle.user_messages.specs.declared.place.Place.{Place}

@@ -24,7 +24,8 @@ same_flag false b = not b
 
 -- the same kind of user data: stream, payload protocol, and order; ordered chunks have their stream sequence number in common
 abbrev pub same_stream : DataChunk → DataChunk → Bool
-same_stream a b = a.stream == b.stream && (a.protocol == b.protocol && (same_flag a.unordered b.unordered && (a.unordered || a.sequence == b.sequence)))
+same_stream a b = a.stream == b.stream && (a.protocol == b.protocol
+    && (same_flag a.unordered b.unordered && (a.unordered || a.sequence == b.sequence)))
 
 -- the second goes on with the user message of the first
 unfoldable pub goes_on : DataChunk → DataChunk → Bool

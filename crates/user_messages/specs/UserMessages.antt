@@ -1,5 +1,5 @@
 -- Which lists of DATA chunks are a whole user message (RFC 9260, section 6.9).
-use Rattle.std.specs.Prelude.{◌≡◌, ℕ, Bool, true, List, [], ◌∷◌}
+use Rattle.std.specs.Prelude.{◌≡◌, ℕ, true, List, [], ◌∷◌}
 use Rattle.std.specs.List.{flat_map}
 use Rattle.packet_layers.specs.Values.{DataChunk}
 use Rattle.user_messages.specs.Chunks.{goes_on}

@@ -30,15 +30,15 @@ impl Model for Fragment {
     ghost Value = { Received };
 
     ghost view = { λ f. received f.place (record {
-        flow = f.flow;
-        tsn = f.tsn;
-        stream = f.stream;
-        sequence = f.sequence;
-        protocol = f.protocol;
-        unordered = f.unordered;
-        begins = f.begins;
-        ends = f.ends;
-        payload = f.payload;
+      flow = f.flow;
+      tsn = f.tsn;
+      stream = f.stream;
+      sequence = f.sequence;
+      protocol = f.protocol;
+      unordered = f.unordered;
+      begins = f.begins;
+      ends = f.ends;
+      payload = f.payload;
     }) };
 }
 

@@ -13,5 +13,8 @@ mod run;
 pub use fragment::Fragment;
 pub use given::Given;
 pub use key::Key;
-pub use laws::{messages_are_whole, no_chunk_is_given_twice, repeats_are_found, repeats_arrived_before, whole_messages_are_given};
+pub use laws::{
+    messages_are_whole, no_chunk_is_given_twice, repeats_are_found, repeats_arrived_before,
+    whole_messages_are_given,
+};
 pub use place::Place;

@@ -1,4 +1,4 @@
-use Rattle.std.proofs.Common.{◌≡◌, ◌-◌, Some, None, IfOk, option_map, ap, sym, subst, ◌∙◌, arith}
+use Rattle.std.proofs.Common.{◌≡◌, ◌-◌, IfOk, option_map, ap, sym, subst, ◌∙◌, arith}
 use Rattle.packet_layers.specs.Values.{data_as, DataChunk}
 use Rattle.user_messages.specs.declared.run.Run.{Run}
 use Rattle.user_messages.specs.Gathering.{received, after}
@@ -25,6 +25,9 @@ returns t c = λ place.
     c.in_ok-run.ensures ∙ ap (longer c.args.run) c.chunk.ensures in
     after-more c.args.most c.args.waiting.now (received place (data_as c.args.chunk.now)) c.in-Some.fragment.now c.args.run c.after.result
     (omega arith) c.if-chunk.false (sym c.in-Some.ensures)
-    (subst (λ (r : Run). IfOk c.after.result (λ more. more ≡ option_map (longer_by r) (after (c.args.most - 1) c.args.waiting.now c.in-Some.fragment.now))) run
-    (subst (λ (d : DataChunk). IfOk c.after.result (λ more. more ≡ option_map (longer_by c.in_ok-run.run') (after (c.args.most - 1) c.args.waiting.now (received c.in-Some.fragment.now.place d)))) c.chunk-2.ensures
+    (subst (λ (r : Run). IfOk c.after.result (λ more. more
+    ≡ option_map (longer_by r) (after (c.args.most - 1) c.args.waiting.now c.in-Some.fragment.now))) run
+    (subst (λ (d : DataChunk). IfOk c.after.result (λ more. more
+    ≡ option_map (longer_by c.in_ok-run.run') (after (c.args.most - 1) c.args.waiting.now
+    (received c.in-Some.fragment.now.place d)))) c.chunk-2.ensures
     (c.after.ensures c.in-Some.fragment.now.place)))

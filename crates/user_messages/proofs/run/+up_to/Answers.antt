@@ -1,4 +1,4 @@
-use Rattle.std.proofs.Common.{◌≡◌, ◌-◌, Some, None, option_map, ap, sym, ◌∙◌, arith}
+use Rattle.std.proofs.Common.{◌-◌, Some, option_map, ap, sym, ◌∙◌, arith}
 use Rattle.packet_layers.specs.Values.{data_as, DataChunk}
 use Rattle.user_messages.specs.Gathering.{received, up_to}
 use Rattle.user_messages.specs.Runs.{longer, put_together}
@@ -23,7 +23,8 @@ returns-in_default-2 t c = λ place.
     up_to-far c.args.most c.args.waiting.now (received place (data_as c.args.chunk.now)) c.in-Some.fragment.now (omega arith)
     c.if-chunk.false (sym c.in-Some.ensures)
     (sym c.in_default-2.is ∙ c.in_ok-run.ensures c.in-Some.fragment.now.place
-    ∙ ap (λ (d : DataChunk). option_map put_together (up_to (c.args.most - 1) c.args.waiting.now (received c.in-Some.fragment.now.place d))) c.chunk.ensures)
+    ∙ ap (λ (d : DataChunk). option_map put_together (up_to (c.args.most - 1) c.args.waiting.now
+    (received c.in-Some.fragment.now.place d))) c.chunk.ensures)
 
 pub returns : goal.returns
 returns t c = λ place.
@@ -31,4 +32,5 @@ returns t c = λ place.
     ∙ up_to-more c.args.most c.args.waiting.now (received place (data_as c.args.chunk.now)) c.in-Some.fragment.now c.in-Some-2.run'
     (omega arith) c.if-chunk.false (sym c.in-Some.ensures)
     (sym c.in-Some-2.is ∙ c.in_ok-run.ensures c.in-Some.fragment.now.place
-    ∙ ap (λ (d : DataChunk). option_map put_together (up_to (c.args.most - 1) c.args.waiting.now (received c.in-Some.fragment.now.place d))) c.chunk.ensures)
+    ∙ ap (λ (d : DataChunk). option_map put_together (up_to (c.args.most - 1) c.args.waiting.now
+    (received c.in-Some.fragment.now.place d))) c.chunk.ensures)

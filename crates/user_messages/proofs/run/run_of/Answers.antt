@@ -1,4 +1,4 @@
-use Rattle.std.proofs.Common.{◌≡◌, ◌+◌, IfOk, length, option_map, sym, ◌∙◌, arith}
+use Rattle.std.proofs.Common.{sym, ◌∙◌}
 use Rattle.packet_layers.specs.Values.{data_as}
 use Rattle.user_messages.specs.Gathering.{received}
 use Rattle.user_messages.proofs.Steps.{run_of-none, run_of-more}

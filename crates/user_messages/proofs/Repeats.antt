@@ -1,8 +1,9 @@
 -- Which chunks repeat others, over the chunks of a capture.
-use Rattle.std.specs.Prelude.{◌≡◌, ◌≢◌, ◌⊎◌, ℕ, ◌+◌, ◌<◌, ◌≤◌, ◌==◌, ◌&&◌, Bool, true, false, cond, not, List, [], ◌∷◌, ◌++◌, length, take, drop, filter, nat_lt}
+use Rattle.std.specs.Prelude.{◌≡◌, ◌≢◌, ℕ, ◌+◌, ◌<◌, ◌≤◌, ◌==◌, ◌&&◌, true, false, cond, not, List, [], ◌∷◌, ◌++◌, length, take}
+use Rattle.std.specs.Prelude.{drop, filter, nat_lt}
 use Rattle.std.specs.Prelude.{Option, Some, None, refl, slice_get, option_map}
 use Rattle.std.specs.List.{list_any}
-use Rattle.std.proofs.Common.{zero, suc, inl, inr, ⊎_elim, sym, ap, subst, ◌∙◌, arith, append_assoc}
+use Rattle.std.proofs.Common.{suc, inl, inr, ⊎_elim, sym, ap, subst, ◌∙◌, arith, append_assoc}
 use Rattle.std.proofs.lemmas.Bool.{false≢true, cond_both, cases_Bool, ne_eqb, and_parts, ltb-false}
 use Rattle.std.proofs.lemmas.List.{append-nil}
 use Rattle.sccp_base.proofs.Among.{Among, Among-unfilter}
@@ -11,11 +12,13 @@ use Rattle.user_messages.specs.declared.given.Given.{Given}
 use Rattle.user_messages.specs.declared.given.Given.TheVariants.{Whole, Repeated, Waits}
 use Rattle.user_messages.specs.Chunks.{key_of, same_key, same_chunk}
 use Rattle.user_messages.specs.UserMessages.{message_of}
-use Rattle.user_messages.specs.Gathering.{Received, Gathered, Outcome, chunks_of, has_key, nothing, remembered, run_of, giving, waits, joins, first_copy}
+use Rattle.user_messages.specs.Gathering.{Received, Gathered, Outcome, chunks_of, has_key, nothing, remembered, run_of, giving, waits}
+use Rattle.user_messages.specs.Gathering.{joins, first_copy}
 use Rattle.user_messages.specs.Gathering.{keeping, took}
 use Rattle.user_messages.specs.Captures.{kept_after, last_given}
 use Rattle.user_messages.proofs.Keys.{key_is, key_itself}
-use Rattle.user_messages.proofs.Lists.{Among-left, Among-right, any_among, among_any, Among-take, Among-take_more, Among-take_take, Among-take_filter}
+use Rattle.user_messages.proofs.Lists.{Among-left, Among-right, any_among, among_any, Among-take, Among-take_more, Among-take_take}
+use Rattle.user_messages.proofs.Lists.{Among-take_filter}
 
 -- ---- the cases of a chunk
 
@@ -87,7 +90,8 @@ SeenPast past g = (k : Key) → Among k g.seen → (d : Received) × Among d pas
 
 pub seen_past : (past : List Received) (g : Gathered) (c : Received) → SeenPast past g → SeenPast (past ++ c ∷ []) (took g c).0
 seen_past past g c h =
-    took_cases (λ o. SeenPast (past ++ c ∷ []) o.0) g c (λ _. λ k m. earlier k m) (λ _ _. λ k m. either_one k m) (λ _ _. λ k m. either_one k m)
+    took_cases (λ o. SeenPast (past ++ c ∷ []) o.0) g c (λ _. λ k m. earlier k m) (λ _ _. λ k m. either_one k m)
+    (λ _ _. λ k m. either_one k m)
   where
     Arrived : Key → Type 0
     Arrived k = (d : Received) × Among d (past ++ c ∷ []) × (key_of d.chunk ≡ k)
@@ -166,4 +170,5 @@ comes_again before d between c few tagged same =
     repeats (kept_after nothing (before ++ d ∷ between)) c c_tagged
     (subst (λ g. Among (key_of c.chunk) g.seen) (sym (kept-append nothing before (d ∷ between)))
     (subst (λ k. Among k (kept_after (took (kept_after nothing before) d).0 between).seen) (sym key)
-    (stays (key_of d.chunk) between 1 (took (kept_after nothing before) d).0 (omega arith) (begins_near (kept_after nothing before) d d_tagged))))
+    (stays (key_of d.chunk) between 1 (took (kept_after nothing before) d).0 (omega arith)
+    (begins_near (kept_after nothing before) d d_tagged))))
