@@ -1,4 +1,4 @@
-use Rattle.std.proofs.Common.{[], Err, refl}
+use Rattle.std.proofs.Common.{[], Err, refl, ◌∙◌}
 use Rattle.std.proofs.lemmas.Result.{err_from_is_err_and}
 use Rattle.plan_check.specs.Verified.{Verified}
 use Rattle.plan_model.specs.Network.{Network}
@@ -25,9 +25,8 @@ returns g c =
     let a : Moment = moment g.F.Files.contents g.F.Files.sound g.F.Files.faults g.K.Sink.taken g.K.Sink.faults c.with_plan.new.files
     c.connect_accepted.new.out in
     let next : Network → Verified → Work = λ plan accepted. answered (Done, connect_text plan c.args.calling.now) in
-    let accepted = c.in_ok-accepted.accepted in
     let told = c.connect_accepted.ensures in
     c.in_ok-plan.ensures.plan (connect_judged c.args.calling.now) c.connect_accepted.result a
     (c.in_ok-accepted.ensures.goes_on m.contents m.sound m.read_faults (next c.in_ok-plan.plan) c.connect_accepted.result a
-    (Works-connected c.in_ok-plan.plan c.args.calling.now accepted c.connect_accepted.result m a c.in_ok-accepted.ensures.same
-    told.text told.answer refl refl refl))
+    (Works-connected c.in_ok-plan.plan c.into_plan.result c.args.calling.now c.connect_accepted.result m a
+    (c.into_plan.ensures ∙ c.in_ok-accepted.ensures.same) told.text told.answer refl refl refl))
