@@ -209,9 +209,9 @@ verdict_of word plan next on s text goes (is_refused same w lawful is spelt) = s
 verdict_of word plan next on s text goes (is_wide same lawful is spelt) = subst (VerdictEnds plan on) (sym is) (wide lawful)
 verdict_of word plan next on s text goes (is_accepted a rest lawful spelt more) = accepted (a.bound, lawful.0) (goes rest more)
 
-mixture_of : (old new : Network) (s : Status) (text : List ℕ) → TellsMixture old new s text → MixtureEnds old new s
-mixture_of old new s text (is_other differ is spelt) = subst (MixtureEnds old new) (sym is) (other differ)
-mixture_of old new s text (is_told same change lawful is spelt) = told same change lawful is
+mixture_answer : (old new : Network) (s : Status) (text : List ℕ) → TellsMixture old new s text → MixtureEnds old new s
+mixture_answer old new s text (is_other differ is spelt) = subst (MixtureEnds old new) (sym is) (other differ)
+mixture_answer old new s text (is_told same change lawful is spelt) = told same change lawful is
 
 file_of : (contents : Option Contents) (name word : List ℕ) (next : Network → Status → List ℕ → Type 0) (on : Network → Status
     → Type 0) (text : List ℕ) (s : Status) → ((plan : Network) (rest : List ℕ) → next plan s rest → on plan s)
@@ -232,7 +232,7 @@ change_ends : (contents : Option Contents) (old new : List ℕ) (s : Status) (te
     → ChangeEnds contents old new s
 change_ends contents old new s text h =
     file_of contents old old_word (NewTells contents new) (Ahead contents new) text s
-    (λ p rest more. file_of contents new new_word (λ q. TellsMixture p q) (MixtureEnds p) rest s (λ q last k. mixture_of p q s last k) more)
+    (λ p rest more. file_of contents new new_word (λ q. TellsMixture p q) (MixtureEnds p) rest s (λ q last k. mixture_answer p q s last k) more)
     (change_told contents old new s text h)
 
 -- ---- what each answer says of the plans

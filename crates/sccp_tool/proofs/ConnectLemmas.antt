@@ -1,7 +1,6 @@
 -- What making a connection ends with, and what it prints.
 use Rattle.std.proofs.Common.{◌≡◌, ◌⊎◌, ℕ, List, [], Option, Some, Result, IfOk, sym, subst}
 use Rattle.std.specs.Io.KnownBytes.{append_known}
-use Rattle.plan_check.specs.Verified.{Verified}
 use Rattle.plan_model.specs.Network.{Network}
 use Rattle.sccp_io.specs.Files.{Contents}
 use Rattle.sccp_tool.specs.Connect.{connect_judged, connect_text, connect_work}
@@ -27,13 +26,13 @@ use Rattle.sccp_work.proofs.VerdictLemmas.{done_if_safe, refused_if_bad}
 use Rattle.sccp_work.proofs.WorkLemmas.{Works-answered}
 
 -- the outcome over an accepted plan is printed, and that is all
-pub Works-connected : (plan : Network) (calling : Calling) (accepted : Verified) (result : Result Status Stop) (b a : Moment)
-    → accepted.plan ≡ plan → Writes (connect_text accepted.plan calling) result b.taken a.taken b.write_faults a.write_faults
+pub Works-connected : (plan same : Network) (calling : Calling) (result : Result Status Stop) (b a : Moment) → same ≡ plan
+    → Writes (connect_text same calling) result b.taken a.taken b.write_faults a.write_faults
     → IfOk result (λ s. s ≡ Done) → a.contents ≡ b.contents → a.sound ≡ b.sound → a.read_faults ≡ b.read_faults
     → Works (answered (Done, connect_text plan calling)) result b a
-Works-connected plan calling accepted result b a same writes is contents sound read_faults =
+Works-connected plan same calling result b a is writes answer contents sound read_faults =
     Works-answered (Done, connect_text plan calling) result b a (λ cut. cut)
-    (subst (λ p. Writes (connect_text p calling) result b.taken a.taken b.write_faults a.write_faults) same writes) is contents sound
+    (subst (λ p. Writes (connect_text p calling) result b.taken a.taken b.write_faults a.write_faults) is writes) answer contents sound
     read_faults
 
 -- a lawful verdict gives the answer, and the text of a plan that is not accepted
