@@ -55,4 +55,5 @@ pub use report::message_text;
 pub use role::{Due, Role, role_of};
 pub use served::{put_served, served_text};
 pub use text::Text;
+pub use values::put_point_code;
 pub use verdict::{accepted_text, verdict_text};
