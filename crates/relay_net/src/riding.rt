@@ -191,7 +191,8 @@ pub(crate) fn travel<S: HoldsMarking>(
     requires node { leg.node < length plan.now.nodes }
     requires states { length states.now ≡ length plan.now.nodes }
     requires again { ReadsAgain message }
-    ensures last { IfOk result (λ last. last ≡ (travel plan.now (map S.held states.now) leg.left leg.node leg.origin (message_octets message)).last) }
+    ensures last { IfOk result (λ last. last ≡ (travel plan.now (map S.held states.now) leg.left leg.node leg.origin
+        (message_octets message)).last) }
     ensures path { IfOk result (λ last. path.new ≡ path.old
         ++ (travel plan.now (map S.held states.now) leg.left leg.node leg.origin (message_octets message)).path) }
 {
