@@ -84,8 +84,10 @@ module _ (allowed : ℕ → ℕ → Type 0) (number i d : ℕ) (rest : List ℕ)
     (nine : length rest ≡ 9) (may : allowed (end_point d) 6) where
   arrives : (place : ℕ) → Goes allowed i d rest (taken (load_plan number) (relay number i) (at i d rest) m
       (rule selector None (d ∷ []) []) (Some (place, destination d)))
-  arrives place = inr (subst (λ b. MayEnd allowed (if b && true then NoRow 4 else Ended (end_point d) 6 place)) (sym apart) may,
-      ap (λ b. next_of (if b && true then NoRow 4 else Ended (end_point d) 6 place)) apart)
+  arrives place = inr (
+    subst (λ b. MayEnd allowed (if b && true then NoRow 4 else Ended (end_point d) 6 place)) (sym apart) may,
+    ap (λ b. next_of (if b && true then NoRow 4 else Ended (end_point d) 6 place)) apart,
+  )
     where
       apart : (end_point d == relay_point i) ≡ false
       apart = ne_eqb (end_point d) (relay_point i) (λ e. omega (arith, e))
@@ -93,9 +95,13 @@ module _ (allowed : ℕ → ℕ → Type 0) (number i d : ℕ) (rest : List ℕ)
   passes : i < 7 → Goes allowed i d rest (taken (load_plan number) (relay number i) (at i d rest) m
       (rule selector None (d ∷ []) []) (Some (0, onward (next_relay number i d))))
   unfolding load_plan
-  passes lt = inl (next_relay number i d, (later number i d lt).0, (later number i d lt).1,
-      ap (λ k. passed (record { node = k; selector = selector; ssn = 6; digits = d ∷ rest }) 0) (place_of number (next_relay number i d) (later number i d lt).1)
-      ∙ ap (λ n. if nat_lt 32 (suc n) then Overgrown else Sent (at (next_relay number i d) d rest) 0) nine)
+  passes lt = inl (
+    next_relay number i d,
+    (later number i d lt).0,
+    (later number i d lt).1,
+    ap (λ k. passed (record { node = k; selector = selector; ssn = 6; digits = d ∷ rest }) 0) (place_of number (next_relay number i d) (later number i d lt).1)
+        ∙ ap (λ n. if nat_lt 32 (suc n) then Overgrown else Sent (at (next_relay number i d) d rest) 0) nine,
+  )
 
   goes_if : (hands : Bool) → nat_lt i 7 ≡ hands → Goes allowed i d rest (taken_if hands number i d rest m)
   goes_if true e = by (is_none (closing (relay number i) 6 m (onward (next_relay number i d)))) (is_none (closing (relay number i) 6 m (destination d))) where
