@@ -1,5 +1,5 @@
 -- What a reader takes next.
-use Rattle.std.specs.Prelude.{ℕ, ◌+◌, ◌-◌, ◌==◌, min, if◌then◌else◌, List, [], length}
+use Rattle.std.specs.Prelude.{ℕ, ◌-◌, ◌==◌, min, if◌then◌else◌, List, [], length}
 use Rattle.capture_file.specs.Units.{At, FileStart, Record, Block, Rest, Step, Takes, unit}
 use Rattle.capture_file.specs.declared.section.Section.{Section}
 

@@ -9,7 +9,6 @@ use Rattle.capture_file.specs.declared.step.Content.{Content}
 use Rattle.capture_file.specs.declared.step.Content.TheVariants.{NoPacket, Whole, Missing}
 use Rattle.capture_file.specs.declared.step.Change.{Change}
 use Rattle.capture_file.specs.declared.step.Change.TheVariants.{Stays, NewSection, NewInterface}
-use Rattle.capture_file.specs.declared.step.UnitRead.{UnitRead}
 use Rattle.capture_file.specs.declared.step.Reading.{Reading}
 use Rattle.capture_file.specs.declared.step.Reading.TheVariants.{Read, Unfinished, Refused}
 use Rattle.capture_file.specs.declared.held.Held.{Held}
