@@ -190,7 +190,7 @@ fits plan node M origin b = fits_read plan node M origin (reading b)
 abbrev Says : Network → ℕ → List Mark → Condition → Arrival → Way → Type 0
 Says plan node M c a w = meets M w.condition ≡ true → (meets M c ≡ true) × (free_of plan node M a ≡ Some w.sending)
 
-forwarded_cleared : (a : Arrival) → forwarded (cleared a) ≡ forwarded a
+pub forwarded_cleared : (a : Arrival) → forwarded (cleared a) ≡ forwarded a
 forwarded_cleared (Relayed pc octets) = refl
 forwarded_cleared (Ended pc ssn octets) = refl
 forwarded_cleared (Local ssn m) = refl

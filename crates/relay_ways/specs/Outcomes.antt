@@ -75,6 +75,10 @@ outcomes_of plan node origin (Ok m) = by_address plan node origin m (called_of m
 abbrev pub outcomes : Network → ℕ → ℕ → List ℕ → List Outcome
 outcomes plan node origin b = outcomes_of plan node origin (reading b)
 
+-- the conditions of outcomes
+abbrev pub outcome_conditions : List Outcome → List Condition
+outcome_conditions os = map (λ o. o.condition) os
+
 -- a way that is shut, as if it were not
 abbrev pub cleared_way : Way → Way
 cleared_way (Direct pc) = Direct pc
