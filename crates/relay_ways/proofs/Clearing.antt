@@ -1,5 +1,5 @@
 -- An arrival depends on the marking only by its step, its marks, and whether its way back is shut.
-use Rattle.std.proofs.Common.{◌≡◌, ℕ, Bool, true, false, cond, List, [], ◌∷◌, Option, Some, None, refl, ◌∙◌, ap, not, ◌&&◌, ◌||◌}
+use Rattle.std.proofs.Common.{◌≡◌, ℕ, Bool, true, false, cond, List, [], Option, Some, None, refl, ap, not, ◌&&◌}
 use Rattle.std.specs.Prelude.{◌==◌, is_some, option_map, if◌then◌else◌, unwrap_or}
 use Rattle.std.specs.Option.{option_map_or, option_and_then}
 use Rattle.sccp_base.specs.Marks.{holds}
@@ -12,7 +12,7 @@ use Rattle.plan_model.specs.declared.hop.Step.{Step}
 use Rattle.plan_model.specs.declared.hop.Step.TheVariants as steps
 use Rattle.plan_model.specs.Network.{Network}
 use Rattle.sccp_scrc.specs.Arriving.{after_step, leaving, point_of}
-use Rattle.sccp_scrc.specs.Returning.{way_to, way_back, asks_for_return, service_message, service_by, service_for, returned}
+use Rattle.sccp_scrc.specs.Returning.{way_to, way_back, asks_for_return, service_message, service_by, returned}
 use Rattle.sccp_scrc.specs.Rewriting.{rewritten, spot_of}
 use Rattle.sccp_scrc.specs.Unitdata.{octets_of}
 use Rattle.sccp_scrc.specs.declared.arrival.Arrival.{Arrival}

@@ -1,5 +1,5 @@
 -- Of the ways of octets, those that send a message like a given one have the conditions under which the node does.
-use Rattle.std.proofs.Common.{◌≡◌, ℕ, ◌+◌, ◌<◌, zero, suc, Bool, true, false, List, [], ◌∷◌, ◌++◌, length, take, map, Option, Some, None, refl, sym, ◌∙◌, ap, subst, get_or, ◌⊎◌, inl, inr, ⊎_elim, ◌↔◌, add-one, ◌||◌, arith}
+use Rattle.std.proofs.Common.{◌≡◌, ℕ, ◌+◌, ◌<◌, zero, suc, Bool, true, false, List, [], ◌∷◌, ◌++◌, length, take, map, Option, Some, None, refl, sym, ◌∙◌, ap, subst, get_or, ◌⊎◌, inl, inr, ⊎_elim, ◌↔◌, ◌||◌, arith}
 use Rattle.std.specs.Prelude.{◌≤◌, IsTrue, IsSome, IsSomeAnd, Result, Ok, Err}
 use Rattle.std.specs.List.{All, AllByRecursion, list_any}
 use Rattle.std.proofs.Math.Seq.{take-suc}
@@ -15,7 +15,6 @@ use Rattle.relay_ways.specs.Conditions.{meets, IsPossible}
 use Rattle.relay_ways.specs.Explained.{IsSendingOf, SendsLike, AreConditions, Keeps}
 use Rattle.relay_ways.specs.Sends.{sends}
 use Rattle.relay_ways.specs.Ways.{AreWays}
-use Rattle.relay_ways.specs.declared.condition.Condition.{Condition}
 use Rattle.relay_ways.specs.declared.way.Sending.{Sending}
 use Rattle.relay_ways.specs.declared.way.Way.{Way}
 use Rattle.relay_ways.proofs.Adding.{one_more}

@@ -1,12 +1,12 @@
 -- The outcomes of octets are what becomes of them over all markings.
-use Rattle.std.proofs.Common.{◌≡◌, ℕ, ◌<◌, Bool, true, false, cond, List, [], ◌∷◌, length, map, Option, Some, None, refl, sym, ◌∙◌, ap, subst, not, ◌&&◌, ◌||◌, ⊎_elim, arith}
+use Rattle.std.proofs.Common.{◌≡◌, ℕ, ◌<◌, Bool, true, false, List, [], ◌∷◌, length, map, Option, Some, None, refl, sym, ◌∙◌, ap, subst, not, ◌&&◌, ◌||◌, ⊎_elim, arith}
 use Rattle.std.specs.Prelude.{◌==◌, ◌≤◌, slice_get, get_or, unwrap_or, if◌then◌else◌, Result, Ok, Err, IsSomeAnd}
 use Rattle.std.specs.List.{AllByRecursion, list_any}
 use Rattle.std.proofs.lemmas.Option.{slice_get_cases}
 use Rattle.sccp_base.specs.Marks.{holds}
 use Rattle.sccp_base.specs.declared.mark.Mark.{Mark}
 use Rattle.sccp_base.specs.declared.mark.Mark.TheVariants.{Subsystem}
-use Rattle.sccp_base.proofs.Among.{Among, All-among, Among-slice_get}
+use Rattle.sccp_base.proofs.Among.{All-among, Among-slice_get}
 use Rattle.sccp_address.specs.declared.address.Address.{Address}
 use Rattle.sccp_address.specs.declared.address.Title.{Title}
 use Rattle.sccp_address.specs.declared.address.Title.TheVariants.{Absent, Global, Raw}
@@ -22,14 +22,14 @@ use Rattle.plan_model.specs.declared.hop.Step.{Step}
 use Rattle.plan_model.specs.Network.{Network, IsPlan}
 use Rattle.plan_model.specs.Steps.{row_for, step}
 use Rattle.plan_model.proofs.Leading.{counting_row}
-use Rattle.sccp_scrc.specs.Arriving.{arrival, after_step, at_subsystem, at_title, translated, by_called, of_message, is_last_hop, point_of, subsystems_of}
+use Rattle.sccp_scrc.specs.Arriving.{after_step, at_subsystem, at_title, translated, by_called, of_message, is_last_hop, point_of, subsystems_of}
 use Rattle.sccp_scrc.specs.Returning.{returned}
 use Rattle.sccp_scrc.specs.Rewriting.{spot_of, title_spot}
 use Rattle.sccp_scrc.specs.declared.arrival.Arrival.{Arrival}
 use Rattle.sccp_scrc.specs.declared.arrival.Arrival.TheVariants.{Local, Management}
-use Rattle.relay_ways.specs.Conditions.{condition, always, meets}
+use Rattle.relay_ways.specs.Conditions.{always, meets}
 use Rattle.relay_ways.specs.Outcomes.{Outcome, outcome, after_turn, titled, is_user, at_user, on_subsystem, by_address, outcomes_of, outcomes, cleared, Becomes}
-use Rattle.relay_ways.specs.Turns.{Turn, turns_of, without_marks, Makes, HasTarget, HasRow}
+use Rattle.relay_ways.specs.Turns.{Turn, turns_of, Makes, HasTarget, HasRow}
 use Rattle.relay_ways.proofs.Clearing.{cleared_returned, cleared_step}
 use Rattle.relay_ways.proofs.Stepping.{each_of, one_of}
 

@@ -1,6 +1,6 @@
 -- A condition that a marking meets is possible; two conditions together; the marks that a marking holds.
-use Rattle.std.proofs.Common.{◌≡◌, Bool, true, false, cond, List, [], ◌∷◌, ◌++◌, Option, Some, None, refl, sym, ◌∙◌, ap, not, ◌&&◌, ◌||◌}
-use Rattle.std.specs.List.{AllByRecursion, All, filter, find, list_all, list_any}
+use Rattle.std.proofs.Common.{◌≡◌, Bool, true, false, cond, List, [], ◌∷◌, ◌++◌, Some, None, refl, ◌∙◌, ap, not, ◌&&◌, ◌||◌}
+use Rattle.std.specs.List.{find, list_all, list_any}
 use Rattle.std.proofs.lemmas.Bool.{and_parts}
 use Rattle.std.proofs.lemmas.List.Folds.{list_any-append, list_all-append}
 use Rattle.sccp_base.specs.Marks.{holds, same_mark}
@@ -8,7 +8,7 @@ use Rattle.sccp_base.specs.declared.mark.Mark.{Mark}
 use Rattle.sccp_base.specs.MarkOrder.{same_mark_equiv}
 use Rattle.sccp_base.proofs.Among.{Among, find-Some, list_any-none}
 use Rattle.sccp_base.proofs.MarkPlaces.{same_mark_is}
-use Rattle.relay_ways.specs.Conditions.{condition, held, meets, is_possible, both, HoldsOneOf}
+use Rattle.relay_ways.specs.Conditions.{held, meets, is_possible, both, HoldsOneOf}
 use Rattle.relay_ways.specs.declared.condition.Condition.{Condition}
 
 pub not_true : (b : Bool) → not b ≡ true → b ≡ false

@@ -1,7 +1,7 @@
 -- The ways of octets are what the node sends because of them over all markings.
 use Rattle.std.proofs.Common.{◌≡◌, ℕ, ◌<◌, Bool, true, false, cond, List, [], ◌∷◌, ◌++◌, length, Option, Some, None, refl, sym, ◌∙◌, ap, subst, not, ◌&&◌, ◌||◌}
 use Rattle.std.specs.Prelude.{◌==◌, is_some, option_map, if◌then◌else◌, unwrap_or, Result, Ok, Err, IsSome}
-use Rattle.std.specs.List.{AllByRecursion, All, filter, flat_map, list_all, list_any}
+use Rattle.std.specs.List.{AllByRecursion, filter, flat_map, list_any}
 use Rattle.std.specs.Option.{option_map_or, option_and_then}
 use Rattle.std.proofs.lemmas.Bool.{and_parts}
 use Rattle.std.proofs.lemmas.List.Elements.{All-from_recursion}
@@ -20,8 +20,8 @@ use Rattle.plan_model.specs.declared.hop.Step.{Step}
 use Rattle.plan_model.specs.declared.hop.Step.TheVariants as steps
 use Rattle.plan_model.specs.Network.{Network, IsPlan}
 use Rattle.plan_model.specs.Steps.{step}
-use Rattle.sccp_scrc.specs.Arriving.{arrival, after_step, leaving, at_subsystem, at_title, translated, by_called, of_message, is_last_hop, point_of, subsystems_of}
-use Rattle.sccp_scrc.specs.Returning.{way_to, way_back, asks_for_return, service_message, service_by, service_for, returned}
+use Rattle.sccp_scrc.specs.Arriving.{arrival, after_step, leaving, at_subsystem, translated, by_called, of_message, is_last_hop, point_of, subsystems_of}
+use Rattle.sccp_scrc.specs.Returning.{way_to, way_back, asks_for_return, service_message, service_by, returned}
 use Rattle.sccp_scrc.specs.Rewriting.{rewritten, spot_of}
 use Rattle.sccp_scrc.specs.Unitdata.{octets_of}
 use Rattle.sccp_scrc.specs.declared.arrival.Arrival.{Arrival}
@@ -29,10 +29,10 @@ use Rattle.sccp_scrc.specs.declared.arrival.Arrival.TheVariants.{Relayed, Ended,
 use Rattle.sccp_scrc.specs.declared.service.Service.{Service}
 use Rattle.sccp_scrc.specs.declared.way.Way as back
 use Rattle.sccp_scrc.specs.declared.way.Way.TheVariants.{Direct, Shut, ByTitle}
-use Rattle.relay_ways.specs.Conditions.{condition, held, meets, is_possible, both}
+use Rattle.relay_ways.specs.Conditions.{held, meets, is_possible, both}
 use Rattle.relay_ways.specs.Outcomes.{Outcome, outcomes, cleared_way, cleared_service, cleared, Becomes}
 use Rattle.relay_ways.specs.Sends.{sending, forwarded, service_sent, sent_of, sends}
-use Rattle.relay_ways.specs.Ways.{way, way_if, reaches, forwarded_way, service_ways, ways_of, possible_ways, ways, AreWays}
+use Rattle.relay_ways.specs.Ways.{way_if, reaches, forwarded_way, service_ways, ways_of, possible_ways, ways, AreWays}
 use Rattle.relay_ways.specs.declared.condition.Condition.{Condition}
 use Rattle.relay_ways.specs.declared.way.Sending.{Sending}
 use Rattle.relay_ways.specs.declared.way.Way.{Way}

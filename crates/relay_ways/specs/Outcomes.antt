@@ -1,5 +1,6 @@
 -- What becomes of octets at a node over all markings, each outcome with the condition under which it is the one.
-use Rattle.std.specs.Prelude.{◌≡◌, true, option_map, ℕ, Bool, ◌&&◌, ◌==◌, not, if◌then◌else◌, List, [], ◌∷◌, map, Option, Some, None, Result, Ok, Err}
+use Rattle.std.specs.Prelude.{◌≡◌, true, option_map, ℕ, Bool, ◌&&◌, ◌==◌, not, if◌then◌else◌, List, [], ◌∷◌, map, Option, Some, None}
+use Rattle.std.specs.Prelude.{Result, Ok, Err}
 use Rattle.std.specs.List.{list_any}
 use Rattle.sccp_base.specs.declared.mark.Mark.{Mark}
 use Rattle.sccp_base.specs.declared.mark.Mark.TheVariants.{Subsystem}

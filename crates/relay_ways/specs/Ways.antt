@@ -69,7 +69,8 @@ pub record AreWays (plan : Network) (node origin : ℕ) (b : List ℕ) (found : 
 -- What a node forwards of octets of its own under a marking that meets the condition; nothing if no marking meets it.
 abbrev pub IsForwarded : Network → ℕ → List ℕ → Condition → Option Sending → Type 0
 IsForwarded plan node b c s = MatchBool (is_possible c)
-    ((marking : List Mark) × IsMarking marking × (meets marking c ≡ true) × (s ≡ forwarded (arrival plan node marking (point_of plan node) b)))
+    ((marking : List Mark) × IsMarking marking × (meets marking c ≡ true)
+    × (s ≡ forwarded (arrival plan node marking (point_of plan node) b)))
     (s ≡ None)
 
 -- these ways are put at the end, and some marking meets the condition of each

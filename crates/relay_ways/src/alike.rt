@@ -260,7 +260,8 @@ fn have_same_called(to: PointCode, a: &Message, b: &Message) -> bool
 
 /// Whether type, class or cause, and hop counter are the same.
 fn have_same_numbers(a: &Message, b: &Message) -> bool
-    ensures { result ≡ (code_of a.now == code_of b.now && (number_of a.now == number_of b.now && same_optional (hops_of a.now) (hops_of b.now))) }
+    ensures { result ≡ (code_of a.now == code_of b.now && (number_of a.now == number_of b.now
+        && same_optional (hops_of a.now) (hops_of b.now))) }
 {
     code(a) == code(b) && number(a) == number(b) && same_number(a.hops(), b.hops())
 }

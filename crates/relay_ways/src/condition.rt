@@ -124,7 +124,8 @@ fn prohibit_one(
     none_of: &[Mark],
 ) -> Result<bool, OutOfMemory>
     ensures { IfOk result (λ done. MatchBool done
-        ((lists : List (List Mark)) → HoldsOneOf marking.old lists none_of.now → HoldsOneOf marking.new (lists ++ marks.now ∷ []) none_of.now)
+        ((lists : List (List Mark)) → HoldsOneOf marking.old lists none_of.now
+        → HoldsOneOf marking.new (lists ++ marks.now ∷ []) none_of.now)
         (list_any (λ mark. not (holds none_of.now mark)) marks.now ≡ false)) }
 {
     match first_allowed(marks, none_of) {

@@ -59,7 +59,8 @@ fn add_all_taken(
     spot: &Spot,
     targets: &[Target],
 ) -> Result<(), OutOfMemory>
-    ensures { (plan : Network) → OnOk result (found.new ≡ found.old ++ turn_conditions (taken_turns plan node.now spot.now [] 0 targets.now)) }
+    ensures { (plan : Network)
+        → OnOk result (found.new ≡ found.old ++ turn_conditions (taken_turns plan node.now spot.now [] 0 targets.now)) }
 {
     let mut before = List::new(alloc);
     for target in targets {

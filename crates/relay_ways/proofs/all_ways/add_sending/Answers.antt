@@ -1,4 +1,4 @@
-use Rattle.std.proofs.Common.{◌≡◌, List, [], ◌∷◌, ◌∙◌, ap, sym, subst}
+use Rattle.std.proofs.Common.{List, [], ◌∷◌, ◌∙◌, ap, sym, subst}
 use Rattle.std.specs.Prelude.{OnOk}
 use Rattle.relay_ways.specs.Ways.{way, AddsWays}
 use Rattle.relay_ways.specs.declared.way.Way.{Way}

@@ -1,4 +1,4 @@
-use Rattle.std.proofs.Common.{◌≡◌, List, [], refl, sym, subst}
+use Rattle.std.proofs.Common.{List, [], refl, sym, subst}
 use Rattle.sccp_base.specs.declared.mark.Mark.{Mark}
 use Rattle.relay_ways.specs.Conditions.{HoldsOneOf}
 use Rattle.relay_ways.proofs.Possible.{nothing_held}
