@@ -48,16 +48,12 @@ fn put_bad_route(text: &mut Text, plan: &Plan, witness: &Witness) -> Result<(), 
 }
 
 /// The verdict on a plan with the cover of this number alone, and the bad route of one that is refused.
-<<<<<<< Updated upstream
 pub fn cover_text(
     alloc: Global,
     number: u16,
     plan: &Plan,
     verdict: &Verdict,
 ) -> Result<Octets, OutOfMemory>
-=======
-pub fn cover_text(alloc: Global, number: u16, plan: &Plan, verdict: &Verdict) -> Result<Octets, OutOfMemory>
->>>>>>> Stashed changes
     requires { HasHopsIn plan.now verdict.now }
     ensures { IfOk result (λ text. text ≡ cover_text number plan.now verdict.now) }
 {

@@ -1,6 +1,6 @@
 -- How each cover is verified by itself, and what that ends with.
 use Rattle.std.proofs.Common.{◌≡◌, ◌<◌, ◌≤◌, ◌+◌, ◌⊎◌, ℕ, true, false, zero, suc, List, [], ◌∷◌, ◌++◌, length, drop, Option, Some, Result, Ok, Err}
-use Rattle.std.proofs.Common.{OnOk, refl, sym, ◌∙◌, ap, subst, inl, inr, ⊎_elim, arith, append_assoc, append-nil}
+use Rattle.std.proofs.Common.{IfOk, OnOk, refl, sym, ◌∙◌, ap, subst, inl, inr, ⊎_elim, arith, append_assoc, append-nil}
 use Rattle.std.specs.Prelude.{max, nat_lt, if◌then◌else◌, IsSomeAnd, slice_get, get_or}
 use Rattle.std.specs.Io.{StartsWith}
 use Rattle.std.specs.Io.KnownBytes.{append_known}
@@ -39,12 +39,12 @@ use Rattle.sccp_tool.specs.declared.covers.Judging.{Judging}
 use Rattle.sccp_tool.specs.declared.tally.Tally.{Tally}
 use Rattle.sccp_tool.proofs.Causes.{Causes}
 use Rattle.sccp_work.proofs.PlanLemmas.{PlanEnds, long, bad, good, Ends-with_plan, if_long, if_bad, at_plan, plan_files}
-use Rattle.sccp_work.proofs.WorkLemmas.{Works-judge, Works-print, Works-print-stopped}
-use Rattle.sccp_work.specs.Ending.{Works}
+use Rattle.sccp_work.proofs.WorkLemmas.{Works-answered, Works-judge, Works-print, Works-print-stopped}
+use Rattle.sccp_work.specs.Ending.{IsCut, Works}
 use Rattle.sccp_work.specs.Moment.{Moment}
 use Rattle.sccp_work.specs.Plans.{HasPlan}
 use Rattle.sccp_work.specs.Verdict.{IsSafe, IsBad}
-use Rattle.sccp_work.specs.Work.{Work, print, IsJudged, Ends, HasFiles}
+use Rattle.sccp_work.specs.Work.{Work, print, answered, IsJudged, Ends, HasFiles}
 use Rattle.sccp_work.specs.Writing.{Writes}
 use Rattle.sccp_work.specs.declared.status.Status.{Status}
 use Rattle.sccp_work.specs.declared.status.Status.TheVariants.{Done, Refused, Usage, BadPlan, TooWide, TooLong}
@@ -117,6 +117,32 @@ pub stopped_left : (plan : Network) (number : ℕ) (cover : Cover) (covers : Lis
     (first now after : Moment) → CoversLeft plan number (cover ∷ covers) tally first now
     → GivesNext plan.nodes number cover tally (Err stop) now after → Works (each_cover plan) (Err stop) first after
 stopped_left plan number cover covers tally stop first now after left gives = left (Err stop) after (gives covers)
+
+-- ---- the last line
+
+-- the answer of two numbers
+by_status : (P : Status → Type 0) (r w : ℕ) → (0 < r → P Refused) → (r ≡ 0 → 0 < w → P TooWide) → (r ≡ 0 → w ≡ 0 → P Done)
+    → P (if nat_lt 0 r then Refused else (if nat_lt 0 w then TooWide else Done))
+by_status P r w refuses wide done =
+    elim (nat_lt 0 r) as (λ x. nat_lt 0 r ≡ x → P (if x then Refused else (if nat_lt 0 w then TooWide else Done))) [
+      | true ↦ λ e. refuses (ltb-true 0 r e)
+      | false ↦ λ e. elim (nat_lt 0 w) as (λ y. nat_lt 0 w ≡ y → P (if y then TooWide else Done)) [
+        | true ↦ λ f. wide (omega (arith, ltb-false 0 r e)) (ltb-true 0 w f)
+        | false ↦ λ f. done (omega (arith, ltb-false 0 r e)) (omega (arith, ltb-false 0 w f))
+      ] refl
+    ] refl
+
+not_cut : (tally : Tally) → IsCut (tally_status tally) → ⊥
+not_cut tally = by_status (λ s. IsCut s → ⊥) tally.refused tally.wide (λ lt cut. cut) (λ e lt cut. cut) (λ e f cut. cut)
+
+pub Works-tally : (tally : Tally) (status : Status) (line : List ℕ) (result : Result Status Stop) (b a : Moment)
+    → status ≡ tally_status tally → line ≡ tally_line tally → Writes line result b.taken a.taken b.write_faults a.write_faults
+    → IfOk result (λ s. s ≡ status) → a.contents ≡ b.contents → a.sound ≡ b.sound → a.read_faults ≡ b.read_faults
+    → Works (answered (tally_status tally, tally_line tally)) result b a
+Works-tally tally status line result b a of spelt writes is contents sound read_faults =
+    Works-answered (tally_status tally, tally_line tally) result b a (not_cut tally)
+    (subst (λ t. Writes t result b.taken a.taken b.write_faults a.write_faults) spelt writes)
+    (subst (λ t. IfOk result (λ s. s ≡ t)) of is) contents sound read_faults
 
 -- ---- how the command ends
 
@@ -212,18 +238,6 @@ some_wide tally (verdicts.Accepted a ∷ vs) lt =
 some_wide tally (verdicts.Refused plan w ∷ vs) lt =
     later IsTooWide (verdicts.Refused plan w) vs (some_wide (counted tally (verdicts.Refused plan w)) vs lt)
 some_wide tally (verdicts.TooWide plan ∷ vs) lt = (0, verdicts.TooWide plan, omega arith, refl, tt)
-
--- the answer of two numbers
-by_status : (P : Status → Type 0) (r w : ℕ) → (0 < r → P Refused) → (r ≡ 0 → 0 < w → P TooWide) → (r ≡ 0 → w ≡ 0 → P Done)
-    → P (if nat_lt 0 r then Refused else (if nat_lt 0 w then TooWide else Done))
-by_status P r w refuses wide done =
-    elim (nat_lt 0 r) as (λ x. nat_lt 0 r ≡ x → P (if x then Refused else (if nat_lt 0 w then TooWide else Done))) [
-      | true ↦ λ e. refuses (ltb-true 0 r e)
-      | false ↦ λ e. elim (nat_lt 0 w) as (λ y. nat_lt 0 w ≡ y → P (if y then TooWide else Done)) [
-        | true ↦ λ f. wide (omega (arith, ltb-false 0 r e)) (ltb-true 0 w f)
-        | false ↦ λ f. done (omega (arith, ltb-false 0 r e)) (omega (arith, ltb-false 0 w f))
-      ] refl
-    ] refl
 
 -- ---- what each verdict says of the plan
 
