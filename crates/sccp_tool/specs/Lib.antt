@@ -6,6 +6,7 @@ pub mod Covers
 pub mod Import
 pub mod Load
 pub mod Parsed
+pub mod Promise
 pub mod Replay
 pub mod Route
 pub mod Run

@@ -11,7 +11,7 @@ use Rattle.sccp_work.specs.Ending.{IsCut}
 use Rattle.sccp_tool.specs.Import.{import_work, ImportCause, ImportTells}
 use Rattle.sccp_work.specs.Limit.{IsThere}
 use Rattle.sccp_work.specs.Plans.{TextCause}
-use Rattle.sccp_tool.specs.Load.{load_work, LoadCause, LoadSure, LoadTells}
+use Rattle.sccp_tool.specs.Load.{load_work, LoadCause}
 use Rattle.sccp_replay.specs.Replay.{replay_work}
 use Rattle.sccp_replay.specs.ReplayEnds.{ReplayCause, ReplaySure, ReplayTells, LaterPlansThere}
 use Rattle.sccp_tool.specs.Route.{route_work}
@@ -54,7 +54,7 @@ Cause c (Some (Show name)) answer = ShowCause (Some c) name answer
 Cause c (Some (Verify name)) answer = VerifyCause (Some c) name answer
 Cause c (Some (Route name start)) answer = TextCause (Some c) name answer
 Cause c (Some (Replay plan trace workers)) answer = ReplayCause c plan trace answer
-Cause c (Some (Load number size workers)) answer = LoadCause number answer
+Cause c (Some (Load number size workers)) answer = LoadCause answer
 Cause c (Some (Cuts octets)) answer = CutsCause answer
 Cause c (Some (Import plan file)) answer = ImportCause (Some c) plan file answer
 Cause c (Some (Change old new)) answer = ChangeCause (Some c) old new answer
@@ -66,7 +66,6 @@ Cause c (Some (Covers name)) answer = CoversCause (Some c) name answer
 abbrev pub SureCause : Contents → Option Task → Status → Type 0
 SureCause c (Some (Verify name)) answer = VerifySure (Some c) name answer
 SureCause c (Some (Replay plan trace workers)) answer = ReplaySure c plan trace answer
-SureCause c (Some (Load number size workers)) answer = LoadSure number answer
 SureCause c (Some (Change old new)) answer = ChangeSure (Some c) old new answer
 SureCause c (Some (Connect name calling)) answer = VerifySure (Some c) name answer
 SureCause c (Some (Covers name)) answer = CoversSure (Some c) name answer
@@ -77,7 +76,6 @@ SureCause c task answer = Cause c task answer
 abbrev pub TellsAnswer : Contents → Option Task → Status → Option (List ℕ) → Option (List ℕ) → Type 0
 TellsAnswer c (Some (Verify name)) given taken taken' = VerifyTells (Some c) name given taken taken'
 TellsAnswer c (Some (Replay plan trace workers)) given taken taken' = ReplayTells c plan given taken taken'
-TellsAnswer c (Some (Load number size workers)) given taken taken' = LoadTells number given taken taken'
 TellsAnswer c (Some (Change old new)) given taken taken' = ChangeTells (Some c) old new given taken taken'
 TellsAnswer c (Some (Connect name calling)) given taken taken' = ReplayTells c name given taken taken'
 TellsAnswer c (Some (Import plan file)) given taken taken' = ImportTells (Some c) plan file given taken taken'
