@@ -1,8 +1,7 @@
 -- How each cover is verified by itself, and what that ends with.
 use Rattle.std.proofs.Common.{◌≡◌, ◌<◌, ◌≤◌, ◌+◌, ◌⊎◌, ℕ, true, false, zero, suc, List, [], ◌∷◌, ◌++◌, length, drop, Option, Some, Result, Ok, Err}
-use Rattle.std.proofs.Common.{IfOk, OnOk, refl, sym, ◌∙◌, ap, subst, inl, inr, ⊎_elim, arith, append_assoc, append-nil}
+use Rattle.std.proofs.Common.{IfOk, refl, sym, ◌∙◌, ap, subst, inl, inr, ⊎_elim, arith, append_assoc, append-nil}
 use Rattle.std.specs.Prelude.{max, nat_lt, if◌then◌else◌, IsSomeAnd, slice_get, get_or}
-use Rattle.std.specs.Io.{StartsWith}
 use Rattle.std.specs.Io.KnownBytes.{append_known}
 use Rattle.std.specs.List.{All, Any}
 use Rattle.std.proofs.lemmas.Bool.{cases_lt, ltb-true, ltb-false}
@@ -39,12 +38,13 @@ use Rattle.sccp_tool.specs.declared.covers.Judging.{Judging}
 use Rattle.sccp_tool.specs.declared.tally.Tally.{Tally}
 use Rattle.sccp_tool.proofs.Causes.{Causes}
 use Rattle.sccp_work.proofs.PlanLemmas.{PlanEnds, long, bad, good, Ends-with_plan, if_long, if_bad, at_plan, plan_files}
-use Rattle.sccp_work.proofs.WorkLemmas.{Works-answered, Works-judge, Works-print, Works-print-stopped}
+use Rattle.sccp_work.proofs.WorkLemmas.{Kept, Printed, Works-answered, Works-ask, printed}
 use Rattle.sccp_work.specs.Ending.{IsCut, Works}
 use Rattle.sccp_work.specs.Moment.{Moment}
 use Rattle.sccp_work.specs.Plans.{HasPlan}
 use Rattle.sccp_work.specs.Verdict.{IsSafe, IsBad}
-use Rattle.sccp_work.specs.Work.{Work, print, answered, IsJudged, Ends, HasFiles}
+use Rattle.sccp_work.specs.Questions.{IsJudged, verdict_on}
+use Rattle.sccp_work.specs.Work.{Work, print, answered, Ends, HasFiles}
 use Rattle.sccp_work.specs.Writing.{Writes}
 use Rattle.sccp_work.specs.declared.status.Status.{Status}
 use Rattle.sccp_work.specs.declared.status.Status.TheVariants.{Done, Refused, Usage, BadPlan, TooWide, TooLong}
@@ -57,47 +57,33 @@ abbrev told_on : List Node → ℕ → Cover → List Cover → Tally → Verdic
 told_on nodes number cover covers tally verdict =
     print (cover_text number (network nodes (cover ∷ [])) verdict) (covers_on nodes (number + 1) covers (counted tally verdict))
 
-module _ (nodes : List Node) (number : ℕ) (cover : Cover) (tally : Tally) (verdict : Verdict)
-    (judged : IsJudged (network nodes (cover ∷ [])) verdict) (b m : Moment) (contents : m.contents ≡ b.contents)
-    (sound : m.sound ≡ b.sound) (read_faults : m.read_faults ≡ b.read_faults) where
-  -- its text is written, and the work goes on with the covers that are left
-  pub cover_told : {T : Type 0} (line : List ℕ) (put : Result T Stop) (x : T)
-      → line ≡ cover_text number (network nodes (cover ∷ [])) verdict
-      → Writes line put b.taken m.taken b.write_faults m.write_faults → put ≡ Ok x
-      → (covers : List Cover) (result : Result Status Stop) (a : Moment)
-      → Works (covers_on nodes (number + 1) covers (counted tally verdict)) result m a
-      → Works (covers_on nodes number (cover ∷ covers) tally) result b a
-  cover_told line put x spelt writes ok covers result a w =
-      Works-judge (network nodes (cover ∷ [])) (told_on nodes number cover covers tally) verdict result b a judged
-      (Works-print (cover_text number (network nodes (cover ∷ [])) verdict) (covers_on nodes (number + 1) covers (counted tally verdict))
-      result b m a
-      (record {
-        contents = contents;
-        sound = sound;
-        read_faults = omega (arith, read_faults);
-        write_faults = writes.later;
-        taken = writes.appends ∙ ap (λ t. append_known b.taken t) (front ∙ spelt);
-      }) read_faults w)
-    where
-      front : writes.front ≡ line
-      front = subst (λ r. OnOk r (writes.front ≡ line)) ok writes.whole
+-- Once the text of a verdict is written, the work goes on with the covers that are left. If it could not be written whole, the work
+-- has stopped.
+abbrev pub AfterVerdict : List Node → ℕ → Cover → List Cover → Tally → Verdict → Result (Unit {0}) Stop → Moment → Moment → Type 0
+AfterVerdict nodes number cover covers tally verdict (Ok done) b m =
+    (result : Result Status Stop) (after : Moment) → Works (covers_on nodes (number + 1) covers (counted tally verdict)) result m after
+    → Works (covers_on nodes number (cover ∷ covers) tally) result b after
+AfterVerdict nodes number cover covers tally verdict (Err stop) b m = Works (covers_on nodes number (cover ∷ covers) tally) (Err stop) b m
 
-  -- its text could not be written whole
-  pub cover_untold : {T : Type 0} (line : List ℕ) (stop : Stop) → line ≡ cover_text number (network nodes (cover ∷ [])) verdict
-      → Writes {T = T} line (Err stop) b.taken m.taken b.write_faults m.write_faults
-      → (covers : List Cover) → Works (covers_on nodes number (cover ∷ covers) tally) (Err stop) b m
-  cover_untold line stop spelt writes covers =
-      Works-judge (network nodes (cover ∷ [])) (told_on nodes number cover covers tally) verdict (Err stop) b m judged
-      (Works-print-stopped (cover_text number (network nodes (cover ∷ [])) verdict)
-      (covers_on nodes (number + 1) covers (counted tally verdict)) writes.front stop b m
-      (subst (λ t. StartsWith t writes.front) spelt writes.begins)
-      (record {
-        contents = contents;
-        sound = sound;
-        read_faults = omega (arith, read_faults);
-        write_faults = writes.later;
-        taken = writes.appends;
-      }) read_faults (λ e. writes.failed (ap Err e)) (λ e. writes.no_reading (ap Err e)) (λ s e. writes.no_answer s (ap Err e)))
+after_verdict : (nodes : List Node) (number : ℕ) (cover : Cover) (covers : List Cover) (tally : Tally) (verdict : Verdict)
+    (put : Result (Unit {0}) Stop) (b m : Moment) → IsJudged (network nodes (cover ∷ [])) verdict
+    → Printed (cover_text number (network nodes (cover ∷ [])) verdict) (covers_on nodes (number + 1) covers (counted tally verdict)) put b m
+    → AfterVerdict nodes number cover covers tally verdict put b m
+after_verdict nodes number cover covers tally verdict (Ok done) b m judged goes = λ result after w.
+    Works-ask (verdict_on (network nodes (cover ∷ []))) (told_on nodes number cover covers tally) verdict result b after judged
+    (goes result after w)
+after_verdict nodes number cover covers tally verdict (Err stop) b m judged stops =
+    Works-ask (verdict_on (network nodes (cover ∷ []))) (told_on nodes number cover covers tally) verdict (Err stop) b m judged stops
+
+pub verdict_told : (nodes : List Node) (number : ℕ) (cover : Cover) (covers : List Cover) (tally : Tally) (verdict : Verdict)
+    (line : List ℕ) (put : Result (Unit {0}) Stop) (b m : Moment) → IsJudged (network nodes (cover ∷ [])) verdict
+    → line ≡ cover_text number (network nodes (cover ∷ [])) verdict
+    → Writes line put b.taken m.taken b.write_faults m.write_faults → Kept b m
+    → AfterVerdict nodes number cover covers tally verdict put b m
+verdict_told nodes number cover covers tally verdict line put b m judged spelt writes kept =
+    after_verdict nodes number cover covers tally verdict put b m judged
+    (printed (cover_text number (network nodes (cover ∷ [])) verdict) (covers_on nodes (number + 1) covers (counted tally verdict)) put b m
+    (subst (λ t. Writes t put b.taken m.taken b.write_faults m.write_faults) spelt writes) kept)
 
 -- ---- cover by cover
 

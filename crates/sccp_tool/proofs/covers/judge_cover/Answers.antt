@@ -7,9 +7,8 @@ use Rattle.sccp_tool.specs.Covers.{covers_on}
 use Rattle.sccp_tool.specs.Tallies.{counted}
 use Rattle.sccp_work.specs.Ending.{Works}
 use Rattle.sccp_work.specs.Moment.{Moment}
-use Rattle.sccp_work.specs.Work.{IsJudged}
 use Rattle.sccp_work.proofs.WorkLemmas.{Works-memory}
-use Rattle.sccp_tool.proofs.CoversLemmas.{cover_told, cover_untold}
+use Rattle.sccp_tool.proofs.CoversLemmas.{AfterVerdict, verdict_told}
 use Rattle.sccp_tool.proofs.covers.judge_cover.Goals as goal
 
 pub returns-in_err-verdict-clause-gives : goal.returns-in_err-verdict-clause-gives
@@ -49,8 +48,9 @@ returns-in-Ok-clause-gives g c =
       write_faults = g.K.Sink.faults c.print_verdict.new.out;
     } in
     λ covers result after w.
-    cover_told c.args.judging.nodes c.args.number c.args.cover c.args.judging.tally v
-    (c.requires.plan, subst (λ plan. IsLawful plan v) c.in_ok-plan.ensures e.lawful) b m refl refl refl
-    (cover_text c.args.number (plan_of v) v) c.print_verdict.result c.in-Ok.field-0 (ap (λ plan. cover_text c.args.number plan v) same)
-    c.print_verdict.ensures c.in-Ok.is covers result after
+    subst (λ put. AfterVerdict c.args.judging.nodes c.args.number c.args.cover covers c.args.judging.tally v put b m) c.in-Ok.is
+    (verdict_told c.args.judging.nodes c.args.number c.args.cover covers c.args.judging.tally v (cover_text c.args.number (plan_of v) v)
+    c.print_verdict.result b m (c.requires.plan, subst (λ plan. IsLawful plan v) c.in_ok-plan.ensures e.lawful)
+    (ap (λ plan. cover_text c.args.number plan v) same) c.print_verdict.ensures
+    (record { contents = refl; sound = refl; read_faults = refl })) result after
     (subst (λ tally. Works (covers_on c.args.judging.nodes (c.args.number + 1) covers tally) result m after) c.counted-tally.ensures w)
