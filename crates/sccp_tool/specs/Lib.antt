@@ -2,6 +2,7 @@
 pub mod Change
 pub mod Commands
 pub mod Connect
+pub mod Covers
 pub mod Import
 pub mod Load
 pub mod Parsed
@@ -14,6 +15,7 @@ pub mod Show
 pub mod ShowHex
 pub mod Cuts
 pub mod Starts
+pub mod Tallies
 pub mod Task
 pub mod Texts
 pub mod Verify

@@ -10,6 +10,7 @@ ghost use Rattle.sccp_tool.specs.Run.{work_of};
 use crate::change::change;
 use crate::command::{Command, parse};
 use crate::connect::connect;
+use crate::covers::covers;
 use crate::cuts::cuts;
 use crate::import::import;
 use crate::load::load;
@@ -28,7 +29,7 @@ use std::sync::Wait;
 use std::thread::Threads;
 
 const USAGE: &[u8] =
-    b"usage: show-hex HEX | show FILE | verify PLAN | route PLAN NODE SELECTOR SSN DIGITS | replay PLAN TRACE WORKERS | load NUMBER SIZE WORKERS | cuts HEX | change OLD NEW | connect PLAN NODE FROM SELECTOR SSN DIGITS HEX | send-on PLAN NODE ORIGIN SIZE HEX | import PLAN FILE\n";
+    b"usage: show-hex HEX | show FILE | verify PLAN | route PLAN NODE SELECTOR SSN DIGITS | replay PLAN TRACE WORKERS | load NUMBER SIZE WORKERS | cuts HEX | change OLD NEW | connect PLAN NODE FROM SELECTOR SSN DIGITS HEX | send-on PLAN NODE ORIGIN SIZE HEX | import PLAN FILE | covers PLAN\n";
 
 const READ_FAULT: &[u8] = b"read fault\n";
 
@@ -117,6 +118,7 @@ fn obey<R: Threads + Wait + Sync, G: Gate + Sync, F: Files, K: Sink>(
         Command::Change(old, new) => change(alloc, old, new, files, out),
         Command::Connect(name, calling) => connect(alloc, name, calling, files, out),
         Command::SendOn(name, incoming) => send_on(alloc, name, incoming, files, out),
+        Command::Covers(name) => covers(alloc, name, files, out),
     }
 }
 
