@@ -2,6 +2,7 @@
 mod checks;
 mod lookups;
 mod messages;
+mod packets;
 mod plans;
 mod replay_lines;
 mod segments;
