@@ -1,4 +1,5 @@
 -- The definitions of this crate, one file a subject.
 pub mod Outages
-pub mod Margins
 pub mod Searching
+pub mod Ways
+pub mod Margins

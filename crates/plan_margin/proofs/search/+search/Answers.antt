@@ -9,9 +9,10 @@ use Rattle.plan_margin.specs.declared.found.Found.{Found}
 use Rattle.plan_margin.specs.declared.found.Found.TheVariants.{Stopped}
 use Rattle.plan_margin.specs.declared.turn.Turn.{Turn}
 use Rattle.plan_margin.specs.declared.turn.Turn.TheVariants.{Lost, Taken, Either}
+use Rattle.plan_margin.specs.Ways.{IsWithUp, IsWithLost}
 use Rattle.plan_margin.specs.Searching.{IsFound, IsFoundIf, IsIn, IsInWith, IsTurn, IsTurnBy, StopsOne, point_of_target}
 use Rattle.plan_margin.proofs.Passing.{opens_here}
-use Rattle.plan_margin.proofs.Sets.{IsWithLost, IsWithUp, lost_is_closed, taken_is_open, either_is_free, either_closes, either_opens}
+use Rattle.plan_margin.proofs.Sets.{lost_is_closed, taken_is_open, either_is_free, either_closes, either_opens}
 use Rattle.plan_margin.proofs.Sets.{passes_more, of_target_within, lost_set, up_set, lost_inner, up_inner, too_many}
 use Rattle.plan_margin.proofs.Following.{ok_is, ok_map, no_row_stop, past_stop, target_stop, parts_more, parts_whole}
 use Rattle.plan_margin.proofs.Following.{lost_found, up_found}
