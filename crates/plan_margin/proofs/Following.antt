@@ -36,6 +36,10 @@ pub ok_map : {E : Type 0} (r : Result Found E) (P Q : Found → Type 0) → ((f 
 ok_map (Ok x) P Q f h = f x h
 ok_map (Err e) P Q f h = h
 
+pub ok_any : {E : Type 0} (r : Result Found E) (P : Found → Type 0) → ((f : Found) → P f) → IfOk r P
+ok_any (Ok x) P f = f x
+ok_any (Err e) P f = tt
+
 -- the points that are lost in each outage of the set stop this title
 pub own_stop : (plan : Network) (c : Titles) (left : ℕ) (set : OutageSet) (digits : List ℕ) → IsOutageSet set → IsMember c digits
     → (ArrivesWithin plan c.cover left set.lost (spot_of c digits) → ⊥) → StopsOne plan c left set.most (IsIn set) digits set.lost

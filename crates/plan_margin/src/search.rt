@@ -90,8 +90,9 @@ fn explore_parts(
     let parts = parts(alloc, class)?;
     for part in parts.as_slice() {
         match explore(alloc, plan, part, left, set, count)? {
+            Found::Stopped { digits, lost } => return Ok(Found::Stopped { digits, lost }),
             Found::Through { cut: other } => cut = cut | other,
-            found => return Ok(found),
+            Found::Wide => return Ok(Found::Wide),
         }
     }
     Ok(Found::Through { cut })
@@ -231,11 +232,12 @@ fn follow_either(
     ensures ways { IfOk result (λ found. Counts plan.now (of_row left class.now place set.now) count.old count.new) }
 {
     match follow_up(alloc, plan, class, row, place, left, point, set, count)? {
+        Found::Stopped { digits, lost } => Ok(Found::Stopped { digits, lost }),
         Found::Through { cut } => {
             let found = follow_lost(alloc, plan, class, row, place, left, point, set, count)?;
             Ok(joined(cut, found))
         }
-        found => Ok(found),
+        Found::Wide => Ok(Found::Wide),
     }
 }
 
