@@ -21,11 +21,10 @@ use Rattle.plan_margin.specs.declared.outage_set.OutageSet.{OutageSet}
 use Rattle.plan_margin.specs.declared.found.Found.{Found}
 use Rattle.plan_margin.specs.declared.found.Found.TheVariants.{Stopped, Through, Wide}
 use Rattle.plan_margin.specs.Outages.{ArrivesWithin, IsEndAllowed}
-use Rattle.plan_margin.specs.Ways.{IsWithUp, IsWithLost}
 use Rattle.plan_margin.specs.Searching.{IsIn, IsOutageSet, StopsOne, AllArrive, IsFoundIf, IsFound, PassesOver, TakesIn, IsInWith, joined}
 use Rattle.plan_margin.proofs.Arriving.{no_row, all_closed, stops_here}
 use Rattle.plan_margin.proofs.Passing.{none_opens}
-use Rattle.plan_margin.proofs.Sets.{own_outage, lost_inner, lost_outer, up_inner, up_outer}
+use Rattle.plan_margin.proofs.Sets.{own_outage, IsWithLost, IsWithUp, lost_inner, lost_outer, up_inner, up_outer}
 
 -- what holds of what an Ok has, if it is known what that is
 pub ok_is : {E : Type 0} (r : Result Found E) (f : Found) (P : Found → Type 0) → IfOk r (λ x. x ≡ f) → P f → IfOk r P
@@ -35,10 +34,6 @@ ok_is (Err e) f P h k = h
 pub ok_map : {E : Type 0} (r : Result Found E) (P Q : Found → Type 0) → ((f : Found) → P f → Q f) → IfOk r P → IfOk r Q
 ok_map (Ok x) P Q f h = f x h
 ok_map (Err e) P Q f h = h
-
-pub ok_any : {E : Type 0} (r : Result Found E) (P : Found → Type 0) → ((f : Found) → P f) → IfOk r P
-ok_any (Ok x) P f = f x
-ok_any (Err e) P f = tt
 
 -- the points that are lost in each outage of the set stop this title
 pub own_stop : (plan : Network) (c : Titles) (left : ℕ) (set : OutageSet) (digits : List ℕ) → IsOutageSet set → IsMember c digits

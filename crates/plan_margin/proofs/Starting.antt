@@ -1,5 +1,5 @@
 -- the outages of a cover, and what the search from its start says of them
-use Rattle.std.specs.Prelude.{ℕ, ◌≡◌, ◌+◌, ◌<◌, ◌≤◌, true, false, Bool, List, [], length, Option, Some, None, IsSomeAnd, slice_get, refl, Result, Ok, Err, IfOk}
+use Rattle.std.specs.Prelude.{ℕ, ◌≡◌, ◌+◌, ◌<◌, ◌≤◌, true, false, Bool, List, [], length, Option, Some, None, IsSomeAnd, slice_get, refl}
 use Rattle.std.specs.Prelude.{replicate}
 use Rattle.std.specs.Option.{option_map_or}
 use Rattle.std.proofs.Common.{sym, ◌∙◌, ap, subst, ⊎_elim, arith}
@@ -23,12 +23,9 @@ use Rattle.plan_check.proofs.Soundness.{some_of}
 use Rattle.plan_margin.specs.declared.outage_set.OutageSet.{OutageSet}
 use Rattle.plan_margin.specs.declared.stop.Stop.{Stop}
 use Rattle.plan_margin.specs.declared.found.Found.{Found}
-use Rattle.plan_margin.specs.declared.found.Found.TheVariants.{Stopped, Through, Wide}
-use Rattle.plan_margin.specs.Ways.{of_class, Counts, HasManyFrom, HasWaysIfWide, HasManyWays}
-use Rattle.plan_margin.proofs.Counted.{met_all}
 use Rattle.plan_margin.specs.Outages.{Outage, SparesEntry, ArrivesWithin, Arrives, SurvivesBelow, SurvivesAll, route_in}
 use Rattle.plan_margin.specs.Margins.{IsStop}
-use Rattle.plan_margin.specs.Searching.{IsIn, IsFoundIf, IsFound, Spares, AllArrive, StopsOne, IsWithinLimit}
+use Rattle.plan_margin.specs.Searching.{IsIn, IsFoundIf, IsFound, Spares, AllArrive, StopsOne}
 use Rattle.plan_margin.proofs.Counting.{once_from}
 use Rattle.plan_margin.proofs.Sets.{own_point}
 use Rattle.plan_margin.proofs.Following.{found_same}
@@ -154,21 +151,3 @@ is_stop plan number most c digits lost stop is start ascending stops below spot 
     stopped : Arrives plan number lost stop.spot → ⊥
     stopped h = stops.stopped (subst (λ (n : ℕ). ArrivesWithin plan n 14 lost (spot_of c digits)) (sym (ap (λ (x : Titles). x.cover) k.2))
         (subst (ArrivesWithin plan number 14 lost) spot h))
-
--- the search gave up after as many classes as it may meet
-pub many_met : {E : Type 0} (plan : Network) (c : Titles) (most count : ℕ) (set : OutageSet) (r : Result Found E) → set.most ≡ most
-    → set.lost ≡ [] → ((m : Mark) → holds set.up m ≡ same_mark (PointCode (point_of plan c.node)) m)
-    → IfOk r (λ f. IsWithinLimit f count) → IfOk r (λ f. Counts plan (of_class 14 c set) 0 count) → IfOk r (HasWaysIfWide plan c most)
-many_met plan c most count set (Ok (Stopped digits lost)) size none up limit ways = tt
-many_met plan c most count set (Ok (Through cut)) size none up limit ways = tt
-many_met plan c most count set (Ok Wide) size none up limit ways =
-    record { set = set; most_is = size; none_lost = none; entry_up = up; ways = met_all plan (of_class 14 c set) count limit ways }
-many_met plan c most count set (Err e) size none up limit ways = tt
-
--- the classes from a start are those of the cover
-pub many_ways : (plan : Network) (number most : ℕ) (c : Titles) → IsSomeAnd (slice_get plan.covers number) (λ x. c ≡ start_of number x)
-    → HasManyFrom plan c most → HasManyWays plan number most
-many_ways plan number most c start many =
-    let k = start_cover plan number c start in
-    subst (λ (o : Option Cover). IsSomeAnd o (λ x. HasManyFrom plan (start_of number x) most)) (sym k.1)
-    (subst (λ (x : Titles). HasManyFrom plan x most) k.2 many)

@@ -1,5 +1,4 @@
 -- The definitions of this crate, one file a subject.
 pub mod Outages
-pub mod Searching
-pub mod Ways
 pub mod Margins
+pub mod Searching

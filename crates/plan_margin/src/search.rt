@@ -1,6 +1,6 @@
 //! The search for a title that an outage stops.
-ghost use Rattle.std.specs.Prelude.{ℕ, ◌≡◌, ◌+◌, ◌-◌, ◌≤◌, ◌<◌, ◌⊎◌, false, true, length, IfOk, Some};
-ghost use Rattle.plan_classes.specs.Titles.{IsClass, parts_of, IsLongest};
+ghost use Rattle.std.specs.Prelude.{ℕ, ◌≡◌, ◌+◌, ◌-◌, ◌≤◌, ◌<◌, false, true, length, IfOk, Some};
+ghost use Rattle.plan_classes.specs.Titles.{Titles, IsClass, IsLongest};
 ghost use Rattle.plan_classes.specs.declared.leads.Image.TheVariants.{Next, Ends};
 ghost use Rattle.plan_classes.specs.Classes.{Decided, HasImage, class_row, class_targets};
 ghost use Rattle.plan_classes.specs.Leading.{ImageIsExact};
@@ -8,7 +8,6 @@ ghost use Rattle.plan_margin.specs.declared.found.Found.TheVariants.{Stopped as 
 ghost use Rattle.plan_margin.specs.Searching.{MayExplore, IsOutageSet, IsFound, IsFoundIf, IsWithinLimit, most_ways, PassesOver, TakesIn};
 ghost use Rattle.plan_margin.specs.Searching.{IsTurn};
 ghost use Rattle.plan_margin.specs.Searching.{IsInWith, IsTurnBy, point_of_target};
-ghost use Rattle.plan_margin.specs.Ways.{Counts, CountsUp, CountsLost, of_class, of_parts, of_row, of_target};
 ghost use Rattle.plan_margin.specs.declared.turn.Turn.TheVariants.{Either};
 
 use crate::found::{Found, joined};
@@ -41,7 +40,6 @@ pub(crate) fn explore(
     requires few { count.old < most_ways }
     ensures found { IfOk result (IsFound plan.now class.now left set.now) }
     ensures limit { IfOk result (λ found. IsWithinLimit found count.new) }
-    ensures ways { IfOk result (λ found. Counts plan.now (of_class left class.now set.now) count.old count.new) }
 {
     if left == 0 {
         return stopped(alloc, set, sample(class));
@@ -84,15 +82,13 @@ fn explore_parts(
     requires few { count.old < most_ways }
     ensures found { IfOk result (IsFound plan.now class.now left set.now) }
     ensures limit { IfOk result (λ found. IsWithinLimit found count.new) }
-    ensures ways { IfOk result (λ found. Counts plan.now (of_parts left (parts_of class.now) set.now) count.old count.new) }
 {
     let mut cut = false;
     let parts = parts(alloc, class)?;
     for part in parts.as_slice() {
         match explore(alloc, plan, part, left, set, count)? {
-            Found::Stopped { digits, lost } => return Ok(Found::Stopped { digits, lost }),
             Found::Through { cut: other } => cut = cut | other,
-            Found::Wide => return Ok(Found::Wide),
+            found => return Ok(found),
         }
     }
     Ok(Found::Through { cut })
@@ -117,7 +113,6 @@ fn explore_targets(
     requires few { count.old < most_ways }
     ensures found { IfOk result (IsFound plan.now class.now left set.now) }
     ensures limit { IfOk result (λ found. IsWithinLimit found count.new) }
-    ensures ways { IfOk result (λ found. Counts plan.now (of_row left class.now 0 set.now) count.old count.new) }
 {
     match class_row(plan, class) {
         Some(row) => follow_row(alloc, plan, class, row, 0, left, set, count),
@@ -191,7 +186,6 @@ fn follow_row(
     requires few { count.old < most_ways }
     ensures found { IfOk result (IsFound plan.now class.now left set.now) }
     ensures limit { IfOk result (λ found. IsWithinLimit found count.new) }
-    ensures ways { IfOk result (λ found. Counts plan.now (of_row left class.now place set.now) count.old count.new) }
 {
     match turn_at(plan, class, row, place, set) {
         Turn::Past => stopped(alloc, set, sample(class)),
@@ -229,15 +223,13 @@ fn follow_either(
     requires few { count.old < most_ways }
     ensures found { IfOk result (IsFound plan.now class.now left set.now) }
     ensures limit { IfOk result (λ found. IsWithinLimit found count.new) }
-    ensures ways { IfOk result (λ found. Counts plan.now (of_row left class.now place set.now) count.old count.new) }
 {
     match follow_up(alloc, plan, class, row, place, left, point, set, count)? {
-        Found::Stopped { digits, lost } => Ok(Found::Stopped { digits, lost }),
         Found::Through { cut } => {
             let found = follow_lost(alloc, plan, class, row, place, left, point, set, count)?;
             Ok(joined(cut, found))
         }
-        Found::Wide => Ok(Found::Wide),
+        found => Ok(found),
     }
 }
 
@@ -266,7 +258,6 @@ fn follow_up(
     requires few { count.old < most_ways }
     ensures found { IfOk result (IsFoundIf plan.now class.now left set.now.most (IsInWith set.now point false)) }
     ensures limit { IfOk result (λ found. IsWithinLimit found count.new) }
-    ensures ways { IfOk result (λ found. CountsUp plan.now left class.now place point set.now count.old count.new) }
 {
     let with_up = set.with_up(alloc, point)?;
     let found = follow_target(alloc, plan, class, row, place, left, &with_up, count);
@@ -301,7 +292,6 @@ fn follow_lost(
     requires few { count.old < most_ways }
     ensures found { IfOk result (IsFoundIf plan.now class.now left set.now.most (IsInWith set.now point true)) }
     ensures limit { IfOk result (λ found. IsWithinLimit found count.new) }
-    ensures ways { IfOk result (λ found. (count.new ≡ count.old) ⊎ CountsLost plan.now left class.now place point set.now count.old count.new) }
 {
     if set.lost.marks().len() == usize::from(set.most) {
         return Ok(Found::Through { cut: true });
@@ -336,7 +326,6 @@ fn follow_target(
     requires few { count.old < most_ways }
     ensures found { IfOk result (IsFound plan.now class.now left set.now) }
     ensures limit { IfOk result (λ found. IsWithinLimit found count.new) }
-    ensures ways { IfOk result (λ found. Counts plan.now (of_target left class.now place set.now) count.old count.new) }
 {
     match image_by(plan, class, row, place) {
         Image::Next(next) => {

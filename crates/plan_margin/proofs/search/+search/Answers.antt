@@ -1,6 +1,4 @@
 use Rattle.std.proofs.Common.{ℕ, ◌≡◌, ◌<◌, ◌∙◌, Bor, List, Option, length, refl, sym, ap, subst, arith, rules, true, false}
-use Rattle.std.proofs.Common.{take, length-take}
-use Rattle.std.proofs.lemmas.Bool.{false≢true}
 use Rattle.std.specs.Option.{option_copied}
 use Rattle.plan_rules.specs.Rule.{Rule}
 use Rattle.plan_model.specs.declared.hop.Step.TheVariants.{NoRow, Overgrown}
@@ -11,26 +9,20 @@ use Rattle.plan_margin.specs.declared.found.Found.{Found}
 use Rattle.plan_margin.specs.declared.found.Found.TheVariants.{Stopped}
 use Rattle.plan_margin.specs.declared.turn.Turn.{Turn}
 use Rattle.plan_margin.specs.declared.turn.Turn.TheVariants.{Lost, Taken, Either}
-use Rattle.plan_margin.specs.Ways.{IsWithUp, IsWithLost, Counts, of_class, of_parts, of_row, of_target}
 use Rattle.plan_margin.specs.Searching.{IsFound, IsFoundIf, IsIn, IsInWith, IsTurn, IsTurnBy, StopsOne, point_of_target}
 use Rattle.plan_margin.proofs.Passing.{opens_here}
-use Rattle.plan_margin.proofs.Sets.{lost_is_closed, taken_is_open, either_is_free, either_closes, either_opens}
+use Rattle.plan_margin.proofs.Sets.{IsWithLost, IsWithUp, lost_is_closed, taken_is_open, either_is_free, either_closes, either_opens}
 use Rattle.plan_margin.proofs.Sets.{passes_more, of_target_within, lost_set, up_set, lost_inner, up_inner, too_many}
 use Rattle.plan_margin.proofs.Following.{ok_is, ok_map, no_row_stop, past_stop, target_stop, parts_more, parts_whole}
-use Rattle.plan_margin.proofs.Following.{lost_found, up_found, ok_any, stop_within}
-use Rattle.plan_margin.proofs.Counted.{met_none, met_one, met_parts, met_row, met_more, met_some, met_passed, met_taken, met_next, met_up}
-use Rattle.plan_margin.proofs.Counted.{met_either}
+use Rattle.plan_margin.proofs.Following.{lost_found, up_found}
 use Rattle.plan_margin.proofs.search.+search.Goals as goal
 
 pub explore_parts-loop-part-preserved : goal.explore_parts-loop-part-preserved
 explore_parts-loop-part-preserved t c =
     let found = subst (λ (f : Found). IsFound c.args.plan.now c.part-item.result c.args.left c.args.set.now f) c.in-Through.is
-    c.in_ok-digits.ensures.found in
+    c.in_ok-found.ensures.found in
     record {
       few = search rules;
-      ways = met_more c.args.plan.now c.args.left c.as_slice-part-items.result.now c.loop-part.part-index c.part-item.result c.args.set.now
-          c.args.count.now c.loop-part.count c.explore.new.count c.loop-part-test.true c.part-item.is c.loop-part.invariant.ways
-          c.in_ok-digits.ensures.ways;
       arrive = parts_more c.args.plan.now c.args.left c.args.set.now.most (IsIn c.args.set.now) c.as_slice-part-items.result.now
           c.loop-part.part-index c.part-item.result c.loop-part.cut c.in-Through.other c.loop-part-test.true c.part-item.is
           c.loop-part.invariant.arrive found;
@@ -305,153 +297,3 @@ follow_up-returns-clause-found t c =
     (λ f. IsFoundIf c.args.plan.now c.args.class.now c.args.left c.args.set.now.most (IsInWith c.args.set.now c.args.point false) f)
     (λ f h. up_found c.args.plan.now c.args.class.now c.args.left c.args.point c.args.set.now more f made h)
     c.follow_target-found.ensures.found
-
-pub explore-returns-then-left-eq0-clause-ways : goal.explore-returns-then-left-eq0-clause-ways
-explore-returns-then-left-eq0-clause-ways t c =
-    ok_any c.stopped.result
-    (λ f. Counts c.args.plan.now (of_class c.args.left c.args.class.now c.args.set.now) c.args.count.now c.args.count.now)
-    (λ f. met_none c.args.plan.now (of_class c.args.left c.args.class.now c.args.set.now) c.args.count.now c.args.count.now refl)
-
-pub explore-returns-then-count-eq-LIMIT-clause-ways : goal.explore-returns-then-count-eq-LIMIT-clause-ways
-explore-returns-then-count-eq-LIMIT-clause-ways t c =
-    met_one c.args.plan.now c.args.left c.args.class.now c.args.set.now c.args.count.now (c.args.count.now + 1)
-    (omega (arith, c.if-left-eq0.false)) refl
-
-pub explore-returns-then-decided-clause-ways : goal.explore-returns-then-decided-clause-ways
-explore-returns-then-decided-clause-ways t c =
-    ok_map c.explore_targets.result
-    (λ f. Counts c.args.plan.now (of_row c.args.left c.args.class.now 0 c.args.set.now) (c.args.count.now + 1) c.explore_targets.new.count)
-    (λ f. Counts c.args.plan.now (of_class c.args.left c.args.class.now c.args.set.now) c.args.count.now c.explore_targets.new.count)
-    (λ f h. met_row c.args.plan.now c.args.left c.args.class.now c.args.set.now c.args.count.now (c.args.count.now + 1)
-    c.explore_targets.new.count (omega (arith, c.if-left-eq0.false)) (c.decided.ensures.decided.0 c.if-decided.true) refl h)
-    c.explore_targets.ensures.ways
-
-pub explore-returns-else-decided-clause-ways : goal.explore-returns-else-decided-clause-ways
-explore-returns-else-decided-clause-ways t c =
-    ok_map c.explore_parts.result
-    (λ f. Counts c.args.plan.now (of_parts c.args.left (parts_of c.args.class.now) c.args.set.now) (c.args.count.now + 1)
-    c.explore_parts.new.count)
-    (λ f. Counts c.args.plan.now (of_class c.args.left c.args.class.now c.args.set.now) c.args.count.now c.explore_parts.new.count)
-    (λ f h. met_parts c.args.plan.now c.args.left c.args.class.now c.args.set.now c.args.count.now (c.args.count.now + 1)
-    c.explore_parts.new.count (omega (arith, c.if-left-eq0.false))
-    (λ d. false≢true (sym c.if-decided.false ∙ c.decided.ensures.decided.1 d)) refl h)
-    c.explore_parts.ensures.ways
-
-pub explore_parts-loop-part-init : goal.explore_parts-loop-part-init
-explore_parts-loop-part-init t c = record {
-  few = c.requires.few;
-  ways = met_none c.args.plan.now (of_parts c.args.left (take 0 c.as_slice-part-items.result.now) c.args.set.now) c.args.count.now
-      c.args.count.now refl;
-  arrive = λ k d lt. absurd (omega (arith, lt, length-take 0 c.as_slice-part-items.result.now));
-}
-
-pub explore_parts-returns-in-Stopped-clause-found : goal.explore_parts-returns-in-Stopped-clause-found
-explore_parts-returns-in-Stopped-clause-found t c =
-    let part : IsPart c.args.class.now c.part-item.result =
-    part_of c.args.class.now _ _ c.loop-part.part-index _ c.in_ok-parts.ensures.splits c.as_slice-part-items.ensures
-    c.loop-part-test.true c.part-item.is in
-    part_stop c.args.plan.now c.args.class.now c.part-item.result c.args.left c.args.set.now.most (IsIn c.args.set.now) c.in-Stopped.digits
-    c.in-Stopped.lost part
-    (subst (λ (f : Found). IsFound c.args.plan.now c.part-item.result c.args.left c.args.set.now f) c.in-Stopped.is
-    c.in_ok-digits.ensures.found)
-
-pub explore_parts-returns-in-Stopped-clause-ways : goal.explore_parts-returns-in-Stopped-clause-ways
-explore_parts-returns-in-Stopped-clause-ways t c =
-    met_some c.args.plan.now c.args.left c.as_slice-part-items.result.now (parts_of c.args.class.now) (c.loop-part.part-index + 1)
-    c.args.set.now c.args.count.now c.explore.new.count (c.as_slice-part-items.ensures ∙ c.in_ok-parts.ensures.value)
-    (met_more c.args.plan.now c.args.left c.as_slice-part-items.result.now c.loop-part.part-index c.part-item.result c.args.set.now
-    c.args.count.now c.loop-part.count c.explore.new.count c.loop-part-test.true c.part-item.is c.loop-part.invariant.ways
-    c.in_ok-digits.ensures.ways)
-
-pub explore_parts-returns-in-Wide-clause-ways : goal.explore_parts-returns-in-Wide-clause-ways
-explore_parts-returns-in-Wide-clause-ways t c =
-    met_some c.args.plan.now c.args.left c.as_slice-part-items.result.now (parts_of c.args.class.now) (c.loop-part.part-index + 1)
-    c.args.set.now c.args.count.now c.explore.new.count (c.as_slice-part-items.ensures ∙ c.in_ok-parts.ensures.value)
-    (met_more c.args.plan.now c.args.left c.as_slice-part-items.result.now c.loop-part.part-index c.part-item.result c.args.set.now
-    c.args.count.now c.loop-part.count c.explore.new.count c.loop-part-test.true c.part-item.is c.loop-part.invariant.ways
-    c.in_ok-digits.ensures.ways)
-
-pub explore_parts-returns-clause-ways : goal.explore_parts-returns-clause-ways
-explore_parts-returns-clause-ways t c =
-    met_some c.args.plan.now c.args.left c.as_slice-part-items.result.now (parts_of c.args.class.now) c.loop-part.part-index
-    c.args.set.now c.args.count.now c.loop-part.count (c.as_slice-part-items.ensures ∙ c.in_ok-parts.ensures.value)
-    c.loop-part.invariant.ways
-
-pub explore_targets-returns-in-None-clause-ways : goal.explore_targets-returns-in-None-clause-ways
-explore_targets-returns-in-None-clause-ways t c =
-    ok_any c.stopped.result
-    (λ f. Counts c.args.plan.now (of_row c.args.left c.args.class.now 0 c.args.set.now) c.args.count.now c.args.count.now)
-    (λ f. met_none c.args.plan.now (of_row c.args.left c.args.class.now 0 c.args.set.now) c.args.count.now c.args.count.now refl)
-
-pub follow_row-returns-in-Past-clause-ways : goal.follow_row-returns-in-Past-clause-ways
-follow_row-returns-in-Past-clause-ways t c =
-    ok_any c.stopped.result
-    (λ f. Counts c.args.plan.now (of_row c.args.left c.args.class.now c.args.place c.args.set.now) c.args.count.now c.args.count.now)
-    (λ f. met_none c.args.plan.now (of_row c.args.left c.args.class.now c.args.place c.args.set.now) c.args.count.now c.args.count.now refl)
-
-pub follow_row-returns-in-Lost-clause-ways : goal.follow_row-returns-in-Lost-clause-ways
-follow_row-returns-in-Lost-clause-ways t c =
-    let turn = subst (λ (x : Turn). IsTurn c.args.plan.now c.args.class.now c.args.place c.args.set.now x) c.in-Lost.is
-    c.turn_at.ensures.turn in
-    ok_map c.follow_row.result
-    (λ f. Counts c.args.plan.now (of_row c.args.left c.args.class.now (c.args.place + 1) c.args.set.now) c.args.count.now c.follow_row.new.count)
-    (λ f. Counts c.args.plan.now (of_row c.args.left c.args.class.now c.args.place c.args.set.now) c.args.count.now c.follow_row.new.count)
-    (λ f h. met_passed c.args.plan.now c.args.left c.args.place c.args.class.now c.args.set.now c.args.count.now c.follow_row.new.count turn h)
-    c.follow_row.ensures.ways
-
-pub follow_row-returns-in-Taken-clause-ways : goal.follow_row-returns-in-Taken-clause-ways
-follow_row-returns-in-Taken-clause-ways t c =
-    let turn = subst (λ (x : Turn). IsTurn c.args.plan.now c.args.class.now c.args.place c.args.set.now x) c.in-Taken.is
-    c.turn_at.ensures.turn in
-    ok_map c.follow_target.result
-    (λ f. Counts c.args.plan.now (of_target c.args.left c.args.class.now c.args.place c.args.set.now) c.args.count.now
-    c.follow_target.new.count)
-    (λ f. Counts c.args.plan.now (of_row c.args.left c.args.class.now c.args.place c.args.set.now) c.args.count.now c.follow_target.new.count)
-    (λ f h. met_taken c.args.plan.now c.args.left c.args.place c.args.class.now c.args.set.now c.args.count.now c.follow_target.new.count
-    turn h)
-    c.follow_target.ensures.ways
-
-pub follow_either-returns-in-Stopped-clause-found : goal.follow_either-returns-in-Stopped-clause-found
-follow_either-returns-in-Stopped-clause-found t c =
-    stop_within c.args.plan.now c.args.class.now c.args.left c.args.set.now.most (IsInWith c.args.set.now c.args.point false)
-    (IsIn c.args.set.now) c.in-Stopped.digits c.in-Stopped.lost (λ marks i. i.inside)
-    (subst (λ (f : Found). IsFoundIf c.args.plan.now c.args.class.now c.args.left c.args.set.now.most
-    (IsInWith c.args.set.now c.args.point false) f) c.in-Stopped.is c.in_ok-digits.ensures.found)
-
-pub follow_either-returns-in-Stopped-clause-ways : goal.follow_either-returns-in-Stopped-clause-ways
-follow_either-returns-in-Stopped-clause-ways t c =
-    met_up c.args.plan.now c.args.left c.args.place c.args.point c.args.class.now c.args.set.now c.args.count.now c.follow_up.new.count
-    c.requires.turn c.in_ok-digits.ensures.ways
-
-pub follow_either-returns-in-Wide-clause-ways : goal.follow_either-returns-in-Wide-clause-ways
-follow_either-returns-in-Wide-clause-ways t c =
-    met_up c.args.plan.now c.args.left c.args.place c.args.point c.args.class.now c.args.set.now c.args.count.now c.follow_up.new.count
-    c.requires.turn c.in_ok-digits.ensures.ways
-
-pub follow_either-returns-in_ok-found-in-Through-clause-ways : goal.follow_either-returns-in_ok-found-in-Through-clause-ways
-follow_either-returns-in_ok-found-in-Through-clause-ways t c =
-    met_either c.args.plan.now c.args.left c.args.place c.args.point c.args.class.now c.args.set.now c.args.count.now c.follow_up.new.count
-    c.follow_lost.new.count c.requires.turn c.in_ok-digits.ensures.ways c.in_ok-found-in-Through.ensures.ways
-
-pub follow_target-returns-in_ok-found-in-Next-clause-ways : goal.follow_target-returns-in_ok-found-in-Next-clause-ways
-follow_target-returns-in_ok-found-in-Next-clause-ways t c =
-    met_next c.args.plan.now c.args.left c.args.place c.args.class.now c.in-Next.next c.args.set.now c.args.count.now c.explore.new.count
-    c.in-Next.ensures.image c.in_ok-found-in-Next.ensures.ways
-
-pub follow_target-returns-in-Ends-clause-ways : goal.follow_target-returns-in-Ends-clause-ways
-follow_target-returns-in-Ends-clause-ways t c =
-    ok_any c.end_at.result
-    (λ f. Counts c.args.plan.now (of_target c.args.left c.args.class.now c.args.place c.args.set.now) c.args.count.now c.args.count.now)
-    (λ f. met_none c.args.plan.now (of_target c.args.left c.args.class.now c.args.place c.args.set.now) c.args.count.now c.args.count.now refl)
-
-pub follow_target-returns-in-NotEquipped-clause-ways : goal.follow_target-returns-in-NotEquipped-clause-ways
-follow_target-returns-in-NotEquipped-clause-ways t c =
-    ok_any c.stopped.result
-    (λ f. Counts c.args.plan.now (of_target c.args.left c.args.class.now c.args.place c.args.set.now) c.args.count.now c.args.count.now)
-    (λ f. met_none c.args.plan.now (of_target c.args.left c.args.class.now c.args.place c.args.set.now) c.args.count.now c.args.count.now refl)
-
-pub follow_target-returns-in-TooLong-clause-ways : goal.follow_target-returns-in-TooLong-clause-ways
-follow_target-returns-in-TooLong-clause-ways t c =
-    ok_any c.stopped-in-TooLong.result
-    (λ f. Counts c.args.plan.now (of_target c.args.left c.args.class.now c.args.place c.args.set.now) c.args.count.now c.args.count.now)
-    (λ f. met_none c.args.plan.now (of_target c.args.left c.args.class.now c.args.place c.args.set.now) c.args.count.now c.args.count.now refl)

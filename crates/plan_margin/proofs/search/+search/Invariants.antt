@@ -1,6 +1,5 @@
 use Rattle.std.proofs.Common.{◌+◌, ◌-◌, ◌*◌, ◌<◌, take}
 use Rattle.std.specs.List.{All}
-use Rattle.plan_margin.specs.Ways.{Counts, of_parts}
 use Rattle.plan_margin.specs.Searching.{IsIn, AllArrive, most_ways}
 use Rattle.plan_margin.proofs.search.+search.Given as goal
 
@@ -33,6 +32,5 @@ decreases-follow_target l = 2000 * (l.left + l.class.now.most) + 5 * (256 - l.pl
 abbrev pub invariant-explore_parts-loop-part : goal.invariant-explore_parts-loop-part
 invariant-explore_parts-loop-part l = record {
   few : l.count < most_ways;
-  ways : Counts l.plan (of_parts l.left (take l.part-index l.part-items) l.set) l.fn.count l.count;
   arrive : All (λ part. AllArrive l.plan part l.left l.set.most (IsIn l.set) l.cut) (take l.part-index l.part-items);
 }
