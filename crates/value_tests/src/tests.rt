@@ -1,4 +1,5 @@
 //! Values that no command hands the libraries.
+mod captures;
 mod checks;
 mod lookups;
 mod messages;
