@@ -1,5 +1,5 @@
 -- The plan of each number reaches few classes: its start and, at each relay, the titles of each first digit.
-use Rattle.std.proofs.Common.{◌≡◌, ◌≢◌, ℕ, zero, suc, ◌+◌, ◌*◌, ◌-◌, ◌<◌, ◌≤◌, Bool, true, false, List, [], ◌∷◌, ◌++◌, map, length, Option}
+use Rattle.std.proofs.Common.{◌≡◌, ◌≢◌, ℕ, zero, suc, ◌+◌, ◌*◌, ◌<◌, ◌≤◌, Bool, true, false, List, [], ◌∷◌, map, length, Option}
 use Rattle.std.proofs.Common.{Some, None, refl, sym, ◌∙◌, ap, subst, arith, get_or}
 use Rattle.std.specs.Prelude.{nat_lt, replicate, if◌then◌else◌, ◌&&◌, ◌==◌, slice_get, IsSomeAnd}
 use Rattle.std.specs.Option.{option_and_then, option_map_or}
@@ -14,16 +14,12 @@ use Rattle.std.proofs.lemmas.Map.Made.{IsDistinct-from_AllPairs}
 use Rattle.std.proofs.lemmas.Map.Steps.{length-le_from_distinct_below}
 use Rattle.std.proofs.Math.Dec.{eqb}
 use Rattle.plan_rules.specs.Rule.{Rule}
-use Rattle.plan_rules.specs.declared.target.Target.{Target}
 use Rattle.plan_classes.specs.Classes.{Reachable, Start, Part, Onward, ReachesAtLeast, Decided, start_of, class_row, HasImage, image_at}
 use Rattle.plan_classes.specs.Titles.{Titles, titles, IsMember, spot_of, parts_of, extended}
-use Rattle.plan_classes.specs.declared.leads.Image.{Image}
-use Rattle.plan_classes.specs.declared.leads.Image.TheVariants.{Next, Ends, NotEquipped, TooLong}
-use Rattle.plan_model.specs.Network.{Network, node_of}
+use Rattle.plan_classes.specs.declared.leads.Image.TheVariants.{Next, Ends, NotEquipped}
 use Rattle.plan_model.specs.RowFor.{row_for, row_of as row_in}
-use Rattle.plan_model.specs.declared.cover.Cover.{Cover}
 use Rattle.plan_model.specs.declared.node.Node.{Node}
-use Rattle.made_load.specs.Relays.{selector, end_point, next_relay, onward, row_of, relay_point, relay, relays, cover, load_plan}
+use Rattle.made_load.specs.Relays.{selector, end_point, next_relay, row_of, relay_point, relay, cover, load_plan}
 use Rattle.made_load.proofs.Safe.{at, node_at, place_of, row_at, later, targets_if}
 
 -- ---- the classes
@@ -69,7 +65,8 @@ few cs apart made = omega (arith, length-map cs code, length-le_from_distinct_be
   distinct = IsDistinct-from_AllPairs Decides-eqb (map code cs) (λ i j d lt in' same.
       let jl : j < length cs = omega (arith, in', length-map cs code) in
       let il : i < length cs = omega (arith, lt, jl) in
-      apart i j first_class lt jl (same_code (get_or cs i first_class) (get_or cs j first_class) (made i first_class il) (made j first_class jl)
+      apart i j first_class lt jl (same_code (get_or cs i first_class) (get_or cs j first_class) (made i first_class il)
+      (made j first_class jl)
       (sym (code_at i d il) ∙ same ∙ code_at j d jl)))
 
   below : (q : ℕ) → list_any (eqb q) (map code cs) ≡ true → q < 88
@@ -83,7 +80,8 @@ few cs apart made = omega (arith, length-map cs code, length-le_from_distinct_be
 -- all titles of a relay with one first digit have one row
 row_of_all : (number i d : ℕ) (rest : List ℕ) → i < 8 → d < 10 → row_in (load_plan number) (at i d rest) ≡ Some (row_of number i d)
 unfolding load_plan
-row_of_all number i d rest il dl = ap (option_and_then (λ node. row_for node (at i d rest))) (node_at number i il) ∙ row_at number i d rest dl
+row_of_all number i d rest il dl = ap (option_and_then (λ node. row_for node (at i d rest))) (node_at number i il)
+    ∙ row_at number i d rest dl
 
 decided : (number i d : ℕ) → i < 8 → d < 10 → Decided (load_plan number) (class_at i d)
 decided number i d il dl = λ x y is also.
@@ -119,7 +117,8 @@ undecided number same =
     member ds ten low = record { rest = ds; whole = refl; decimal = low; least = omega (arith, ten); most = omega (arith, ten) }
 
 -- what a class of one first digit leads on to
-next_made : (number i d place : ℕ) (next : Titles) → i < 8 → d < 10 → HasImage (load_plan number) (class_at i d) place (Next next) → IsMade next
+next_made : (number i d place : ℕ) (next : Titles) → i < 8 → d < 10 → HasImage (load_plan number) (class_at i d) place (Next next)
+    → IsMade next
 unfolding load_plan
 next_made number i d place next il dl has = by_row (nat_lt i 7) refl there where
   next_in : {a b : Titles} → Next a ≡ Next b → a ≡ b
@@ -133,7 +132,8 @@ next_made number i d place next il dl has = by_row (nat_lt i 7) refl there where
   images n r = IsSomeAnd n (λ node. IsSomeAnd (slice_get (option_map_or (λ (x : Rule). x.targets) r []) place)
       (λ t. Next next ≡ image_at (load_plan number) node (class_at i d) t))
 
-  there : IsSomeAnd (slice_get (targets_if (nat_lt i 7) number i d) place) (λ t. Next next ≡ image_at (load_plan number) (relay number i) (class_at i d) t)
+  there : IsSomeAnd (slice_get (targets_if (nat_lt i 7) number i d) place)
+      (λ t. Next next ≡ image_at (load_plan number) (relay number i) (class_at i d) t)
   there = subst (λ r. images (Some (relay number i)) r) (row_of_all number i d (replicate 9 0) il dl)
       (subst (λ n. images n (class_row (load_plan number) (class_at i d))) (node_at number i il) has)
 

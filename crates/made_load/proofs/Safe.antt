@@ -1,28 +1,28 @@
 -- The plan of each number is safe: each relay hands a title on to a later one, or straight to its destination.
-use Rattle.std.proofs.Common.{◌≡◌, ◌⊎◌, ℕ, zero, suc, ◌+◌, ◌*◌, ◌%◌, ◌-◌, ◌<◌, ◌≤◌, ◌==◌, ◌&&◌, Bool, true, false, List, [], ◌∷◌, ◌++◌, map, length, Option}
+use Rattle.std.proofs.Common.{◌≡◌, ◌⊎◌, ℕ, zero, suc, ◌+◌, ◌<◌, ◌≤◌, ◌==◌, ◌&&◌, Bool, true, false, List, [], ◌∷◌, ◌++◌}
+use Rattle.std.proofs.Common.{length, Option}
 use Rattle.std.proofs.Common.{Some, None, refl, sym, ◌∙◌, ap, subst, arith, inl, inr}
-use Rattle.std.specs.Prelude.{nat_lt, min, if◌then◌else◌, option_to_list, is_none, slice_get, IsSomeAnd}
-use Rattle.std.specs.List.{All, Contains, range_with_len, slice_index_or}
+use Rattle.std.specs.Prelude.{nat_lt, if◌then◌else◌, option_to_list, is_none, slice_get, IsSomeAnd}
+use Rattle.std.specs.List.{All, Contains, slice_index_or}
 use Rattle.std.proofs.lemmas.Bool.{ltb-true, ne_eqb}
 use Rattle.std.proofs.lemmas.List.Elements.{All-nil, All-cons}
 use Rattle.sccp_base.specs.declared.mark.Mark.{Mark}
-use Rattle.plan_rules.specs.Rule.{Rule, rule}
+use Rattle.plan_rules.specs.Rule.{rule}
 use Rattle.plan_rules.specs.declared.target.Target.{Target}
 use Rattle.plan_model.proofs.Ways.{last-onward}
-use Rattle.plan_model.specs.Covered.{Covers, Covered, IsAllowed}
-use Rattle.plan_model.specs.Network.{Network, node_of}
+use Rattle.plan_model.specs.Covered.{Covers, IsAllowed}
+use Rattle.plan_model.specs.Network.{node_of}
 use Rattle.plan_model.specs.Next.{next_of}
 use Rattle.plan_model.specs.Routes.{onward as follow, route}
 use Rattle.plan_model.specs.RowFor.{row_for}
 use Rattle.plan_model.specs.Steps.{step, step_at, step_by, taken, passed}
 use Rattle.plan_model.specs.Targets.{first_open, closing}
 use Rattle.plan_model.specs.Verdicts.{Safe, last, MayEnd}
-use Rattle.plan_model.specs.declared.cover.Cover.{Cover}
 use Rattle.plan_model.specs.declared.hop.Step.{Step}
-use Rattle.plan_model.specs.declared.hop.Step.TheVariants.{Sent, Ended, Blocked, NoRow, Overgrown}
-use Rattle.plan_model.specs.declared.node.Node.{Node}
+use Rattle.plan_model.specs.declared.hop.Step.TheVariants.{Sent, Ended, NoRow, Overgrown}
 use Rattle.plan_model.specs.declared.spot.Spot.{Spot}
-use Rattle.made_load.specs.Relays.{relay_point, end_point, selector, destination, next_relay, onward, targets, row_of, relay, relays, cover, load_plan}
+use Rattle.made_load.specs.Relays.{relay_point, end_point, selector, destination, next_relay, onward, row_of, relay, relays, cover}
+use Rattle.made_load.specs.Relays.{load_plan}
 
 -- a title with this first digit at a relay
 abbrev pub at : ℕ → ℕ → List ℕ → Spot
@@ -84,8 +84,10 @@ module _ (allowed : ℕ → ℕ → Type 0) (number i d : ℕ) (rest : List ℕ)
     (nine : length rest ≡ 9) (may : allowed (end_point d) 6) where
   arrives : (place : ℕ) → Goes allowed i d rest (taken (load_plan number) (relay number i) (at i d rest) m
       (rule selector None (d ∷ []) []) (Some (place, destination d)))
-  arrives place = inr (subst (λ b. MayEnd allowed (if b && true then NoRow 4 else Ended (end_point d) 6 place)) (sym apart) may,
-      ap (λ b. next_of (if b && true then NoRow 4 else Ended (end_point d) 6 place)) apart)
+  arrives place = inr (
+    subst (λ b. MayEnd allowed (if b && true then NoRow 4 else Ended (end_point d) 6 place)) (sym apart) may,
+    ap (λ b. next_of (if b && true then NoRow 4 else Ended (end_point d) 6 place)) apart,
+  )
     where
       apart : (end_point d == relay_point i) ≡ false
       apart = ne_eqb (end_point d) (relay_point i) (λ e. omega (arith, e))
@@ -93,19 +95,27 @@ module _ (allowed : ℕ → ℕ → Type 0) (number i d : ℕ) (rest : List ℕ)
   passes : i < 7 → Goes allowed i d rest (taken (load_plan number) (relay number i) (at i d rest) m
       (rule selector None (d ∷ []) []) (Some (0, onward (next_relay number i d))))
   unfolding load_plan
-  passes lt = inl (next_relay number i d, (later number i d lt).0, (later number i d lt).1,
-      ap (λ k. passed (record { node = k; selector = selector; ssn = 6; digits = d ∷ rest }) 0) (place_of number (next_relay number i d) (later number i d lt).1)
-      ∙ ap (λ n. if nat_lt 32 (suc n) then Overgrown else Sent (at (next_relay number i d) d rest) 0) nine)
+  passes lt = inl (
+    next_relay number i d,
+    (later number i d lt).0,
+    (later number i d lt).1,
+    ap (λ k. passed (record { node = k; selector = selector; ssn = 6; digits = d ∷ rest }) 0)
+        (place_of number (next_relay number i d) (later number i d lt).1)
+        ∙ ap (λ n. if nat_lt 32 (suc n) then Overgrown else Sent (at (next_relay number i d) d rest) 0) nine,
+  )
 
   goes_if : (hands : Bool) → nat_lt i 7 ≡ hands → Goes allowed i d rest (taken_if hands number i d rest m)
-  goes_if true e = by (is_none (closing (relay number i) 6 m (onward (next_relay number i d)))) (is_none (closing (relay number i) 6 m (destination d))) where
-    by : (b c : Bool) → Goes allowed i d rest (taken (load_plan number) (relay number i) (at i d rest) m (rule selector None (d ∷ []) (targets_if true number i d))
-        (if b then Some (0, onward (next_relay number i d)) else (if c then Some (1, destination d) else None)))
-    by true c = passes (ltb-true i 7 e)
-    by false true = arrives 1
-    by false false = inr (tt, refl)
+  goes_if true e = by (is_none (closing (relay number i) 6 m (onward (next_relay number i d))))
+      (is_none (closing (relay number i) 6 m (destination d))) where
+        by : (b c : Bool) → Goes allowed i d rest (taken (load_plan number) (relay number i) (at i d rest) m
+            (rule selector None (d ∷ []) (targets_if true number i d))
+            (if b then Some (0, onward (next_relay number i d)) else (if c then Some (1, destination d) else None)))
+        by true c = passes (ltb-true i 7 e)
+        by false true = arrives 1
+        by false false = inr (tt, refl)
   goes_if false e = by (is_none (closing (relay number i) 6 m (destination d))) where
-    by : (c : Bool) → Goes allowed i d rest (taken (load_plan number) (relay number i) (at i d rest) m (rule selector None (d ∷ []) (targets_if false number i d))
+    by : (c : Bool) → Goes allowed i d rest (taken (load_plan number) (relay number i) (at i d rest) m
+        (rule selector None (d ∷ []) (targets_if false number i d))
         (if c then Some (0, destination d) else None))
     by true = arrives 0
     by false = inr (tt, refl)
@@ -132,11 +142,14 @@ ends allowed number d rest digit nine may (suc n) i (m ∷ ms) inner enough long
     by : ((j : ℕ) → i < j → j < 8 → IsSomeAnd (last (route (load_plan number) (at j d rest) ms)) (MayEnd allowed))
         → Goes allowed i d rest s → IsSomeAnd (last (route (load_plan number) (at i d rest) (m ∷ ms))) (MayEnd allowed)
     by onward (inl (j, more, fits, is)) =
-        subst (λ (o : Option Spot). IsSomeAnd (last (record { spot = at i d rest; step = s } ∷ follow o (λ next. route (load_plan number) next ms)))
+        subst (λ (o : Option Spot). IsSomeAnd (last (record { spot = at i d rest; step = s }
+        ∷ follow o (λ next. route (load_plan number) next ms)))
         (MayEnd allowed)) (sym (ap next_of is))
-        (last-onward (record { spot = at i d rest; step = s }) (route (load_plan number) (at j d rest) ms) (MayEnd allowed) (onward j more fits))
+        (last-onward (record { spot = at i d rest; step = s }) (route (load_plan number) (at j d rest) ms) (MayEnd allowed)
+        (onward j more fits))
     by onward (inr (well, none)) =
-        subst (λ (o : Option Spot). IsSomeAnd (last (record { spot = at i d rest; step = s } ∷ follow o (λ next. route (load_plan number) next ms)))
+        subst (λ (o : Option Spot). IsSomeAnd (last (record { spot = at i d rest; step = s }
+        ∷ follow o (λ next. route (load_plan number) next ms)))
         (MayEnd allowed)) (sym none) well
 
 -- the destinations are allowed
