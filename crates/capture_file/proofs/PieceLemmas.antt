@@ -5,27 +5,30 @@ use Rattle.std.proofs.lemmas.List.{append-nil, length-take, length-drop, take_al
 use Rattle.std.proofs.lemmas.List.{drop_all, take-append-le, drop-append-le}
 use Rattle.capture_file.specs.Packets.{Captured, with_front}
 use Rattle.capture_file.specs.Units.{At, Takes, Needs, Fails, unit}
+use Rattle.capture_file.specs.Steps.{step_at}
 use Rattle.capture_file.specs.Told.{told_of}
 use Rattle.std.specs.Prelude.{IfNone}
 use Rattle.capture_file.specs.Standings.{GoesOn, Ends, TakesPiece, IsStanding, midway, left}
 use Rattle.capture_file.specs.declared.file_fault.FileFault.{FileFault}
 use Rattle.capture_file.proofs.UnitLemmas.{unit-nothing}
-use Rattle.capture_file.proofs.ToldLemmas.{with_front-twice, told-needs, told-takes-more, told-fails-more}
+use Rattle.capture_file.proofs.ToldLemmas.{with_front-twice, told-needs, told-fails-more}
+use Rattle.capture_file.proofs.StepLemmas.{step-takes, step-needs, step-fails}
 
 -- a unit more was read
 pub going-read : (front : List Captured) (at : At) (place : ℕ) (b : List ℕ) (packets now : List Captured) (at' : At) (place' : ℕ)
     (b' : List ℕ)
-    (read : List Captured) (used : ℕ) (after : At) (m : ℕ)
-    → GoesOn front at place b packets at' place' b' → unit at' place' b' ≡ Takes read used after → length b' ≤ used + m
-    → now ≡ packets ++ read
-    → GoesOn front at place b now after (place' + used) (take m (drop used b'))
-going-read front at place b packets now at' place' b' read used after m going e all is = λ whole more.
+    (read : List Captured) (used : ℕ) (after now_at : At) (m : ℕ)
+    → GoesOn front at place b packets at' place' b' → step_at at' place' b' ≡ Takes read used after → length b' ≤ used + m
+    → now ≡ packets ++ read → now_at ≡ after
+    → GoesOn front at place b now now_at (place' + used) (take m (drop used b'))
+going-read front at place b packets now at' place' b' read used after now_at m going e all is is_at = λ whole more.
     let told = told_of whole after (place' + used) (drop used b' ++ more) in
-    going whole more ∙ ap (with_front packets) (told-takes-more whole at' place' b' more read used after e)
+    going whole more ∙ ap (with_front packets) (step-takes whole at' place' b' more read used after e)
     ∙ with_front-twice packets read told
     ∙ ap (λ l. with_front l told) (sym is)
     ∙ ap (λ l. with_front now (told_of whole after (place' + used) (l ++ more)))
     (sym (take_all m (drop used b') (omega (arith, length-drop used b'))))
+    ∙ ap (λ a. with_front now (told_of whole a (place' + used) (take m (drop used b') ++ more))) (sym is_at)
 
 pub room-read : (b : List ℕ) (m used place most : ℕ) → used ≤ length b → place + length b < most
     → place + used + length (take m (drop used b)) < most
@@ -64,22 +67,22 @@ goes-same front at place b packets at' place' b' c going same = λ whole more.
     going whole more ∙ ap (λ l. with_front packets (told_of whole at' place' (l ++ more))) (sym same)
 
 pub takes-needs : (at : At) (place : ℕ) (kept piece : List ℕ) (packets : List Captured) (at' : At) (place' : ℕ) (b now : List ℕ)
-    → GoesOn [] at place (kept ++ piece) packets at' place' b → unit at' place' b ≡ Needs → now ≡ b
+    → GoesOn [] at place (kept ++ piece) packets at' place' b → step_at at' place' b ≡ Needs → now ≡ b
     → TakesPiece at place kept piece packets (midway at' place' now None)
 takes-needs at place kept piece packets at' place' b now going e is = record {
   told = λ whole more. ap (told_of whole at place) (sym (append_assoc kept piece more)) ∙ going whole more
       ∙ ap (λ l. with_front packets (told_of whole at' place' (l ++ more))) (sym is);
-  settled = ap (told_of false at' place') (append-nil now ∙ is) ∙ told-needs false at' place' b e;
+  settled = ap (told_of false at' place') (append-nil now ∙ is) ∙ told-needs false at' place' b (step-needs at' place' b e);
 }
 
 pub takes-fails : (at : At) (place : ℕ) (kept piece : List ℕ) (packets : List Captured) (at' : At) (place' : ℕ) (b rest now : List ℕ)
     (fault : FileFault)
-    → GoesOn [] at place (kept ++ piece) packets at' place' (b ++ rest) → unit at' place' b ≡ Fails fault
+    → GoesOn [] at place (kept ++ piece) packets at' place' (b ++ rest) → step_at at' place' b ≡ Fails fault
     → TakesPiece at place kept piece packets (midway at' place' now (Some fault))
 takes-fails at place kept piece packets at' place' b rest now fault going e = record {
   told = λ whole more. ap (told_of whole at place) (sym (append_assoc kept piece more)) ∙ going whole more
       ∙ ap (λ l. with_front packets (told_of whole at' place' l)) (append_assoc b rest more)
-      ∙ ap (with_front packets) (told-fails-more whole at' place' b (rest ++ more) fault e);
+      ∙ ap (with_front packets) (told-fails-more whole at' place' b (rest ++ more) fault (step-fails at' place' b fault e));
   settled = refl;
 }
 
@@ -103,7 +106,7 @@ pub stands-ends : (at : At) (place : ℕ) (b now : List ℕ) (fault : Option Fil
     → IfNone fault (length b ≤ 262172) → now ≡ left fault b → IsStanding (midway at place now fault)
 stands-ends at place b now None ends short is = record {
   short = omega (arith, ap length is, short);
-  unfinished = ap (unit at place) is ∙ ends;
+  unfinished = ap (unit at place) is ∙ step-needs at place b ends;
 }
 stands-ends at place b now (Some fault) ends short is = stands-nothing at place now fault is
 
@@ -118,19 +121,37 @@ goes-further at place b packets at' place' taken kept rest now at'' place'' b'' 
 -- ---- a unit of what is kept
 
 pub going-joined : (front : List Captured) (at : At) (place : ℕ) (b : List ℕ) (packets now : List Captured) (at' : At) (place' : ℕ)
-    (before kept rest c : List ℕ) (taken : ℕ) (read : List Captured) (used : ℕ) (after : At)
-    → GoesOn front at place b packets at' place' before → drop taken kept ++ rest ≡ before → unit at' place' c ≡ Takes read used after
-    → c ≡ drop taken kept → now ≡ packets ++ read → GoesOn front at place b now after (place' + used) (drop (taken + used) kept ++ rest)
-going-joined front at place b packets now at' place' before kept rest c taken read used after going same e here is = λ whole more.
+    (before kept rest c : List ℕ) (taken : ℕ) (read : List Captured) (used : ℕ) (after now_at : At)
+    → GoesOn front at place b packets at' place' before → drop taken kept ++ rest ≡ before → step_at at' place' c ≡ Takes read used after
+    → c ≡ drop taken kept → now ≡ packets ++ read → now_at ≡ after
+    → GoesOn front at place b now now_at (place' + used) (drop (taken + used) kept ++ rest)
+going-joined front at place b packets now at' place' before kept rest c taken read used after now_at going same e here is is_at =
+    λ whole more.
     let told = told_of whole after (place' + used) (drop used (drop taken kept) ++ (rest ++ more)) in
     going whole more ∙ ap (λ l. with_front packets (told_of whole at' place' (l ++ more))) (sym same)
     ∙ ap (λ l. with_front packets (told_of whole at' place' l)) (append_assoc (drop taken kept) rest more)
-    ∙ ap (with_front packets) (told-takes-more whole at' place' (drop taken kept) (rest ++ more) read used after
-    (ap (unit at' place') (sym here) ∙ e))
+    ∙ ap (with_front packets)
+    (step-takes whole at' place' (drop taken kept) (rest ++ more) read used after (ap (step_at at' place') (sym here) ∙ e))
     ∙ with_front-twice packets read told
     ∙ ap (λ l. with_front l told) (sym is)
     ∙ ap (λ l. with_front now (told_of whole after (place' + used) l))
     (sym (append_assoc (drop used (drop taken kept)) rest more) ∙ ap (λ l. l ++ rest ++ more) (drop-drop used taken kept))
+    ∙ ap (λ a. with_front now (told_of whole a (place' + used) (drop (taken + used) kept ++ rest ++ more))) (sym is_at)
+
+-- the step at what is kept
+pub kept-needs : (at : At) (place : ℕ) (c kept : List ℕ) → c ≡ kept → Needs ≡ step_at at place c → step_at at place kept ≡ Needs
+kept-needs at place c kept here e = ap (step_at at place) (sym here) ∙ sym e
+
+pub stands-unfinished : (at : At) (place : ℕ) (c kept now : List ℕ) (asked : ℕ) → c ≡ kept → Needs ≡ step_at at place c
+    → (length c < asked) × (asked ≤ 262172) → now ≡ kept → IsStanding (midway at place now None)
+stands-unfinished at place c kept now asked here e le is = record {
+  short = omega (arith, ap length is, ap length here, le.0, le.1);
+  unfinished = ap (unit at place) is ∙ step-needs at place kept (kept-needs at place c kept here e);
+}
+
+pub kept-fails : (at : At) (place : ℕ) (c kept : List ℕ) (fault : FileFault) → c ≡ kept → Fails fault ≡ step_at at place c
+    → step_at at place kept ≡ Fails fault
+kept-fails at place c kept fault here e = ap (step_at at place) (sym here) ∙ sym e
 
 pub front-twice : (first kept now : List ℕ) → take (length kept) now ≡ kept → take (length first) kept ≡ first
     → take (length first) now ≡ first

@@ -2,6 +2,7 @@
 pub mod Numbers
 pub mod Packets
 pub mod Units
+pub mod Steps
 pub mod Told
 pub mod Views
 pub mod Standings

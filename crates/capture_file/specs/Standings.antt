@@ -3,6 +3,7 @@ use Rattle.std.specs.Prelude.{◌≡◌, ℕ, ◌≤◌, Bool, false, List, [], 
 use Rattle.std.specs.Option.{MatchOption}
 use Rattle.capture_file.specs.Packets.{Captured, Told, only, with_front}
 use Rattle.capture_file.specs.Units.{At, FileStart, Needs, Fails, unit}
+use Rattle.capture_file.specs.Steps.{step_at}
 use Rattle.capture_file.specs.Told.{told_of, told}
 use Rattle.capture_file.specs.declared.file_fault.FileFault.{FileFault}
 
@@ -47,9 +48,9 @@ abbrev pub GoesOn : List Captured → At → ℕ → List ℕ → List Captured 
 GoesOn packets at place b packets' at' place' b' = (whole : Bool) (more : List ℕ)
     → with_front packets (told_of whole at place (b ++ more)) ≡ with_front packets' (told_of whole at' place' (b' ++ more))
 
--- no further unit is whole, or the next one cannot be read
+-- no more can be taken, or the next unit cannot be read
 abbrev pub Ends : Option FileFault → At → ℕ → List ℕ → Type 0
-Ends fault at place b = MatchOption fault (unit at place b ≡ Needs) (λ f. unit at place b ≡ Fails f)
+Ends fault at place b = MatchOption fault (step_at at place b ≡ Needs) (λ f. step_at at place b ≡ Fails f)
 
 -- what is kept of the rest of a piece
 abbrev pub left : Option FileFault → List ℕ → List ℕ

@@ -1,12 +1,12 @@
 -- What is reported of the octets of a capture file.
 use Rattle.std.specs.Prelude.{ℕ, zero, suc, ◌+◌, Bool, not, ◌&&◌, if◌then◌else◌, List, length, drop, Some, None}
 use Rattle.capture_file.specs.Packets.{Told, only, with_front}
-use Rattle.capture_file.specs.Units.{At, FileStart, Step, Takes, Needs, Fails, unit, is_end}
+use Rattle.capture_file.specs.Units.{At, FileStart, Step, Takes, Needs, Fails, unit, is_end, began}
 use Rattle.capture_file.specs.declared.file_fault.FileFault.TheVariants.{Cut}
 
 -- No further unit is whole. If these octets are the rest of the whole file, then it is cut off, unless it may end here.
 abbrev pub ending : Bool → At → ℕ → List ℕ → Told
-ending whole at place b = only (if whole && not (is_end at b) then Some (Cut place) else None)
+ending whole at place b = only (if whole && not (is_end at b) then Some (Cut (began at place)) else None)
 
 abbrev pub told_by : (At → ℕ → List ℕ → Told) → Bool → At → ℕ → List ℕ → Step → Told
 told_by next whole at place b (Takes packets used after) = with_front packets (next after (place + used) (drop used b))

@@ -33,6 +33,7 @@ pub fn put_lent<'a>(packets: &mut Vec<Held<'a>>, content: Content<'a>) -> Result
                 octets: PacketOctets::Lent(octets),
             }))?;
         }
+        Content::Missing(why) => packets.push(Held::OfBad(why))?,
     }
     Ok(())
 }
@@ -55,6 +56,7 @@ pub fn put_joined<'a>(
                 octets: PacketOctets::Joined(copy),
             }))?;
         }
+        Content::Missing(why) => packets.push(Held::OfBad(why))?,
     }
     Ok(())
 }

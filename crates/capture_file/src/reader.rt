@@ -9,7 +9,9 @@ ghost use Rattle.capture_file.specs.Views.{told_as};
 use crate::expected::Expected;
 use crate::fed::Fed;
 use crate::file_fault::FileFault;
+use crate::order::Order;
 use crate::pieces::{ending, take_piece};
+use crate::section::Section;
 use sccp_base::{List as Packets, OutOfMemory};
 use std::alloc::Global;
 use std::marker::Model;
@@ -19,6 +21,7 @@ use std::marker::Model;
 #[derive(Drop)]
 pub struct Reader {
     alloc: Global,
+    section: Section,
     expected: Expected,
     place: u64,
     kept: Vec<u8>,
@@ -32,10 +35,11 @@ impl Model for Reader {
 
     ghost Value = { Standing };
 
-    ghost view = { λ r. record { at = at_of r.expected; place = r.place; kept = r.kept.items; fault = r.fault; at_end = r.at_end } };
+    ghost view = { λ r. record
+        { at = at_of r.expected r.section; place = r.place; kept = r.kept.items; fault = r.fault; at_end = r.at_end } };
 
     ghost invariant = { λ r. IsStanding
-        (record { at = at_of r.expected; place = r.place; kept = r.kept.items; fault = r.fault; at_end = r.at_end }) };
+        (record { at = at_of r.expected r.section; place = r.place; kept = r.kept.items; fault = r.fault; at_end = r.at_end }) };
 }
 
 impl Reader {
@@ -44,11 +48,13 @@ impl Reader {
         ensures start { result ≡ beginning }
         ensures file { HasRead result [] }
     {
+        let kept = Vec::new(alloc);
         Reader {
             alloc,
+            section: Section::new(alloc, Order::Big),
             expected: Expected::Heading,
             place: 0,
-            kept: Vec::new(alloc),
+            kept,
             fault: None,
             at_end: false,
         }
@@ -83,9 +89,18 @@ impl Reader {
         if !has_room(self.place, self.kept.len(), piece.len()) {
             return Err(OutOfMemory);
         }
+        let mut section = self.section.copy(self.alloc)?;
         let before = self.kept.len();
-        match take_piece(self.alloc, self.expected, self.place, &mut self.kept, piece) {
+        match take_piece(
+            self.alloc,
+            &mut section,
+            self.expected,
+            self.place,
+            &mut self.kept,
+            piece,
+        ) {
             Ok(taken) => {
+                self.section = section;
                 self.expected = taken.expected;
                 self.place = taken.place;
                 self.fault = taken.fault;
@@ -118,7 +133,12 @@ impl Reader {
             self.at_end = true;
             return self.fault;
         }
-        self.fault = ending(self.expected, self.place, self.kept.is_empty());
+        self.fault = ending(
+            self.expected,
+            &self.section,
+            self.place,
+            self.kept.is_empty(),
+        );
         self.at_end = true;
         self.fault
     }

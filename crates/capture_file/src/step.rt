@@ -1,19 +1,32 @@
 //! One unit of a capture file, as it is read from the octets that are there.
 use crate::expected::Expected;
 use crate::file_fault::FileFault;
+use crate::held::BadPacket;
+use crate::order::Order;
 
-/// The packet in a unit: its link type, the length that it had before it was captured, and its captured octets.
+/// The packet in a unit: its link type, the length that it had before it was captured, and its captured octets; or why a
+/// block has none.
 #[derive(Clone, Copy)]
 pub enum Content<'a> {
     NoPacket,
     Whole(u16, u32, &'a [u8]),
+    Missing(BadPacket),
 }
 
-/// A whole unit: what is in it, the number of its octets, and what is read after it.
+/// What a unit changes of the section: it begins a new one, or describes one interface more by its link type and snap length.
+#[derive(Clone, Copy)]
+pub enum Change {
+    Stays,
+    NewSection(Order),
+    NewInterface(u16, u32),
+}
+
+/// A whole unit: what is in it, the number of its octets, what it changes, and what is read after it.
 #[derive(Clone, Copy)]
 pub struct UnitRead<'a> {
     pub content: Content<'a>,
     pub used: usize,
+    pub change: Change,
     pub next: Expected,
 }
 

@@ -1,5 +1,5 @@
 -- What a marking must hold, and what it must not.
-use Rattle.std.specs.Prelude.{◌≡◌, Bool, true, not, ◌&&◌, List, [], ◌++◌}
+use Rattle.std.specs.Prelude.{◌≡◌, Bool, true, false, not, ◌&&◌, List, [], ◌++◌}
 use Rattle.std.specs.List.{list_all, list_any}
 use Rattle.sccp_base.specs.Marks.{holds, IsMarking}
 use Rattle.sccp_base.specs.declared.mark.Mark.{Mark}
@@ -31,3 +31,9 @@ always = condition [] []
 -- both conditions together
 abbrev pub both : Condition → Condition → Condition
 both c d = condition (c.one_of ++ d.one_of) (c.none_of ++ d.none_of)
+
+-- A marking that holds a mark of each of these lists, and none of those that must be free. Each list has a mark that may be held.
+pub record HoldsOneOf (marking : List Mark) (lists : List (List Mark)) (none_of : List Mark) : Type 0 where
+  pub each : list_all (held marking) lists ≡ true
+  pub free : held marking none_of ≡ false
+  pub allowed : list_all (λ marks. list_any (λ mark. not (holds none_of mark)) marks) lists ≡ true

@@ -1,7 +1,10 @@
 -- What becomes of octets at a node over all markings, each outcome with the condition under which it is the one.
-use Rattle.std.specs.Prelude.{ℕ, Bool, ◌&&◌, ◌==◌, not, if◌then◌else◌, List, [], ◌∷◌, map, Option, Some, None, Result, Ok, Err}
+use Rattle.std.specs.Prelude.{◌≡◌, true, option_map, ℕ, Bool, ◌&&◌, ◌==◌, not, if◌then◌else◌, List, [], ◌∷◌, map, Option, Some, None}
+use Rattle.std.specs.Prelude.{Result, Ok, Err}
 use Rattle.std.specs.List.{list_any}
+use Rattle.sccp_base.specs.declared.mark.Mark.{Mark}
 use Rattle.sccp_base.specs.declared.mark.Mark.TheVariants.{Subsystem}
+use Rattle.sccp_base.specs.Marks as base
 use Rattle.sccp_address.specs.declared.address.Address.{Address}
 use Rattle.sccp_message.specs.declared.message.Message.{Message}
 use Rattle.sccp_message.specs.declared.fault.DecodeFault.{DecodeFault}
@@ -9,12 +12,15 @@ use Rattle.sccp_message.specs.Reading.{reading}
 use Rattle.sccp_message.specs.Unitdata.{called_of, hops_of}
 use Rattle.plan_model.specs.declared.spot.Spot.{Spot}
 use Rattle.plan_model.specs.Network.{Network}
-use Rattle.sccp_scrc.specs.Arriving.{after_step, at_subsystem, is_last_hop, point_of, subsystems_of}
+use Rattle.sccp_scrc.specs.Arriving.{arrival, after_step, at_subsystem, is_last_hop, point_of, subsystems_of}
 use Rattle.sccp_scrc.specs.Returning.{returned}
 use Rattle.sccp_scrc.specs.Rewriting.{spot_of}
 use Rattle.sccp_scrc.specs.declared.arrival.Arrival.{Arrival}
-use Rattle.sccp_scrc.specs.declared.arrival.Arrival.TheVariants.{Local, Connection, Undecodable}
-use Rattle.relay_ways.specs.Conditions.{condition, always}
+use Rattle.sccp_scrc.specs.declared.arrival.Arrival.TheVariants.{Relayed, Ended, Local, Returned, Connection, Management, Undecodable}
+use Rattle.sccp_scrc.specs.declared.service.Service.{Service}
+use Rattle.sccp_scrc.specs.declared.way.Way.{Way}
+use Rattle.sccp_scrc.specs.declared.way.Way.TheVariants.{Direct, Shut, ByTitle}
+use Rattle.relay_ways.specs.Conditions.{condition, always, meets}
 use Rattle.relay_ways.specs.Turns.{Turn, turns_of}
 use Rattle.relay_ways.specs.declared.condition.Condition.{Condition}
 
@@ -69,3 +75,30 @@ outcomes_of plan node origin (Ok m) = by_address plan node origin m (called_of m
 -- what becomes of octets that arrive from an origin at a node, over all markings; some of the conditions no marking meets
 abbrev pub outcomes : Network → ℕ → ℕ → List ℕ → List Outcome
 outcomes plan node origin b = outcomes_of plan node origin (reading b)
+
+-- the conditions of outcomes
+abbrev pub outcome_conditions : List Outcome → List Condition
+outcome_conditions os = map (λ o. o.condition) os
+
+-- a way that is shut, as if it were not
+abbrev pub cleared_way : Way → Way
+cleared_way (Direct pc) = Direct pc
+cleared_way (Shut mark) = Direct (base.point_of mark)
+cleared_way ByTitle = ByTitle
+
+abbrev pub cleared_service : Service → Service
+cleared_service s = record { octets = s.octets; way = cleared_way s.way }
+
+-- an arrival without its marks and with no way back shut
+abbrev pub cleared : Arrival → Arrival
+cleared (Relayed pc octets) = Relayed pc octets
+cleared (Ended pc ssn octets) = Ended pc ssn octets
+cleared (Local ssn m) = Local ssn m
+cleared (Returned cause marks service) = Returned cause [] (option_map cleared_service service)
+cleared (Connection m) = Connection m
+cleared (Management m) = Management m
+cleared (Undecodable fault) = Undecodable fault
+
+-- if the marking meets the outcome's condition, it is what becomes of the octets
+abbrev pub Becomes : Network → ℕ → ℕ → List ℕ → List Mark → Outcome → Type 0
+Becomes plan node origin b marking o = meets marking o.condition ≡ true → cleared (arrival plan node marking origin b) ≡ o.arrival

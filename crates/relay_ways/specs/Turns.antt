@@ -1,5 +1,5 @@
 -- The steps of a spot over all markings, each with the condition under which it is made.
-use Rattle.std.specs.Prelude.{◌≡◌, ◌≤◌, ◌+◌, ℕ, true, length, IsSomeAnd, List, [], ◌∷◌, ◌++◌, Option, Some, None, slice_get}
+use Rattle.std.specs.Prelude.{◌≡◌, ◌≤◌, ◌+◌, ℕ, true, length, IsSomeAnd, List, [], ◌∷◌, ◌++◌, map, Option, Some, None, slice_get}
 use Rattle.std.specs.Option.{option_map_or}
 use Rattle.sccp_base.specs.declared.mark.Mark.{Mark}
 use Rattle.plan_rules.specs.declared.target.Target.{Target}
@@ -68,3 +68,7 @@ HasTarget (Some r) = 1 ≤ length r.targets
 -- the spot is at a node of the plan, whose row for it, if there is one, has a target
 abbrev pub HasRow : Network → Spot → Type 0
 HasRow plan spot = IsSomeAnd (slice_get plan.nodes spot.node) (λ node. HasTarget (row_for node spot))
+
+-- the conditions of turns
+abbrev pub turn_conditions : List Turn → List Condition
+turn_conditions turns = map (λ t. t.condition) turns

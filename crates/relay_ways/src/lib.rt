@@ -6,10 +6,18 @@
 //! over all markings, the ways are what the node sends, and the conditions are exactly those under which it sends a message.
 #![tactic(auto)]
 
+mod alike;
+mod all_ways;
 mod condition;
+mod explaining;
 mod laws;
+mod outcomes;
+mod turns;
 mod way;
 
+pub use alike::is_alike;
+pub use all_ways::ways;
 pub use condition::Condition;
+pub use explaining::explain;
 pub use laws::turns_are_steps;
 pub use way::{Sending, Way};

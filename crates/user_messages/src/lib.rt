@@ -10,7 +10,6 @@ mod laws;
 mod place;
 mod run;
 
-pub use fragment::Fragment;
 pub use given::Given;
 pub use key::Key;
 pub use laws::{

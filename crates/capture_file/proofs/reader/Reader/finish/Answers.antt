@@ -20,7 +20,8 @@ returns-then-is_some-clause-file c =
 
 pub returns-clause-exact : goal.returns-clause-exact
 returns-clause-exact c =
-    let e : ahead c.args.self.now true [] ≡ ending true (at_of c.self.inside.expected) c.self.inside.place c.self.inside.kept.items =
+    let e : ahead c.args.self.now true []
+    ≡ ending true (at_of c.self.inside.expected c.self.inside.section) c.self.inside.place c.self.inside.kept.items =
     rw (← c.self.view_is) (ahead-ends c.self.inside.fault _ c.if-self.false c.if-is_some.ensures c.self.invariant.unfinished) in
     let size : vec_len c.self.inside.kept ≡ length c.self.inside.kept.items = omega (arith, c.self.inside.kept.ok.0) in
     let empty : c.is_empty.result ≡ (length c.self.inside.kept.items == 0) = c.is_empty.ensures ∙ ap (λ n. n == 0) size in
@@ -28,7 +29,8 @@ returns-clause-exact c =
 
 pub returns-clause-file : goal.returns-clause-file
 returns-clause-file c =
-    let e : ahead c.args.self.now true [] ≡ ending true (at_of c.self.inside.expected) c.self.inside.place c.self.inside.kept.items =
+    let e : ahead c.args.self.now true []
+    ≡ ending true (at_of c.self.inside.expected c.self.inside.section) c.self.inside.place c.self.inside.kept.items =
     rw (← c.self.view_is) (ahead-ends c.self.inside.fault _ c.if-self.false c.if-is_some.ensures c.self.invariant.unfinished) in
     let size : vec_len c.self.inside.kept ≡ length c.self.inside.kept.items = omega (arith, c.self.inside.kept.ok.0) in
     let empty : c.is_empty.result ≡ (length c.self.inside.kept.items == 0) = c.is_empty.ensures ∙ ap (λ n. n == 0) size in
