@@ -1,12 +1,13 @@
 -- Worked packets, computed on the definitions. Each carries the chunk `one`, or shows what keeps a packet from carrying it.
 use Rattle.std.specs.Prelude.{◌≡◌, ℕ, ◌++◌, true, false, List, [], ◌∷◌}
 use Rattle.std.proofs.Common.{refl}
-use Rattle.packet_layers.specs.declared.layer.Layer.TheVariants.{Ethernet, Ip, Ipv6, Mtp2}
-use Rattle.packet_layers.specs.declared.fault.Fault.TheVariants.{Link, Short, Fragment}
+use Rattle.packet_layers.specs.declared.layer.Layer.TheVariants.{Ethernet, M2pa, Ip, Ipv6, Mtp2}
+use Rattle.packet_layers.specs.declared.fault.Fault.TheVariants.{Link, Short, Bad, Fragment}
 use Rattle.packet_layers.specs.declared.chunk_fault.ChunkFault.TheVariants as chunks
 use Rattle.packet_layers.specs.Values.{DataChunk, Chunk, BadChunk, Signal, Bare, Unread, Other}
 use Rattle.packet_layers.specs.Layers.{found_in, ethernet, cooked, cooked_2, raw, ip, is_ip, ip_size, ipv6, ipv6_size}
 use Rattle.packet_layers.specs.Layers.{after_extensions, extension, is_extension, extension_size, is_fragment, fragment, by_type}
+use Rattle.packet_layers.specs.Layers.{by_family, loopback, loopback_2, m2pa, is_m2pa}
 use Rattle.packet_layers.specs.Layers.{is_tag, sctp, chunks_from, chunk_size, chunk_of, mtp2, mtp3, unit_of, sccp, whole_mtp3}
 
 -- ---- parts of packets
@@ -143,6 +144,40 @@ cut-chunk = refl
 no-chunk-captured : found_in 248 36 common ≡ BadChunk 1 chunks.Short ∷ []
 unfolding found_in sctp chunks_from chunk_size
 no-chunk-captured = refl
+
+-- ---- loopback
+
+-- captured on a machine with the least significant octet first, and on one with the most significant
+on-loopback : found_in 0 60 ((2 ∷ 0 ∷ 0 ∷ 0 ∷ []) ++ v4 56 0 132 ++ common ++ chunk) ≡ Chunk 1 one ∷ []
+unfolding found_in loopback by_family ip is_ip ip_size sctp chunks_from chunk_size chunk_of
+on-loopback = refl
+
+on-loopback-big : found_in 0 60 ((0 ∷ 0 ∷ 0 ∷ 2 ∷ []) ++ v4 56 0 132 ++ common ++ chunk) ≡ Chunk 1 one ∷ []
+unfolding found_in loopback by_family ip is_ip ip_size sctp chunks_from chunk_size chunk_of
+on-loopback-big = refl
+
+on-loopback-2 : found_in 108 80 ((0 ∷ 0 ∷ 0 ∷ 30 ∷ []) ++ v6 36 132 ++ common ++ chunk) ≡ Chunk 1 one ∷ []
+unfolding found_in loopback_2 by_family ipv6 ipv6_size after_extensions sctp chunks_from chunk_size chunk_of
+on-loopback-2 = refl
+
+-- ---- M2PA
+
+user-data : m2pa ((1 ∷ 0 ∷ 11 ∷ 1 ∷ 0 ∷ 0 ∷ 0 ∷ 23 ∷ 0 ∷ 0 ∷ 0 ∷ 7 ∷ 0 ∷ 0 ∷ 0 ∷ 8 ∷ []) ++ 0 ∷ 0x83 ∷ 0x02 ∷ 0x48 ∷ 0x00 ∷ 0x52 ∷ 9 ∷ [])
+    ≡ Signal (record { origin = 2049; destination = 2050; service = 3; payload = 9 ∷ [] })
+unfolding m2pa is_m2pa mtp3
+user-data = refl
+
+acknowledgement : m2pa (1 ∷ 0 ∷ 11 ∷ 1 ∷ 0 ∷ 0 ∷ 0 ∷ 16 ∷ 0 ∷ 0 ∷ 0 ∷ 7 ∷ 0 ∷ 0 ∷ 0 ∷ 8 ∷ []) ≡ Other
+unfolding m2pa is_m2pa
+acknowledgement = refl
+
+link-status : m2pa (1 ∷ 0 ∷ 11 ∷ 2 ∷ 0 ∷ 0 ∷ 0 ∷ 20 ∷ 0 ∷ 0xFF ∷ 0xFF ∷ 0xFF ∷ 0 ∷ 0xFF ∷ 0xFF ∷ 0xFF ∷ 0 ∷ 0 ∷ 0 ∷ 1 ∷ []) ≡ Other
+unfolding m2pa is_m2pa
+link-status = refl
+
+cut-user-data : m2pa (1 ∷ 0 ∷ 11 ∷ 1 ∷ 0 ∷ 0 ∷ 0 ∷ 23 ∷ 0 ∷ 0 ∷ 0 ∷ 7 ∷ 0 ∷ 0 ∷ 0 ∷ 8 ∷ 0 ∷ 0x83 ∷ []) ≡ Unread (Bad M2pa)
+unfolding m2pa is_m2pa
+cut-user-data = refl
 
 -- ---- MTP and SCCP
 

@@ -3,7 +3,7 @@
 use Rattle.std.specs.Prelude.{ℕ, zero, suc, ◌+◌, ◌-◌, ◌*◌, ◌/◌, ◌%◌, ◌^◌, ◌&&◌, ◌||◌, ◌==◌, Bool, not, nat_le, nat_lt, max}
 use Rattle.std.specs.Prelude.{if◌then◌else◌, List, [], ◌∷◌, length, take, drop, slice_range, slice_index, Result, Ok, Err}
 use Rattle.packet_layers.specs.declared.flow.Flow.{Flow}
-use Rattle.packet_layers.specs.declared.layer.Layer.TheVariants.{Ethernet, Cooked, Ip, Ipv6, Sctp, Mtp2, Mtp3, Sccp}
+use Rattle.packet_layers.specs.declared.layer.Layer.TheVariants.{Ethernet, Cooked, Loopback, Ip, Ipv6, Sctp, M2pa, Mtp2, Mtp3, Sccp}
 use Rattle.packet_layers.specs.declared.fault.Fault.TheVariants.{Link, Short, Bad, Fragment}
 use Rattle.packet_layers.specs.declared.chunk_fault.ChunkFault.{ChunkFault}
 use Rattle.packet_layers.specs.declared.chunk_fault.ChunkFault.TheVariants as chunks
@@ -93,6 +93,22 @@ unit_of indicator original b =
 
 unfoldable pub mtp2 : ℕ → List ℕ → Carried
 mtp2 original b = if nat_lt (length b) 3 then Unread (Short Mtp2) else unit_of (slice_index b 2 % 64) original b
+
+-- ---- M2PA (RFC 4165, section 2)
+
+-- version 1, class 11, and a length that has room for the headers and is there
+unfoldable pub is_m2pa : List ℕ → Bool
+is_m2pa b = (slice_index b 0 == 1) && ((slice_index b 2 == 11) && (nat_le 16 (number_4 b 4) && nat_le (number_4 b 4) (length b)))
+
+-- A message of M2PA, as the user data of SCTP has it: a common header of eight octets, two sequence numbers in eight more, and
+-- of User Data (type 1) a priority octet and the message of MTP3. User Data without data only acknowledges.
+unfoldable pub m2pa : List ℕ → Carried
+m2pa b =
+    if nat_lt (length b) 16 then Unread (Short M2pa)
+    else if not (is_m2pa b) then Unread (Bad M2pa)
+    else if not (slice_index b 3 == 1) then Other
+    else if nat_lt (number_4 b 4) 17 then Other
+    else mtp3 (slice_range b 17 (number_4 b 4))
 
 -- ---- IPv4 (RFC 791)
 
@@ -190,6 +206,25 @@ cooked b = if nat_lt (length b) 16 then Unread (Short Cooked) ∷ [] else by_typ
 unfoldable pub cooked_2 : List ℕ → List Carried
 cooked_2 b = if nat_lt (length b) 20 then Unread (Short Cooked) ∷ [] else by_type (length b) (number_2 b 0) (drop 20 b)
 
+-- The address family of a BSD loopback: 2 is IPv4, and by the system 24, 28 or 30 is IPv6.
+unfoldable pub by_family : ℕ → List ℕ → List Carried
+by_family family b =
+    if family == 2 then ip b
+    else if (family == 24) || ((family == 28) || (family == 30)) then ipv6 b
+    else Other ∷ []
+
+-- The family is in the order of the machine that captured the packet. It is below 65,536, so a number above that is in the
+-- other order.
+unfoldable pub loopback : List ℕ → List Carried
+loopback b =
+    if nat_lt (length b) 4 then Unread (Short Loopback) ∷ []
+    else if nat_lt (little_4 b 0) 65536 then by_family (little_4 b 0) (drop 4 b)
+    else by_family (number_4 b 0) (drop 4 b)
+
+-- the same with the most significant octet first
+unfoldable pub loopback_2 : List ℕ → List Carried
+loopback_2 b = if nat_lt (length b) 4 then Unread (Short Loopback) ∷ [] else by_family (number_4 b 0) (drop 4 b)
+
 -- IP of either version
 unfoldable pub raw : List ℕ → List Carried
 raw b =
@@ -213,6 +248,8 @@ found_in link original b =
     else if link == 113 then cooked b
     else if link == 276 then cooked_2 b
     else if (link == 101) || ((link == 12) || (link == 14)) then raw b
+    else if link == 0 then loopback b
+    else if link == 108 then loopback_2 b
     else if link == 228 then ip b
     else if link == 229 then ipv6 b
     else if link == 248 then sctp (max (length b) original) b

@@ -8,7 +8,8 @@ pub enum Fault {
     Link(u16),
     /// The captured octets end within the header of this layer, or within a message of MTP or SCCP.
     Short(Layer),
-    /// The version, the header length or the total length of IP is impossible.
+    /// The version, the header length or the total length of IP is impossible; or the version, the class or the length of
+    /// M2PA.
     Bad(Layer),
     /// It is a fragment of an IP packet that carries SCTP.
     Fragment,

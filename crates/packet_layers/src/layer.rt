@@ -7,10 +7,13 @@ pub enum Layer {
     Ethernet,
     /// A Linux cooked capture.
     Cooked,
+    /// BSD loopback.
+    Loopback,
     /// IPv4, and raw IP of either version.
     Ip,
     Ipv6,
     Sctp,
+    M2pa,
     Mtp2,
     Mtp3,
     Sccp,

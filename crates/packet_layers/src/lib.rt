@@ -1,10 +1,12 @@
 //! What a captured packet carries: the chunks of an SCTP packet (RFC 9260) in IP over any of several links, a message of
 //! MTP3 with its point codes (Q.704), or a message of SCCP alone.
 //!
-//! The crates above may rely on one call, `found_in`. It gives exactly what the definitions find in the octets of a packet,
-//! and everything that it lends is in those octets.
+//! The crates above may rely on two calls. `found_in` gives exactly what the definitions find in the octets of a packet, and
+//! everything that it lends is in those octets. `m2pa` does the same for a message of M2PA (RFC 4165), which may be in several
+//! chunks.
 #![tactic(auto)]
 
+mod adaptation;
 mod chunk_fault;
 mod data;
 mod fault;
@@ -20,6 +22,7 @@ mod sctp;
 mod single;
 mod transfer;
 
+pub use adaptation::m2pa;
 pub use chunk_fault::ChunkFault;
 pub use data::Data;
 pub use fault::Fault;

@@ -1,0 +1,8 @@
+-- The definitions of this crate, one file a subject.
+pub mod Conditions
+pub mod Turns
+pub mod Sends
+pub mod Outcomes
+pub mod Ways
+pub mod Alike
+pub mod Explained

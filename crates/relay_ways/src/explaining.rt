@@ -1,0 +1,90 @@
+//! Under which markings a relay sends a given message because of a given arrival.
+ghost use Rattle.std.specs.Prelude.{◌≡◌, ◌<◌, IsTrue, ◌↔◌, IfOk, OnOk, length, map};
+ghost use Rattle.relay_ways.specs.Explained.{IsSendingOf, Keeps, AreConditions};
+
+use crate::alike::is_alike;
+use crate::all_ways::ways;
+use crate::condition::copied;
+use crate::way::{Sending, Way};
+use plan_model::Plan;
+use sccp_base::{List, OutOfMemory, PointCode};
+use sccp_message::{DecodeFault, Message, decode};
+use std::alloc::Global;
+
+/// Whether what is sent is a message like this one, to that point.
+fn is_sending_of(
+    alloc: Global,
+    sending: &Sending,
+    to: PointCode,
+    sent: &Message,
+) -> Result<bool, OutOfMemory>
+    ensures { IfOk result (λ answer. IsTrue answer ↔ IsSendingOf to sent.now sending.now) }
+{
+    if sending.to != to {
+        return Ok(false);
+    }
+    match decode(alloc, sending.octets.as_slice()) {
+        Ok(message) => {
+            let answer = is_alike(to, &message, sent);
+            drop(message);
+            Ok(answer)
+        }
+        Err(DecodeFault::OutOfMemory) => Err(OutOfMemory),
+        Err(_) => Ok(false),
+    }
+}
+
+/// The same way in memory of its own.
+fn copied_way(alloc: Global, way: &Way) -> Result<Way, OutOfMemory>
+    ensures { IfOk result (λ copy. copy ≡ way.now) }
+{
+    let condition = copied(alloc, &way.condition)?;
+    let octets = way.sending.octets.try_clone(alloc)?;
+    Ok(Way {
+        condition,
+        sending: Sending {
+            to: way.sending.to,
+            octets,
+        },
+    })
+}
+
+/// Keeps a way that sends a message like this one to that point.
+fn keep(
+    alloc: Global,
+    kept: &mut List<Way>,
+    way: &Way,
+    to: PointCode,
+    sent: &Message,
+) -> Result<(), OutOfMemory>
+    ensures { OnOk result (Keeps to sent.now kept.old way.now kept.new) }
+{
+    if !is_sending_of(alloc, &way.sending, to, sent)? {
+        return Ok(());
+    }
+    kept.push(copied_way(alloc, way)?)?;
+    Ok(())
+}
+
+/// The ways in which the node at this place of the plan sends a message like this one to that point, because of octets that
+/// arrive from a point. Their conditions are those under which it does: none if no marking lets it. The error is want of
+/// memory.
+pub fn explain(
+    alloc: Global,
+    plan: &Plan,
+    node: u8,
+    origin: PointCode,
+    octets: &[u8],
+    to: PointCode,
+    sent: &Message,
+) -> Result<List<Way>, OutOfMemory>
+    requires { node < length plan.now.nodes }
+    ensures { IfOk result (λ found. AreConditions plan.now node origin octets.now to sent.now (map (λ w. w.condition) found)) }
+{
+    let found = ways(alloc, plan, node, origin, octets)?;
+    let mut kept = List::new(alloc);
+    for way in found.as_slice() {
+        keep(alloc, &mut kept, way, to, sent)?;
+    }
+    Ok(kept)
+}

@@ -1,0 +1,18 @@
+//! Laws on the definitions. Each call does nothing; its contract is the law.
+ghost use Rattle.std.specs.Prelude.{◌≡◌, List, true};
+ghost use Rattle.std.specs.List.{AllByRecursion, list_any};
+ghost use Rattle.sccp_base.specs.declared.mark.Mark.{Mark};
+ghost use Rattle.plan_model.specs.declared.spot.Spot.{Spot};
+ghost use Rattle.plan_model.specs.Network.{Network};
+ghost use Rattle.plan_model.specs.Steps.{step};
+ghost use Rattle.relay_ways.specs.Conditions.{meets};
+ghost use Rattle.relay_ways.specs.Turns.{turns_of, Makes, HasRow};
+
+/// The turns of a spot are its steps over all markings: under a marking that meets the condition of one its step is made, and
+/// each marking meets the condition of one. `HasRow` holds for each spot at a node of a plan.
+pub fn turns_are_steps()
+    ensures each { (plan : Network) (spot : Spot) (marking : List Mark)
+        → AllByRecursion (Makes (step plan spot marking) marking) (turns_of plan spot) }
+    ensures one { (plan : Network) (spot : Spot) (marking : List Mark) → HasRow plan spot
+        → list_any (λ t. meets marking t.condition) (turns_of plan spot) ≡ true }
+{}

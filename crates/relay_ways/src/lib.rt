@@ -1,0 +1,23 @@
+//! Under which markings a relay sends a message because of an arrival (ITU-T Q.714 sections 2, 4.2 and 5).
+//!
+//! A marking is what a node holds prohibited. What becomes of a message depends on the marking only by which target is the
+//! first open one, by whether a subsystem of the node is prohibited, and by whether the way of a service message is shut. So
+//! the markings fall into a few cases, each with a `Condition`. The crates above may rely on `AreWays` and `AreConditions`:
+//! over all markings, the ways are what the node sends, and the conditions are exactly those under which it sends a message.
+#![tactic(auto)]
+
+mod alike;
+mod all_ways;
+mod condition;
+mod explaining;
+mod laws;
+mod outcomes;
+mod turns;
+mod way;
+
+pub use alike::is_alike;
+pub use all_ways::ways;
+pub use condition::Condition;
+pub use explaining::explain;
+pub use laws::turns_are_steps;
+pub use way::{Sending, Way};
