@@ -5,6 +5,7 @@ mod messages;
 mod plans;
 mod replay_lines;
 mod segments;
+mod sent_ways;
 mod titles;
 mod traces;
 mod values;
