@@ -8,6 +8,7 @@ show FILE
 cuts HEX
 route PLAN NODE SELECTOR SSN DIGITS
 verify PLAN
+covers PLAN
 change OLD NEW
 replay PLAN TRACE WORKERS
 load NUMBER SIZE WORKERS

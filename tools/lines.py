@@ -32,7 +32,12 @@ Fields in [] are only there if the line has them. A.B is the key B of the dict A
   accepted           [which] bound                                verify; with which ("old" or "new"): change
   refused            [which] KIND cover steady                    verify, replay, load, connect; with which: change
   too_wide           [which]                                      the same
-  hop                [which] node title held step ..              verify, route, replay, load, connect, change
+  cover_accepted     cover bound                                  covers
+  cover_refused      KIND cover steady                            covers
+  cover_too_wide     cover                                        covers
+  covers_accepted    bound                                        covers
+  covers_counted     accepted refused too_wide                    covers: how many, if not all are accepted
+  hop                [which] node title held step ..              verify, covers, route, replay, load, connect, change
   change_accepted    bound                                        change
   change_refused     KIND old_cover new_cover                     change
   change_too_wide                                                 change
@@ -87,8 +92,8 @@ service; or "cut". segment is "more", "full", "whole" with whole, or "dropped" w
 service.way: "sent" with service.to, "closed" with service.mark, or "via" with service.via and service.end. That is "ended" with
 service.point, service.ssn and service.arrived; "local" with service.ssn; "lost" with service.cause; "management"; "cut"; or None.
 
-read_groups puts hops into the list "hops" of the record before them, if that is accepted, refused, change_accepted, change_refused
-or plan_refused; other hops, as those of `route`, become {"form": "route", "hops": [..]}. The lines of a message become the list "parts"
+read_groups puts hops into the list "hops" of the record before them, if that is accepted, refused, cover_refused, change_accepted,
+change_refused or plan_refused; other hops, as those of `route`, become {"form": "route", "hops": [..]}. The lines of a message become the list "parts"
 of the record message. The records sends go into the list "sends" of the record before them, if it is of the same line of the trace.
 """
 import json
@@ -239,8 +244,8 @@ def causes(table, other):
     return f"({'|'.join(with_texts)}|{{cause:{other}}}{{text:=null:}})"
 
 
-EVERY = "show-hex show cuts route verify change replay load send-on connect import"
-FILES = "show route verify change replay send-on connect import"
+EVERY = "show-hex show cuts route verify covers change replay load send-on connect import"
+FILES = "show route verify covers change replay send-on connect import"
 COMMANDS = frozenset(EVERY.split())
 JUDGED = "verify replay load connect"
 SHOWN = "show-hex show"
@@ -250,13 +255,18 @@ TABLE = [
     ("usage", (EVERY, "usage: {shapes}")),
     ("too_long", (FILES, "too long")),
     ("read_fault", (FILES, "read fault")),
-    ("bad_plan", ("route verify replay send-on connect import", "<BAD_PLAN>"), ("change", "<WHICH><BAD_PLAN>")),
+    ("bad_plan", ("route verify covers replay send-on connect import", "<BAD_PLAN>"), ("change", "<WHICH><BAD_PLAN>")),
     ("bad_trace_line", ("show import replay", "bad trace line {line} {fault:line_fault}")),
     ("unknown_node", ("route connect send-on", "unknown node"), ("replay", "{line} unknown node")),
     ("accepted", ("verify", "accepted bound {bound}"), ("change", "<WHICH>accepted bound {bound}")),
     ("refused", (JUDGED, "refused <KIND> cover {cover} <STEADY>"), ("change", "<WHICH>refused <KIND> cover {cover} <STEADY>")),
     ("too_wide", (JUDGED, "too wide"), ("change", "<WHICH>too wide")),
-    ("hop", (f"{JUDGED} route change", "<HOP>"), ("change", "<WHICH><HOP>")),
+    ("cover_accepted", ("covers", "cover {cover} accepted bound {bound}")),
+    ("cover_refused", ("covers", "cover {cover} refused <KIND> <STEADY>")),
+    ("cover_too_wide", ("covers", "cover {cover} too wide")),
+    ("covers_accepted", ("covers", "all accepted bound {bound}")),
+    ("covers_counted", ("covers", "accepted {accepted} refused {refused} too wide {too_wide}")),
+    ("hop", (f"{JUDGED} covers route change", "<HOP>"), ("change", "<WHICH><HOP>")),
     ("change_accepted", ("change", "change accepted bound {bound}")),
     ("change_refused", ("change", "change refused <KIND> covers {old_cover} {new_cover}")),
     ("change_too_wide", ("change", "change too wide")),
@@ -479,7 +489,7 @@ def write_line(record):
 
 # ---- Lines that belong together
 
-HAVE_HOPS = ("accepted", "refused", "change_accepted", "change_refused", "plan_refused", "route")
+HAVE_HOPS = ("accepted", "refused", "cover_refused", "change_accepted", "change_refused", "plan_refused", "route")
 OF_MESSAGES = [name for name, (commands, _), *_ in TABLE if commands == SHOWN and name != "message"]
 
 

@@ -4,7 +4,7 @@
   tools/report.py PLAN [--change NEW] [--trace TRACE [--workers N]] [-o FILE]
 
 The page has the verdict of `verify`, the relays with their rows, the covers, and the printed route as a picture and as a table with
-what to mend. With --change it has the answer on the changeover from PLAN to NEW, and with --trace what a replay came to, by one
+what to mend. Of a plan that is not accepted it has the same of each bad cover, as `covers` prints it. With --change it has the answer on the changeover from PLAN to NEW, and with --trace what a replay came to, by one
 worker unless N are asked for. Pictures are drawn by dot of Graphviz; without it the page has the tables only.
 
   -o FILE         the page; standard output if it is absent
@@ -80,6 +80,7 @@ class Report:
         self.verified = self.ask(["verify", words.plan])
         if any(record["form"] == "bad_plan" for record in self.verified):
             self.plan, self.unshown = None, "The program does not take the file for a plan."
+        self.each = self.ask(["covers", words.plan]) if first_line(self.verified)["form"] in ("refused", "too_wide") else []
         self.changed = self.ask(["change", words.plan, words.change]) if words.change else []
         self.counts = self.replay() if words.trace else None
 
@@ -105,7 +106,7 @@ class Report:
 
     def unread(self):
         """Printed lines of no known form."""
-        groups = self.verified + self.changed
+        groups = self.verified + self.each + self.changed
         return [record["text"] for record in groups if record["form"] == "text"] + (self.counts.unread if self.counts else [])
 
 
@@ -160,6 +161,20 @@ def route_section(report):
     if report.plan and verdict["cover"] < len(report.plan.covers):
         inner.append(tag("p", cover_words(report.plan.covers[verdict["cover"]])))
     return section(f"Bad route of a title of cover {verdict['cover']}", *inner, bad_parts(verdict, route), *route_parts(report, plans, route))
+
+
+def bad_covers(report):
+    """The bad routes of the other covers, each by itself."""
+    shown = first_line(report.verified).get("cover")
+    made = []
+    for route in picture.routes_in(report.each):
+        if route.verdict["form"] != "cover_refused" or route.verdict["cover"] == shown:
+            continue
+        route.find_steps({None: report.plan} if report.plan else {})
+        inner = [tag("p", cover_words(report.plan.covers[route.verdict["cover"]]))] if report.plan else []
+        plans = {None: report.plan} if report.plan else {}
+        made.append(section(f"Bad route of a title of cover {route.verdict['cover']}", *inner, bad_parts(route.verdict, route), *route_parts(report, plans, route)))
+    return joined(made, "\n") if made else Raw("")
 
 
 def changeover(report):
@@ -239,7 +254,7 @@ def covers(report):
     if report.plan is None or not report.plan.covers:
         return Raw("")
     verdict = first_line(report.verified)
-    bad = [verdict["cover"]] if verdict["form"] == "refused" else []
+    bad = [record["cover"] for record in report.each if record["form"] == "cover_refused"] or ([verdict["cover"]] if verdict["form"] == "refused" else [])
     rows = [[cover.place, tag("b", cover.relay), code(cover.selector), cover.ssn, code(cover.prefix) if cover.prefix else "any", length_words(cover),
              joined((code(place) for place in cover.allowed), ", ")] for cover in report.plan.covers]
     listed = table([("cover",), "relay", "selector", ("ssn",), "prefix", "digits", "allowed places"], rows, bad)
@@ -258,7 +273,7 @@ def calls(report):
 
 
 # The sections in their order: each is a function of the report, and gives nothing if there is nothing to say.
-SECTIONS = [top, route_section, changeover, replay, relays, covers, whole_plan, calls]
+SECTIONS = [top, route_section, bad_covers, changeover, replay, relays, covers, whole_plan, calls]
 
 
 def page(report):

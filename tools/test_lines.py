@@ -68,6 +68,16 @@ TYPED = {
                 held=[POINT, SCCP, SUBSYSTEM], step="overgrown")),
         ("new bad plan limit covers", record("bad_plan", which="new", fault="limit", of="covers")),
     ],
+    "covers": [
+        ("cover 0 refused loop 0 steady yes", record("cover_refused", cover=0, kind="loop", hop=0, steady=True)),
+        ("cover 255 refused forbidden 2-0-3/6 steady no",
+         record("cover_refused", cover=255, kind="forbidden", point="2-0-3", ssn=6, steady=False)),
+        ("cover 3 refused no row 1 steady yes", record("cover_refused", cover=3, kind="no row", cause=1, steady=True)),
+        ("cover 2 accepted bound 14", record("cover_accepted", cover=2, bound=14)),
+        ("cover 1 too wide", record("cover_too_wide", cover=1)),
+        ("all accepted bound 2", record("covers_accepted", bound=2)),
+        ("accepted 2 refused 3 too wide 0", record("covers_counted", accepted=2, refused=3, too_wide=0)),
+    ],
     "load": [
         ("refused long cover 0 steady no", record("refused", kind="long", cover=0, steady=False)),
         ("ended 55101", record("count", of="ended", number=55101)),
@@ -194,6 +204,10 @@ FAULTY = {
         "at a 4:0:1:4 6 49 held subsystem:2-0-1 overgrown", "at a 4:0:1:4 6 49 held point:2-0-1/6 overgrown",
         "bad plan bad value row 0 targets", "bad plan bad value node 1 row targets", "bad plan bad value node 1",
         "bad plan rule node 0 twice 1", "bad plan rule node 0 kind two", "bad plan", "bad plan limit",
+    ],
+    "covers": [
+        "accepted bound 2", "too wide", "refused long cover 0 steady yes", "cover 0 refused loop steady yes", "cover accepted bound 2",
+        "cover 0 refused long cover 0 steady yes", "cover 01 too wide", "all accepted", "accepted 2 refused 3", "all accepted bound 2 ",
     ],
     "change": [
         "accepted bound 2", "too wide", "refused long cover 0 steady yes", "bad plan no cover",

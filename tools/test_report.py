@@ -90,7 +90,7 @@ class Answers:
         self.calls, self.more = [], more or {}
 
     def lines(self, words):
-        printed = {**STORED, **self.more}[tuple(words)]
+        printed = {("covers", *words[1:]): [], **STORED, **self.more}[tuple(words)]
         self.calls.append({"words": words, "lines": len(printed), "status": 0})
         return iter(printed)
 
@@ -162,6 +162,14 @@ class Cases(unittest.TestCase):
                 self.assertNotIn("Not understood", made)
                 self.assertNotIn("another step", made)
                 self.assertIn(html.escape(STORED["verify", plan][0]), made)
+
+    def test_each_bad_cover(self):
+        """A page has the route of each bad cover, each once."""
+        plan = "plans/many_covers.toml"
+        of_first = STORED["covers", plan][1:3]
+        made = self.page_of(words_of(plan), Answers({("verify", plan): ["refused loop 0 cover 0 steady yes", *of_first]}))
+        self.assertEqual(["0", "1", "3"], re.findall(r"Bad route of a title of cover (\d+)", made))
+        self.assertEqual(3, made.count("To mend it:"))
 
     def test_pages_of_all_changes(self):
         calls = [words for words in STORED if words[:1] == ("change",) and len(words) == 3 and all(map(os.path.isfile, words[1:]))]
@@ -316,7 +324,7 @@ class Pages(unittest.TestCase):
         return path
 
     def stub(self, printed, status=0):
-        path = self.write("stub", f"#!/bin/sh\n[ \"$1\" = --version ] && exit 64\ncat <<'EOF'\n{printed}\nEOF\nexit {status}\n")
+        path = self.write("stub", f"#!/bin/sh\n[ \"$1\" = --version ] && exit 64\n[ \"$1\" = covers ] && exit 1\ncat <<'EOF'\n{printed}\nEOF\nexit {status}\n")
         os.chmod(path, os.stat(path).st_mode | stat.S_IXUSR)
         return path
 

@@ -2,7 +2,9 @@
 mod Growing
 mod Faultless
 mod LaidOut
+pub mod Narrow
 mod Parting
 mod Passing
+pub mod Safe
 mod Sending
 mod Worked

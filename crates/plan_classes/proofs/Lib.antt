@@ -7,3 +7,4 @@ pub mod Taking
 pub mod Starting
 pub mod Ordered
 pub mod Members
+pub mod Alone

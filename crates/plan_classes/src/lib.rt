@@ -22,7 +22,7 @@ pub use carrying::carry_back;
 pub use class::Class;
 pub use class_rows::{class_row, decided};
 pub use imaging::{image, image_by};
-pub use laws::{classes_are_ordered, reaches_fewer};
+pub use laws::{alone_reaches_fewer, classes_are_ordered, reaches_fewer};
 pub use leads::Image;
 pub use opens::opening;
 pub use reaching::{reaches, reaches_by};

@@ -1,5 +1,5 @@
 //! Plans: the relays of a network, and the covers.
-ghost use Rattle.std.specs.Prelude.{◌≡◌, ◌<◌, IsTrue, ◌↔◌, OnOk, IfOk, IfErr, length, All, Option};
+ghost use Rattle.std.specs.Prelude.{◌≡◌, ◌<◌, IsTrue, ◌↔◌, OnOk, IfOk, IfErr, [], ◌∷◌, length, All, Option};
 ghost use Rattle.std.specs.List.{position, Any};
 ghost use Rattle.plan_model.specs.Covered.{Covered, Covers};
 
@@ -8,7 +8,8 @@ use crate::faults::{first_fault, place_of_name, place_of_point};
 use crate::node::Node;
 use crate::plan_fault::PlanFault;
 use crate::spot::Spot;
-use sccp_base::{List, Name, PointCode};
+use sccp_base::{List, Name, OutOfMemory, PointCode};
+use std::alloc::Global;
 use std::marker::Model;
 
 /// The relays of a network and what is covered.
@@ -49,6 +50,32 @@ impl Plan {
             Some(fault) => Err(fault),
             None => Ok(Plan { nodes, covers }),
         }
+    }
+
+    /// The plan of the nodes of a plan with one of its covers. Nothing of the nodes is copied. If memory runs out, both are given
+    /// up.
+    pub fn alone(alloc: Global, nodes: List<Node>, cover: Cover) -> Result<Plan, OutOfMemory>
+        requires { IsPlan (network nodes (cover ∷ [])) }
+        ensures { IfOk result (λ plan. plan ≡ network nodes (cover ∷ [])) }
+    {
+        let mut covers = List::new(alloc);
+        match covers.push(cover) {
+            Ok(()) => Ok(Plan { nodes, covers }),
+            Err(fault) => {
+                drop(covers);
+                drop(nodes);
+                Err(fault)
+            }
+        }
+    }
+
+    /// The nodes and the covers, each in their order.
+    pub fn into_parts(self) -> (List<Node>, List<Cover>)
+        ensures nodes { result.0 ≡ self.nodes }
+        ensures covers { result.1 ≡ self.covers }
+        ensures sound { IsPlan self }
+    {
+        (self.nodes, self.covers)
     }
 
     /// The nodes in their order.

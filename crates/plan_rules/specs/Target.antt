@@ -5,6 +5,11 @@ use Rattle.sccp_base.specs.Selector.{Numbers, IsSelector}
 use Rattle.plan_rules.specs.declared.target.Target.{Target}
 use Rattle.plan_rules.specs.declared.target.Target.TheVariants.{Relay, Final}
 
+-- the point to which a target leads
+abbrev pub point_of : Target → ℕ
+point_of (Relay pc strip put selector ssn) = pc
+point_of (Final pc ssn) = pc
+
 -- the digits that a target puts in front of a title's
 abbrev pub put_of : Target → List ℕ
 put_of (Relay pc strip put selector ssn) = put

@@ -23,7 +23,16 @@ pub enum Target {
 }
 
 impl Target {
-    ghost use Rattle.plan_rules.specs.Target.{put_of, strips_more, target_makes_odd, IsTarget};
+    ghost use Rattle.plan_rules.specs.Target.{point_of, put_of, strips_more, target_makes_odd, IsTarget};
+
+    /// The point to which it leads.
+    pub fn point(&self) -> PointCode
+        ensures { result ≡ point_of self.now }
+    {
+        match self {
+            Target::Relay { pc, .. } | Target::Final { pc, .. } => *pc,
+        }
+    }
 
     /// Whether the digits that it puts are at most 15.
     pub fn is_short(&self) -> bool

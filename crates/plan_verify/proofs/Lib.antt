@@ -6,3 +6,4 @@ pub mod Ranking
 pub mod SameSteps
 pub mod Tracing
 pub mod Unions
+pub mod ByCover

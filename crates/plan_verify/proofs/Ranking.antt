@@ -1,5 +1,5 @@
 -- the rank of a class by what its parts or its targets lead to
-use Rattle.std.specs.Prelude.{ℕ, ◌≡◌, ◌+◌, ◌-◌, ◌≤◌, ◌<◌, List, [], length, take, Option, Some, None, IsSome, IsSomeAnd, slice_get, max}
+use Rattle.std.specs.Prelude.{ℕ, ◌≡◌, ◌+◌, ◌-◌, ◌≤◌, ◌<◌, List, length, take, Option, Some, None, IsSome, IsSomeAnd, slice_get, max}
 use Rattle.std.specs.Prelude.{get_or}
 use Rattle.std.specs.List.{All, Any}
 use Rattle.std.proofs.Common.{sym, ◌∙◌, ap, subst, inl, inr, ⊎_elim, arith, take_all}

@@ -1,4 +1,7 @@
 //! The verdict on a plan.
+ghost use Rattle.std.specs.Prelude.{◌≡◌};
+ghost use Rattle.plan_verify.specs.Lawful.{plan_of};
+
 use crate::witness::Witness;
 use plan_check::Accepted;
 use plan_model::Plan;
@@ -12,4 +15,20 @@ pub enum Verdict {
     Refused(Plan, Witness),
     /// The plan reaches at least 262,144 classes: there is no verdict on its safety.
     TooWide(Plan),
+}
+
+impl Verdict {
+    /// The plan that the verdict is on.
+    pub fn into_plan(self) -> Plan
+        ensures { result ≡ plan_of self }
+    {
+        match self {
+            Verdict::Accepted(accepted) => accepted.into_plan(),
+            Verdict::Refused(plan, witness) => {
+                drop(witness);
+                plan
+            }
+            Verdict::TooWide(plan) => plan,
+        }
+    }
 }

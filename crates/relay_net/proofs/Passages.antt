@@ -20,7 +20,6 @@ use Rattle.sccp_scrc.specs.Passing.{sent_on, is_relayed, IsStepped, IsPassed, Re
 use Rattle.sccp_scrc.proofs.Redirected.{reads_again}
 use Rattle.sccp_scrc.proofs.Arrivals.{node_again}
 use Rattle.sccp_scrc.proofs.Onward.{sent_reads}
-use Rattle.relay_net.specs.declared.riding.Rest.{Rest}
 use Rattle.relay_net.specs.Journeys.{Trip, trip, after, held_at, onward, travel, most_arrivals, trip_of}
 use Rattle.relay_net.specs.Riding.{GoesOn, Rests}
 use Rattle.relay_net.proofs.Turns.{relayed_turn, last_turn}
@@ -84,18 +83,22 @@ longer old pushed new before t rest node a e h = record {
       ∙ (ap (λ (xs : List ℕ). xs ++ t.path) (sym a) ∙ h.nodes));
 }
 
+-- nothing was appended yet
+pub nowhere_yet : (path : List ℕ) (t : Trip) → GoesOn path t path t
+nowhere_yet path t = record { last = refl; nodes = refl }
+
+pub further : (first second third : List ℕ) (a b c : Trip) → GoesOn first a second b → GoesOn second b third c → GoesOn first a third c
+further first second third a b c before after = record { last = before.last ∙ after.last; nodes = before.nodes ∙ after.nodes }
+
 -- if it is passed on
-pub rides : {E : Type 0} (r : Result Rest E) (plan : Network) (states : List (List Mark)) (left node origin : ℕ) (m new final : Message)
-    (p : Passed) (next from : ℕ) (old pushed path : List ℕ) → IsPlan plan → 0 < left → ReadsAgain m →
-    Passing plan states node m new p → p ≡ passes.On next → from ≡ point_of plan node → pushed ≡ old ++ node ∷ [] →
-    IfOk r (λ rest. GoesOn pushed (travel plan states (left - 1) next from (message_octets new)) path
-    (travel plan states rest.left rest.node rest.origin (message_octets final))) →
-    IfOk r (λ rest. GoesOn old (travel plan states left node origin (message_octets m)) path
-    (travel plan states rest.left rest.node rest.origin (message_octets final)))
-rides (Err e) plan states left node origin m new final p next from old pushed path is_plan lt again h is f a goes = tt
-rides (Ok rest) plan states left node origin m new final p next from old pushed path is_plan lt again h is f a goes =
-    longer old pushed path _ _ _ node a (on_turn plan states left node origin m new next from is_plan lt again
-    (subst (Passing plan states node m new) is h) f) goes
+pub rode : (plan : Network) (states : List (List Mark)) (left node origin : ℕ) (m new : Message) (p : Passed) (next from : ℕ)
+    (old pushed : List ℕ) → IsPlan plan → 0 < left → ReadsAgain m → Passing plan states node m new p → p ≡ passes.On next
+    → from ≡ point_of plan node → pushed ≡ old ++ node ∷ [] →
+    GoesOn old (travel plan states left node origin (message_octets m)) pushed
+    (travel plan states (left - 1) next from (message_octets new))
+rode plan states left node origin m new p next from old pushed is_plan lt again h is f a =
+    longer old pushed pushed _ _ _ node a (on_turn plan states left node origin m new next from is_plan lt again
+    (subst (Passing plan states node m new) is h) f) (nowhere_yet pushed (travel plan states (left - 1) next from (message_octets new)))
 
 -- if it stays
 pub halts : (plan : Network) (states : List (List Mark)) (left node origin : ℕ) (m new : Message) (p : Passed) (hop : Option Hop)

@@ -15,6 +15,15 @@ use sccp_message::Message;
 use sccp_scrc::{Arrival, Passed, arrive_message, arrive_stepped, pass_on};
 use std::alloc::Global;
 
+/// The way of a message from here on: the number of arrivals that are left at most, the first of them at this node, from this
+/// origin.
+#[derive(Drop)]
+pub(crate) struct Leg {
+    pub(crate) left: u8,
+    pub(crate) node: u8,
+    pub(crate) origin: PointCode,
+}
+
 /// The end of the way of a message from relay to relay: the number of arrivals that are left, the first of them at this node,
 /// from this origin. If its title was looked up there, the hop is what was found.
 #[derive(Drop)]
@@ -61,44 +70,48 @@ fn ride<S: HoldsMarking>(
     alloc: Global,
     plan: &Plan,
     states: &[S],
-    left: u8,
-    node: u8,
-    origin: PointCode,
+    leg: Leg,
     message: &mut Message,
     path: &mut List<u8>,
 ) -> Result<Rest, OutOfMemory>
-    requires node { node < length plan.now.nodes }
+    requires node { leg.node < length plan.now.nodes }
     requires states { length states.now ≡ length plan.now.nodes }
     requires again { ReadsAgain message.old }
     ensures node { IfOk result (λ rest. rest.node < length plan.now.nodes) }
     ensures again { IfOk result (λ rest. ReadsAgain message.new) }
     ensures goes { let held = map S.held states.now in
-        IfOk result (λ rest. GoesOn path.old (travel plan.now held left node origin (message_octets message.old)) path.new
+        IfOk result (λ rest. GoesOn path.old (travel plan.now held leg.left leg.node leg.origin (message_octets message.old)) path.new
         (travel plan.now held rest.left rest.node rest.origin (message_octets message.new))) }
     ensures rests { IfOk result (λ rest. 0 < rest.left
         → Rests plan.now rest.node (held_at (map S.held states.now) rest.node) message.new rest.hop) }
 {
-    if left == 0 {
-        return Ok(Rest {
-            left,
-            node,
-            origin,
-            hop: None,
-        });
-    }
-    match pass(alloc, plan, states, node, message)? {
-        Passed::On { next } => {
-            path.push(node)?;
-            let from = plan.point_of(node);
-            ride(alloc, plan, states, left - 1, next, from, message, path)
+    let mut left = leg.left;
+    let mut node = leg.node;
+    let mut origin = leg.origin;
+    while left > 0 {
+        match pass(alloc, plan, states, node, message)? {
+            Passed::On { next } => {
+                path.push(node)?;
+                origin = plan.point_of(node);
+                node = next;
+                left -= 1;
+            }
+            Passed::Stays(hop) => {
+                return Ok(Rest {
+                    left,
+                    node,
+                    origin,
+                    hop,
+                })
+            }
         }
-        Passed::Stays(hop) => Ok(Rest {
-            left,
-            node,
-            origin,
-            hop,
-        }),
     }
+    Ok(Rest {
+        left,
+        node,
+        origin,
+        hop: None,
+    })
 }
 
 /// What becomes of a message at the node at which it rests, under the marking that the node holds: the same as of its octets.
@@ -166,26 +179,25 @@ fn end_ride<S: HoldsMarking>(
     }
 }
 
-/// The last arrival of the message, none if it is cut off; `left` arrivals at most. Its nodes are appended to the path.
+/// The last arrival of the message, none if it is cut off. Its nodes are appended to the path.
 pub(crate) fn travel<S: HoldsMarking>(
     alloc: Global,
     plan: &Plan,
     states: &[S],
-    left: u8,
-    node: u8,
-    origin: PointCode,
+    leg: Leg,
     message: Message,
     path: &mut List<u8>,
 ) -> Result<Option<Arrival>, OutOfMemory>
-    requires node { node < length plan.now.nodes }
+    requires node { leg.node < length plan.now.nodes }
     requires states { length states.now ≡ length plan.now.nodes }
     requires again { ReadsAgain message }
-    ensures last { IfOk result (λ last. last ≡ (travel plan.now (map S.held states.now) left node origin (message_octets message)).last) }
+    ensures last { IfOk result (λ last. last ≡ (travel plan.now (map S.held states.now) leg.left leg.node leg.origin
+        (message_octets message)).last) }
     ensures path { IfOk result (λ last. path.new ≡ path.old
-        ++ (travel plan.now (map S.held states.now) left node origin (message_octets message)).path) }
+        ++ (travel plan.now (map S.held states.now) leg.left leg.node leg.origin (message_octets message)).path) }
 {
     let mut ridden = message;
-    match ride(alloc, plan, states, left, node, origin, &mut ridden, path) {
+    match ride(alloc, plan, states, leg, &mut ridden, path) {
         Ok(rest) => end_ride(alloc, plan, states, rest, ridden, path),
         Err(fault) => {
             drop(ridden);

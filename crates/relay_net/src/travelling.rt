@@ -9,7 +9,7 @@ use crate::back::Back;
 use crate::end::End;
 use crate::ends::last_node;
 use crate::holds_marking::HoldsMarking;
-use crate::riding::travel;
+use crate::riding::{Leg, travel};
 use crate::travelled::Journey;
 use plan_check::Accepted;
 use plan_model::Plan;
@@ -25,30 +25,42 @@ fn most_arrivals_of(message: &Message) -> u8
     if message.hops().is_some() { 15 } else { 14 }
 }
 
+/// Octets that arrive at this node from this point.
+#[derive(Drop)]
+struct Incoming<'a> {
+    entry: u8,
+    origin: PointCode,
+    octets: &'a [u8],
+}
+
 /// The last arrival of octets, none if the message is cut off. Its nodes are appended to the path. Only here is the message
 /// read.
 fn follow<S: HoldsMarking>(
     alloc: Global,
     plan: &Plan,
     states: &[S],
-    entry: u8,
-    origin: PointCode,
-    octets: &[u8],
+    incoming: &Incoming<'_>,
     path: &mut List<u8>,
 ) -> Result<Option<Arrival>, OutOfMemory>
-    requires entry { entry < length plan.now.nodes }
+    requires entry { incoming.now.entry < length plan.now.nodes }
     requires states { length states.now ≡ length plan.now.nodes }
-    ensures last { IfOk result (λ last. last ≡ (trip_of plan.now (map S.held states.now) entry origin octets.now).last) }
-    ensures path { IfOk result (λ last. path.new ≡ path.old ++ (trip_of plan.now (map S.held states.now) entry origin octets.now).path) }
+    ensures last { IfOk result (λ last. last
+        ≡ (trip_of plan.now (map S.held states.now) incoming.now.entry incoming.now.origin incoming.now.octets.now).last) }
+    ensures path { IfOk result (λ last. path.new
+        ≡ path.old ++ (trip_of plan.now (map S.held states.now) incoming.now.entry incoming.now.origin incoming.now.octets.now).path) }
 {
-    match decode(alloc, octets) {
+    match decode(alloc, incoming.octets) {
         Ok(message) => {
-            let left = most_arrivals_of(&message);
-            travel(alloc, plan, states, left, entry, origin, message, path)
+            let leg = Leg {
+                left: most_arrivals_of(&message),
+                node: incoming.entry,
+                origin: incoming.origin,
+            };
+            travel(alloc, plan, states, leg, message, path)
         }
         Err(DecodeFault::OutOfMemory) => Err(OutOfMemory),
         Err(fault) => {
-            path.push(entry)?;
+            path.push(incoming.entry)?;
             Ok(Some(Arrival::Undecodable(fault)))
         }
     }
@@ -71,7 +83,12 @@ fn trip<S: HoldsMarking>(
 {
     let _nodes = plan.nodes();
     let mut path = List::new(alloc);
-    let last = follow(alloc, plan, states, entry, origin, octets, &mut path)?;
+    let incoming = Incoming {
+        entry,
+        origin,
+        octets,
+    };
+    let last = follow(alloc, plan, states, &incoming, &mut path)?;
     Ok((path, last))
 }
 

@@ -6,6 +6,7 @@ pub mod Halves
 pub mod Inserted
 pub mod LaidOut
 pub mod MarkPlaces
+pub mod MarkPoints
 pub mod NameLaidOut
 pub mod NameTexts
 pub mod Prefix

@@ -13,6 +13,10 @@ point_of (PointCode point) = point
 point_of (Sccp point) = point
 point_of (Subsystem point ssn) = point
 
+-- the mark is at that point
+abbrev pub is_at : ℕ → Mark → Bool
+is_at point mark = point_of mark == point
+
 -- at one point the signalling point is first, then its SCCP, then its subsystems by their numbers
 abbrev pub place_at_point : Mark → ℕ
 place_at_point (PointCode point) = 0

@@ -124,7 +124,11 @@ impl Digits {
     pub fn rewritten(&self, strip: u8, put: &Digits) -> Option<Digits>
         ensures { SomeIff result (length (put.now ++ drop strip self.now) ≤ 32) (put.now ++ drop strip self.now) }
     {
-        let rest = &self.as_slice()[usize::from(strip).min(self.len())..];
+        let own = self.len();
+        if strip == 0 && put.len() == 0 {
+            return Some(*self);
+        }
+        let rest = &self.as_slice()[usize::from(strip).min(own)..];
         Digits::joined(put.as_slice(), rest)
     }
 

@@ -85,9 +85,10 @@ impl Ord for Mark {
     ghost matches_eq = { same_mark_agrees };
 
     fn cmp(&self, other: &Mark) -> Ordering {
-        self.point()
-            .cmp(&other.point())
-            .then(self.place_at_point().cmp(&other.place_at_point()))
+        match self.point().cmp(&other.point()) {
+            Ordering::Equal => self.place_at_point().cmp(&other.place_at_point()),
+            apart => apart,
+        }
     }
 }
 

@@ -1,11 +1,12 @@
 //! What is prohibited, as a set of marks.
 ghost use Rattle.std.specs.Prelude.{◌≡◌, [], ◌||◌, ◌&&◌, not, OnOk, OnErr, IfOk};
-ghost use Rattle.std.specs.List.{All};
+ghost use Rattle.std.specs.List.{All, list_any};
 ghost use Rattle.sccp_base.specs.declared.mark.Mark.{Mark};
-ghost use Rattle.sccp_base.specs.Marks.{IsAscending, IsMarking, IsPlaceOf, holds, same_mark};
+ghost use Rattle.sccp_base.specs.Marks.{IsAscending, IsMarking, IsPlaceOf, holds, is_at, same_mark};
 
 use crate::mark::Mark;
 use crate::out_of_memory::OutOfMemory;
+use crate::point_code::PointCode;
 use std::alloc::Global;
 use std::marker::Model;
 
@@ -51,6 +52,20 @@ impl Marking {
         ensures { result ≡ holds self.now mark }
     {
         place_of(&self.marks, &mark).is_ok()
+    }
+
+    /// Whether anything at this point is prohibited: the point itself, the SCCP there, or one of its subsystems.
+    pub fn has_mark_at(&self, point: PointCode) -> bool
+        ensures { result ≡ list_any (is_at point) self.now }
+    {
+        let held = self.marks();
+        match place_of(held, &Mark::PointCode(point)) {
+            Ok(_) => true,
+            Err(place) => match held.get(place) {
+                Some(mark) => mark.point() == point,
+                None => false,
+            },
+        }
     }
 
     /// Prohibits a mark, and leaves the others as they were. If memory runs out, nothing changes.

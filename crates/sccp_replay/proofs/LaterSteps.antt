@@ -27,10 +27,11 @@ use Rattle.sccp_replay.specs.declared.settled as code
 use Rattle.sccp_replay.specs.declared.settled.Settled.TheVariants.{Routes}
 use Rattle.sccp_replay.specs.Replay.{Standing, Settled, prints, routes, accepted, judged_later, later_work, settle_line}
 use Rattle.sccp_replay.specs.Settling.{JudgesLine, GivesPlanLine, GivesPlanFile, GivesLine}
-use Rattle.sccp_work.specs.Work.{Work, judge, IsJudged}
+use Rattle.sccp_work.specs.Questions.{verdict_on, IsJudged}
+use Rattle.sccp_work.specs.Work.{Work, judge}
 use Rattle.sccp_work.specs.declared.status.Status.{Status}
 use Rattle.sccp_work.specs.declared.stop.Stop.{Stop}
-use Rattle.sccp_work.proofs.WorkLemmas.{Works-judge}
+use Rattle.sccp_work.proofs.WorkLemmas.{Works-ask}
 
 -- ---- its verdict
 
@@ -40,7 +41,7 @@ pub accepted_judges : (at : Standing) (line : ℕ) (name : List ℕ) (plan : Net
     → JudgesLine at line name plan at' s
 accepted_judges at line name plan a at' s judged same is told = λ next now result after h.
     let text : Settled = prints (accepted_plan_line line (accepted at + 1) name a.bound) in
-    Works-judge plan (λ v. judged_later at line name plan v next) (Accepted a) result now after judged
+    Works-ask (verdict_on plan) (λ v. judged_later at line name plan v next) (Accepted a) result now after judged
     (subst (λ p. Works (next (record at { later = at.later ++ p ∷ [] }) text) result now after) same
     (subst (λ t. Works (next t text) result now after) is (subst (λ t. Works (next at' t) result now after) told h)))
 
@@ -48,14 +49,14 @@ pub refused_judges : (at : Standing) (line : ℕ) (name : List ℕ) (plan p : Ne
     → p ≡ plan
     → s ≡ prints (refused_plan_head line name ++ verdict_text p (Refused p w)) → JudgesLine at line name plan at s
 refused_judges at line name plan p w s judged same told = λ next now result after h.
-    Works-judge plan (λ v. judged_later at line name plan v next) (Refused p w) result now after judged
+    Works-ask (verdict_on plan) (λ v. judged_later at line name plan v next) (Refused p w) result now after judged
     (subst (λ q. Works (next at (prints (refused_plan_head line name ++ verdict_text q (Refused p w)))) result now after) same
     (subst (λ t. Works (next at t) result now after) told h))
 
 pub wide_judges : (at : Standing) (line : ℕ) (name : List ℕ) (plan p : Network) (s : Settled) → IsJudged plan (TooWide p) → p ≡ plan
     → s ≡ prints (refused_plan_head line name ++ verdict_text p (TooWide p)) → JudgesLine at line name plan at s
 wide_judges at line name plan p s judged same told = λ next now result after h.
-    Works-judge plan (λ v. judged_later at line name plan v next) (TooWide p) result now after judged
+    Works-ask (verdict_on plan) (λ v. judged_later at line name plan v next) (TooWide p) result now after judged
     (subst (λ q. Works (next at (prints (refused_plan_head line name ++ verdict_text q (TooWide p)))) result now after) same
     (subst (λ t. Works (next at t) result now after) told h))
 

@@ -28,7 +28,8 @@ use Rattle.sccp_replay.specs.ReplayEnds.{ReplayCause, ReplayTells}
 use Rattle.sccp_work.specs.Verdict.{IsOnRefusal}
 use Rattle.sccp_work.specs.Texts.{too_long, read_fault}
 use Rattle.sccp_work.specs.Verdict.{status_of, IsSafe, Tells}
-use Rattle.sccp_work.specs.Work.{Work, finish, print, read, read_on, judge, mix, serve, answered, IsJudged, Ends, ComesToReading}
+use Rattle.sccp_work.specs.Questions.{IsJudged}
+use Rattle.sccp_work.specs.Work.{Work, finish, print, read, read_on, judge, ask, serve, answered, Ends, ComesToReading}
 use Rattle.sccp_work.specs.Work.{BeginsWith}
 use Rattle.sccp_work.specs.declared.status.Status.{Status}
 use Rattle.sccp_work.specs.declared.status.Status.TheVariants.{Done, Refused, Usage, BadPlan, BadTrace, TooWide, TooLong, OtherNodes}
@@ -51,10 +52,8 @@ Through-map ends ends' reads reads' fronts fronts' k e r f (print t w) acc h =
     ((λ front starts. f (acc ++ front) (h.0 front starts)), Through-map ends ends' reads reads' fronts fronts' k e r f w (acc ++ t) h.1)
 Through-map ends ends' reads reads' fronts fronts' k e r f (read name g) acc h =
     (r acc h.0, λ octets there. Through-map ends ends' reads reads' fronts fronts' k e r f (g octets) acc (h.1 octets there))
-Through-map ends ends' reads reads' fronts fronts' k e r f (judge plan g) acc h =
-    λ v j. Through-map ends ends' reads reads' fronts fronts' k e r f (g v) acc (h v j)
-Through-map ends ends' reads reads' fronts fronts' k e r f (mix old new g) acc h =
-    λ c is. Through-map ends ends' reads reads' fronts fronts' k e r f (g c) acc (h c is)
+Through-map ends ends' reads reads' fronts fronts' k e r f (ask question g) acc h =
+    λ reply is. Through-map ends ends' reads reads' fronts fronts' k e r f (g reply) acc (h reply is)
 Through-map ends ends' reads reads' fronts fronts' k e r f (read_on w) acc h =
     (r acc h.0, Through-map ends ends' reads reads' fronts fronts' k e r f w acc h.1)
 Through-map ends ends' reads reads' fronts fronts' k e r f (serve b g) acc h =

@@ -35,7 +35,8 @@ use Rattle.sccp_replay.specs.Replay.{Standing, Settled, prints, routes, accepted
 use Rattle.sccp_work.specs.Limit.{HasFile, HasLongFile}
 use Rattle.sccp_replay.specs.ReplayEnds.{LaterPlansFit}
 use Rattle.sccp_work.specs.Texts.{too_long}
-use Rattle.sccp_work.specs.Work.{Work, judge, answered, IsJudged}
+use Rattle.sccp_work.specs.Questions.{IsJudged}
+use Rattle.sccp_work.specs.Work.{Work, judge, answered}
 use Rattle.sccp_work.specs.declared.status.Status.{Status}
 use Rattle.sccp_work.specs.declared.status.Status.TheVariants.{TooLong}
 use Rattle.sccp_work.proofs.Through.{Through}

@@ -27,47 +27,10 @@ use Rattle.sccp_replay.specs.declared.joined.Joining.TheVariants.{Routed, Later,
 use Rattle.sccp_work.specs.declared.status.Status.{Status}
 use Rattle.sccp_work.specs.declared.stop.Stop.{Stop}
 use Rattle.sccp_work.specs.declared.stop.Stop.TheVariants.{Memory}
-use Rattle.sccp_work.proofs.WorkLemmas.{Moved, Works-answered, Works-memory, Works-read_on, Works-print, Works-print-stopped}
-
--- the files stay while a text is written
-pub record Kept (b m : Moment) : Type 0 where
-  pub contents : m.contents ≡ b.contents
-  pub sound : m.sound ≡ b.sound
-  pub read_faults : m.read_faults ≡ b.read_faults
+use Rattle.sccp_work.proofs.WorkLemmas.{Kept, Moved, Works-answered, Works-memory, Works-read_on, printed}
 
 still : (m : Moment) → Moved m m
 still m = record { contents = refl; sound = refl; read_faults = omega arith; taken = refl; write_faults = refl }
-
--- ---- a text is written
-
-abbrev pub Printed : List ℕ → Work → Result (Unit {0}) Stop → Moment → Moment → Type 0
-Printed t w (Ok done) b m = EndsAs (print t w) w b m
-Printed t w (Err stop) b m = Works (print t w) (Err stop) b m
-
-pub printed : (t : List ℕ) (w : Work) (r : Result (Unit {0}) Stop) (b m : Moment) → Writes t r b.taken m.taken b.write_faults m.write_faults
-    → Kept b m → Printed t w r b m
-printed t w (Ok done) b m writes k = λ result after h.
-    Works-print t w result b m after
-    (record {
-      contents = k.contents;
-      sound = k.sound;
-      read_faults = omega
-          (arith, k.read_faults);
-      write_faults = writes.later;
-      taken = writes.appends ∙ ap (append_known b.taken) writes.whole;
-    })
-    k.read_faults h
-printed t w (Err stop) b m writes k =
-    Works-print-stopped t w writes.front stop b m writes.begins
-    (record {
-      contents = k.contents;
-      sound = k.sound;
-      read_faults = omega
-          (arith, k.read_faults);
-      write_faults = writes.later;
-      taken = writes.appends;
-    })
-    k.read_faults (λ e. writes.failed (ap Err e)) (λ e. writes.no_reading (ap Err e)) (λ s e. writes.no_answer s (ap Err e))
 
 -- a batch, after which the trace is read on
 

@@ -8,6 +8,7 @@ use Rattle.sccp_report.specs.Roles.{Role, routed, later, aside, alone, role_of}
 use Rattle.sccp_report.specs.Served.{served_text}
 use Rattle.sccp_report.specs.Values.{numbered}
 use Rattle.sccp_report.specs.Verdicts.{verdict_text}
+use Rattle.plan_check.specs.Verified.{Verified}
 use Rattle.plan_model.specs.Network.{Network}
 use Rattle.plan_model.specs.SameNodes.{same_nodes}
 use Rattle.plan_model.specs.declared.plan_fault.PlanFault.{PlanFault}
@@ -24,12 +25,12 @@ use Rattle.trace_text.specs.declared.line.Line.TheVariants.{Msg}
 use Rattle.trace_text.specs.declared.line.Numbered.{Numbered}
 use Rattle.trace_text.specs.declared.line_fault.LineFault.{LineFault}
 use Rattle.sccp_replay.specs.LaterPlans.{first_plan_line, accepted_plan_line, refused_plan_head, bad_plan_line, other_nodes_line}
+use Rattle.sccp_work.specs.Accepting.{accepted_on, if_accepted}
 use Rattle.sccp_work.specs.Limit.{within_limit}
 use Rattle.sccp_work.specs.LineFault.{bad_line}
 use Rattle.sccp_work.specs.Numbers.{Batch}
 use Rattle.sccp_work.specs.Plans.{with_plan}
 use Rattle.sccp_replay.specs.Trace.{trace_of}
-use Rattle.sccp_work.specs.Verdict.{status_of}
 use Rattle.sccp_work.specs.Work.{Work, print, read, read_on, judge, serve, answered}
 use Rattle.sccp_work.specs.declared.status.Status.{Status}
 use Rattle.sccp_work.specs.declared.status.Status.TheVariants.{Done, BadTrace}
@@ -182,12 +183,12 @@ abbrev pub start : ℕ → Network → Standing
 start workers plan = record { workers = workers; first = plan; later = []; states = first_states plan }
 
 -- the line of an accepted first plan is printed, and then the trace is read
+abbrev pub replayed_under : List ℕ → List ℕ → ℕ → Network → Verified → Work
+replayed_under plan_name trace_name workers plan accepted =
+    print (first_plan_line plan_name accepted.bound) (read trace_name (λ octets. trace_work (start workers plan) (trace_of octets)))
+
 abbrev pub replayed : List ℕ → List ℕ → ℕ → Network → Verdict → Work
-replayed plan_name trace_name workers plan (Accepted a) =
-    print (first_plan_line plan_name a.bound) (read trace_name (λ octets. trace_work (start workers plan) (trace_of octets)))
-replayed plan_name trace_name workers plan (Refused same witness) =
-    answered (status_of (Refused same witness), verdict_text plan (Refused same witness))
-replayed plan_name trace_name workers plan (TooWide same) = answered (status_of (TooWide same), verdict_text plan (TooWide same))
+replayed plan_name trace_name workers plan = accepted_on [] (replayed_under plan_name trace_name workers plan) plan
 
 unfoldable pub replay_work : List ℕ → List ℕ → ℕ → Work
-replay_work plan_name trace_name workers = with_plan plan_name (λ plan. judge plan (replayed plan_name trace_name workers plan))
+replay_work plan_name trace_name workers = with_plan plan_name (λ plan. if_accepted [] plan (replayed_under plan_name trace_name workers plan))

@@ -1,10 +1,8 @@
 //! The command that replays a trace over the relays of a plan.
-ghost use Rattle.plan_model.specs.Network.{IsPlan};
-ghost use Rattle.plan_verify.specs.Lawful.{IsLawful, plan_of};
 ghost use Rattle.sccp_work.specs.Ending.{Works};
 ghost use Rattle.sccp_replay.specs.LaterPlans.{first_plan_line};
 ghost use Rattle.sccp_work.specs.Moment.{moment};
-ghost use Rattle.sccp_replay.specs.Replay.{replay_work, replayed, start, trace_work};
+ghost use Rattle.sccp_replay.specs.Replay.{replay_work, start, trace_work};
 ghost use Rattle.sccp_replay.specs.Trace.{trace_of};
 ghost use Rattle.sccp_work.specs.Work.{print, read};
 
@@ -15,9 +13,8 @@ use crate::tracing::replay_trace;
 use crate::workers::Workers;
 use live_plan::Gate;
 use plan_check::Accepted;
-use plan_verify::Verdict;
 use sccp_io::{Files, Sink};
-use sccp_work::{Status, Stop, put_all, tell_verdict, with_plan};
+use sccp_work::{Status, Stop, if_accepted, put_all, with_plan};
 use std::sync::Wait;
 use std::thread::Threads;
 
@@ -44,37 +41,13 @@ pub fn replay<R: Threads + Wait + Sync, G: Gate + Sync, F: Files, K: Sink>(
         (moment F.contents F.sound F.faults K.taken K.faults files.new out.new) }
 {
     let first = with_plan(host.alloc, plan, files, out)?;
-    let verdict = plan_verify::verify(host.alloc, first)?;
+    let accepted = if_accepted(host.alloc, b"", first, out)?;
     let asked = Asked {
         plan,
         trace,
         workers,
     };
-    replay_judged(host, verdict, &asked, files, out)
-}
-
-/// Does what follows the verdict on the first plan.
-fn replay_judged<R: Threads + Wait + Sync, G: Gate + Sync, F: Files, K: Sink>(
-    host: &Host<'_, R, G>,
-    verdict: Verdict,
-    asked: &Asked<'_>,
-    files: &mut F,
-    out: &mut K,
-) -> Result<Status, Stop>
-    requires plan { IsPlan (plan_of verdict) }
-    requires lawful { IsLawful (plan_of verdict) verdict }
-    ensures { Works (replayed asked.now.plan.now asked.now.trace.now asked.now.workers.now.count (plan_of verdict) verdict) result
-        (moment F.contents F.sound F.faults K.taken K.faults files.old out.old)
-        (moment F.contents F.sound F.faults K.taken K.faults files.new out.new) }
-{
-    match verdict {
-        Verdict::Accepted(accepted) => replay_accepted(host, accepted, asked, files, out),
-        other => {
-            let told = tell_verdict(host.alloc, &other, out);
-            drop(other);
-            told
-        }
-    }
+    replay_accepted(host, accepted, &asked, files, out)
 }
 
 /// Writes the line of the first plan, which was accepted, and replays the trace.

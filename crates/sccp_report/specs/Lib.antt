@@ -7,6 +7,7 @@ pub mod CutsText
 pub mod Hops
 pub mod PlanFaults
 pub mod Verdicts
+pub mod Covers
 pub mod Changes
 pub mod Told
 pub mod Roles

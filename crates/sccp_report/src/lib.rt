@@ -8,8 +8,9 @@
 //!
 //! `hops_text` gives a line for each hop of a route: the title, what was held prohibited, and what the relay did with it
 //! (Q.714 section 2). `plan_fault_text` says why a text is no plan, and at which place. `verdict_text` gives the verdict
-//! on a plan and the route that shows it, `accepted_text` the one line that a plan is accepted. These texts are exactly
-//! those of `specs/Hops`, `specs/PlanFaults` and `specs/Verdicts`. The text of a route's hops determines the hops
+//! on a plan and the route that shows it, `accepted_text` the one line that a plan is accepted, `cover_text` the verdict on
+//! one cover by itself. These texts are exactly those of `specs/Hops`, `specs/PlanFaults`, `specs/Verdicts` and
+//! `specs/Covers`. The text of a route's hops determines the hops
 //! (`text_tells_route`), and that of a point code the number (`text_tells_point_code`). `change_text` says whether relays
 //! may hold either of two plans, and shows the mixed route, exactly as in `specs/Changes`.
 //!
@@ -21,6 +22,7 @@
 mod address;
 mod back;
 mod change;
+mod cover;
 mod cuts;
 mod event;
 mod fault;
@@ -42,6 +44,7 @@ mod values;
 mod verdict;
 
 pub use change::change_text;
+pub use cover::cover_text;
 pub use cuts::cuts_text;
 pub use event::{event_text, put_event};
 pub use fields::put_cause;
@@ -52,4 +55,5 @@ pub use report::message_text;
 pub use role::{Due, Role, role_of};
 pub use served::{put_served, served_text};
 pub use text::Text;
+pub use values::put_point_code;
 pub use verdict::{accepted_text, verdict_text};

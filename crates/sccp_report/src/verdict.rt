@@ -34,7 +34,7 @@ pub fn put_kind(text: &mut Text, kind: Kind) -> Result<(), OutOfMemory>
 
 /// Appends whether the hops are the same if each relay holds all the marks of the route.
 #[tactic(auto, unfolding(crate::specs::Verdicts::steady_words))]
-fn put_steady(text: &mut Text, steady: bool) -> Result<(), OutOfMemory>
+pub fn put_steady(text: &mut Text, steady: bool) -> Result<(), OutOfMemory>
     ensures { OnOk result (text.new ≡ text.old ++ steady_words steady) }
 {
     text.put(if steady {

@@ -1,8 +1,7 @@
 -- What the comparing of two plans ends with.
 use Rattle.std.proofs.Common.{◌≡◌, ◌⊎◌, ◌≤◌, ℕ, List, ◌++◌, length, Option, Some, None, Bool, true, false, Result, Ok, Err, IfOk, IfSome}
-use Rattle.std.proofs.Common.{refl, sym, ◌∙◌, ap, subst, inl, inr, arith, append-nil}
-use Rattle.std.specs.Prelude.{if◌then◌else◌, is_err, OnOk}
-use Rattle.std.specs.Io.{StartsWith}
+use Rattle.std.proofs.Common.{refl, sym, ◌∙◌, ap, subst, inl, inr}
+use Rattle.std.specs.Prelude.{if◌then◌else◌, is_err}
 use Rattle.std.specs.Io.KnownBytes.{append_known}
 use Rattle.std.proofs.lemmas.Bool.{false≢true}
 use Rattle.plan_check.specs.Verified.{Verified}
@@ -20,51 +19,34 @@ use Rattle.plan_verify.specs.declared.verdict.Verdict.{Verdict}
 use Rattle.plan_verify.specs.declared.verdict.Verdict.TheVariants as verdicts
 use Rattle.sccp_io.specs.Files.{Contents, Reads}
 use Rattle.sccp_report.specs.Changes.{change_text}
-use Rattle.sccp_report.specs.Verdicts.{verdict_text}
-use Rattle.sccp_tool.specs.Change.{plan_told, accepted_on, read_on_plan, with_accepted, old_word, new_word, change_status, mixed_work}
+use Rattle.sccp_report.specs.Verdicts.{accepted_line, verdict_text}
+use Rattle.sccp_tool.specs.Change.{read_on_plan, with_accepted, old_word, new_word, change_status, mixed_work}
 use Rattle.sccp_tool.specs.Change.{change_work, IsAnswered, IsSurelySafe, IsMixable, IsUnmixable, IsWideMixture, HavePlans, ChangeCause}
 use Rattle.sccp_tool.specs.Change.{ChangeSure, TellsPlan, is_refused, is_wide, is_accepted, TellsMixture, is_other, is_told, TellsChange}
-use Rattle.sccp_work.specs.Ending.{IsCut, Stops, Works, early}
+use Rattle.sccp_work.specs.Accepting.{accepted_on, GivesAccepted}
+use Rattle.sccp_work.specs.Ending.{IsCut, Works, early}
 use Rattle.sccp_work.specs.Limit.{IsThere, HasLongFile}
 use Rattle.sccp_work.specs.Moment.{Moment}
 use Rattle.sccp_work.specs.Plans.{bad_plan, HasPlan, HasBadPlan}
 use Rattle.sccp_tool.specs.Task.{Change as asked}
 use Rattle.sccp_tool.specs.Texts.{other_nodes}
 use Rattle.sccp_work.specs.Verdict.{IsSafe, IsBad, IsWide, IsOnVerdict}
-use Rattle.sccp_work.specs.Work.{Work, mix, answered, IsJudged, IsCompared, Ends, HasFiles}
+use Rattle.sccp_work.specs.Questions.{mixture_of}
+use Rattle.sccp_work.specs.Work.{Work, print, mix, answered, Ends, HasFiles}
 use Rattle.sccp_work.specs.Writing.{Writes}
 use Rattle.sccp_work.specs.declared.status.Status.{Status}
 use Rattle.sccp_work.specs.declared.status.Status.TheVariants.{Done, Refused, Usage, BadPlan, TooWide, TooLong, OtherNodes}
 use Rattle.sccp_work.specs.declared.stop.Stop.{Stop}
 use Rattle.sccp_work.specs.declared.stop.Stop.TheVariants.{Answered, Read, Write, Memory}
 use Rattle.sccp_tool.proofs.Causes.{Causes}
+use Rattle.sccp_work.proofs.AcceptingLemmas.{Ends-answered, accepted_files}
 use Rattle.sccp_work.proofs.LimitLemmas.{FileEnds, Ends-within_limit, limit_files}
 use Rattle.sccp_work.proofs.LimitLemmas as file
 use Rattle.sccp_work.proofs.PlanLemmas.{PlanEnds, long, bad, good, if_long, if_bad, at_plan}
 use Rattle.sccp_work.proofs.VerdictLemmas.{safe_or_bad}
-use Rattle.sccp_work.proofs.WorkLemmas.{Works-answered, Works-early, Works-judge, Works-print, Works-print-stopped}
+use Rattle.sccp_work.proofs.WorkLemmas.{Kept, Printed, Works-answered, Works-early, Works-ask, printed}
 
 -- ---- two plans are compared
-
-Works-mix : (old new : Network) (f : Change → Work) (change : Change) (result : Result Status Stop) (b a : Moment)
-    → IsCompared old new change → Works (f change) result b a → Works (mix old new f) result b a
-Works-mix old new f change result b a compared w = record {
-  text = w.text;
-  goes = w.goes;
-  stops = stops_mix result w.stops;
-  spared = λ h. at b.contents (w.spared h);
-} where
-  stops_mix : (r : Result Status Stop) → Stops (f change) r w.text b a → Stops (mix old new f) r w.text b a
-  stops_mix (Ok s) e = (e.0, (change, compared, e.1))
-  stops_mix (Err (Answered s)) e = (e.0, (change, compared, e.1))
-  stops_mix (Err Read) e = (e.0, (change, compared, e.1))
-  stops_mix (Err Write) e = (e.0, inr (change, compared, e.1))
-  stops_mix (Err Memory) e = inr (change, compared, e)
-
-  at : (k : Option Contents) → IfSome k (λ c. HasFiles c (f change) → a.read_faults ≡ b.read_faults)
-      → IfSome k (λ c. HasFiles c (mix old new f) → a.read_faults ≡ b.read_faults)
-  at None h = tt
-  at (Some c) h = λ has. h (has change compared)
 
 apart : (old new : Network) → (SameNodes old new → ⊥) → same_nodes old new ≡ false
 apart old new other = sym (same_nodes_told old new old.nodes new.nodes false refl refl (λ t. absurd (false≢true t), λ e. absurd (other e)))
@@ -97,65 +79,40 @@ Works-mixed old new status line text result b a (inr told) spelt writes is conte
     let whole = subst (λ t. Writes t result b.taken a.taken b.write_faults a.write_faults) (spelt ∙ told.3) writes in
     let answer = subst (λ t. IfOk result (λ s. s ≡ t)) told.2 is in
     subst (λ v. Works (mixed_or_other old new v) result b a) (sym (alike old new told.1.2))
-    (Works-mix old new (λ c. answered (change_status c, change_text old new c)) change result b a told.1
+    (Works-ask (mixture_of old new) (λ c. answered (change_status c, change_text old new c)) change result b a told.1
     (Works-answered (change_status change, change_text old new change) result b a (not_cut change) whole answer contents sound read_faults))
 
--- the line of one of the two plans
+-- the work that follows an accepted plan: its line is printed first
+abbrev told_first : List ℕ → (Network → Work) → Network → Verified → Work
+told_first word next plan accepted = print (word ++ accepted_line accepted.bound) (next plan)
 
-module _ (word : List ℕ) (next : Network → Work) (octets : List ℕ) (plan : Network) (verdict : Verdict) (reads : plan_of octets ≡ Ok plan)
-    (judged : IsJudged plan verdict) where
-  on_verdict : (result : Result Status Stop) (m a : Moment) → Works (accepted_on word next plan verdict) result m a
-      → Works (read_on_plan word next (plan_of octets)) result m a
-  on_verdict result m a w = subst (λ r. Works (read_on_plan word next r) result m a) (sym reads)
-      (Works-judge plan (accepted_on word next plan) verdict result m a judged w)
+-- the whole work goes on as what is left of it, or has stopped with it
+abbrev Goes-on : Work → Work → Result (Unit {0}) Stop → Moment → Moment → Type 0
+Goes-on whole left (Ok done) m o = (result : Result Status Stop) (a : Moment) → Works left result o a → Works whole result m a
+Goes-on whole left (Err stop) m o = Works whole (Err stop) m o
 
-  -- the line of an accepted plan is printed, and the work goes on
-  pub Works-accepted : {T : Type 0} (accepted : Verified) (line : List ℕ) (put : Result T Stop) (x : T) (result : Result Status Stop)
-      (m n a : Moment) → verdict ≡ verdicts.Accepted accepted → line ≡ word ++ plan_told plan verdict
-      → Writes line put m.taken n.taken m.write_faults n.write_faults → put ≡ Ok x → n.contents ≡ m.contents → n.sound ≡ m.sound
-      → n.read_faults ≡ m.read_faults → Works (next plan) result n a → Works (read_on_plan word next (plan_of octets)) result m a
-  Works-accepted accepted line put x result m n a is spelt writes ok contents sound read_faults w =
-      on_verdict result m a (subst (λ v. Works (accepted_on word next plan v) result m a) (sym is)
-      (Works-print (word ++ plan_told plan (verdicts.Accepted accepted)) (next plan) result m n a
-      (record {
-        contents = contents;
-        sound = sound;
-        read_faults = omega (arith, read_faults);
-        write_faults = writes.later;
-        taken = writes.appends ∙ ap (λ t. append_known m.taken t) (front ∙ spelt ∙ ap (λ v. word ++ plan_told plan v) is);
-      }) read_faults w))
-    where
-      front : writes.front ≡ line
-      front = subst (λ r. OnOk r (writes.front ≡ line)) ok writes.whole
+-- a plan is accepted, and its line was printed or could not be written whole
+pub Works-accepted : (word : List ℕ) (next : Network → Work) (octets : List ℕ) (plan : Network) (accepted : Verified)
+    (put : Result (Unit {0}) Stop) (m n o : Moment) → plan_of octets ≡ Ok plan → GivesAccepted word plan (Ok accepted) m n
+    → Writes (word ++ accepted_line accepted.bound) put n.taken o.taken n.write_faults o.write_faults → Kept n o
+    → Goes-on (read_on_plan word next (plan_of octets)) (next plan) put m o
+Works-accepted word next octets plan accepted put m n o reads gives writes kept = by put (printed (word ++ accepted_line accepted.bound)
+    (next plan) put n o writes kept)
+  where
+    on : (result : Result Status Stop) (a : Moment) → Works (told_first word next plan accepted) result n a
+        → Works (read_on_plan word next (plan_of octets)) result m a
+    on result a w = subst (λ r. Works (read_on_plan word next r) result m a) (sym reads) (gives (told_first word next plan) result a w)
 
-  -- its line could not be written whole
-  pub Works-untold : {T : Type 0} (accepted : Verified) (line : List ℕ) (stop : Stop) (m n : Moment) → verdict ≡ verdicts.Accepted accepted
-      → line ≡ word ++ plan_told plan verdict
-      → Writes {T = T} line (Err stop) m.taken n.taken m.write_faults n.write_faults → n.contents ≡ m.contents → n.sound ≡ m.sound
-      → n.read_faults ≡ m.read_faults → Works (read_on_plan word next (plan_of octets)) (Err stop) m n
-  Works-untold accepted line stop m n is spelt writes contents sound read_faults =
-      on_verdict (Err stop) m n (subst (λ v. Works (accepted_on word next plan v) (Err stop) m n) (sym is)
-      (Works-print-stopped (word ++ plan_told plan (verdicts.Accepted accepted)) (next plan) writes.front stop m n
-      (subst (λ t. StartsWith t writes.front) (spelt ∙ ap (λ v. word ++ plan_told plan v) is) writes.begins)
-      (record {
-        contents = contents;
-        sound = sound;
-        read_faults = omega (arith, read_faults);
-        write_faults = writes.later;
-        taken = writes.appends;
-      }) read_faults (λ e. writes.failed (ap Err e)) (λ e. writes.no_reading (ap Err e)) (λ s e. writes.no_answer s (ap Err e))))
+    by : (r : Result (Unit {0}) Stop) → Printed (word ++ accepted_line accepted.bound) (next plan) r n o
+        → Goes-on (read_on_plan word next (plan_of octets)) (next plan) r m o
+    by (Ok done) go = λ result a w. on result a (go result a w)
+    by (Err stop) w = on (Err stop) o w
 
-  -- another verdict is the answer
-  pub Works-unaccepted : (status : Status) (line : List ℕ) (result : Result Status Stop) (m a : Moment)
-      → accepted_on word next plan verdict ≡ answered (status, word ++ plan_told plan verdict) → (IsCut status → ⊥)
-      → line ≡ word ++ plan_told plan verdict
-      → Writes line result m.taken a.taken m.write_faults a.write_faults → IfOk result (λ s. s ≡ status) → a.contents ≡ m.contents
-      → a.sound ≡ m.sound → a.read_faults ≡ m.read_faults → Works (read_on_plan word next (plan_of octets)) (Err (early result)) m a
-  Works-unaccepted status line result m a is own spelt writes answer contents sound read_faults =
-      let whole = subst (λ t. Writes t result m.taken a.taken m.write_faults a.write_faults) spelt writes in
-      on_verdict (Err (early result)) m a (subst (λ w. Works w (Err (early result)) m a) (sym is)
-      (Works-early (answered (status, word ++ plan_told plan verdict)) result m a
-      (Works-answered (status, word ++ plan_told plan verdict) result m a own whole answer contents sound read_faults)))
+-- it is not accepted, or memory was wanting
+pub Works-unaccepted : (word : List ℕ) (next : Network → Work) (octets : List ℕ) (plan : Network) (stop : Stop) (m a : Moment)
+    → plan_of octets ≡ Ok plan → GivesAccepted word plan (Err stop) m a → Works (read_on_plan word next (plan_of octets)) (Err stop) m a
+Works-unaccepted word next octets plan stop m a reads gives =
+    subst (λ r. Works (read_on_plan word next r) (Err stop) m a) (sym reads) (gives (told_first word next plan))
 
 -- the text is no plan
 pub Works-unread : (word : List ℕ) (next : Network → Work) (octets : List ℕ) (fault : PlanFault) (line : List ℕ)
@@ -182,21 +139,17 @@ data MixtureEnds (old new : Network) : Status → Type 0 where
   told : {s : Status} → SameNodes old new → (change : Change) → IsLawfulChange old new change → s ≡ change_status change
       → MixtureEnds old new s
 
-told_answer : (contents : Option Contents) (status : Status) (line : List ℕ) (s : Status) (text : List ℕ)
-    → Ends contents (answered (status, line)) s text → (s ≡ status) × (text ≡ line)
-told_answer contents status line s text h = (h.2.0, h.1 ∙ ap (λ rest. line ++ rest) h.2.1 ∙ append-nil line)
-
 -- the text of one of the plans
 module _ (word : List ℕ) (plan : Network) (on : Status → List ℕ → Type 0) (s : Status) (text : List ℕ) where
   from_verdict : (contents : Option Contents) (next : Network → Work) (v : Verdict) → IsLawful plan v
       → ((rest : List ℕ) → Ends contents (next plan) s rest → on s rest)
-      → Ends contents (accepted_on word next plan v) s text → TellsPlan word plan on s text
+      → Ends contents (accepted_on word (told_first word next plan) plan v) s text → TellsPlan word plan on s text
   from_verdict contents next (verdicts.Accepted a) lawful goes h = is_accepted a h.0 lawful h.1 (goes h.0 h.2)
   from_verdict contents next (verdicts.Refused same w) lawful goes h =
-      let t = told_answer contents Refused (word ++ verdict_text plan
+      let t = Ends-answered contents Refused (word ++ verdict_text plan
       (verdicts.Refused same w)) s text h in is_refused same w lawful t.0 t.1
   from_verdict contents next (verdicts.TooWide same) lawful goes h =
-      let t = told_answer contents TooWide (word ++ verdict_text plan (verdicts.TooWide same)) s text h in is_wide same lawful t.0 t.1
+      let t = Ends-answered contents TooWide (word ++ verdict_text plan (verdicts.TooWide same)) s text h in is_wide same lawful t.0 t.1
 
 -- the text on the plan of a file, if it is one
 abbrev FileTells : Option Contents → List ℕ → List ℕ → (Network → Status → List ℕ → Type 0) → List ℕ → Status → Type 0
@@ -234,9 +187,9 @@ Ends-mixed contents old new s text h = by (same_nodes old new) refl h
   where
     by : (b : Bool) → same_nodes old new ≡ b → Ends contents (mixed_or_other old new b) s text → TellsMixture old new s text
     by true e k =
-        let t = told_answer contents (change_status k.0) (change_text old new k.0) s text k.2 in is_told k.1.2 k.0 k.1.3 t.0 t.1
+        let t = Ends-answered contents (change_status k.0) (change_text old new k.0) s text k.2 in is_told k.1.2 k.0 k.1.3 t.0 t.1
     by false e k =
-        let t = told_answer contents OtherNodes other_nodes s text k in is_other (λ same. false≢true (sym e ∙ alike old new same)) t.0 t.1
+        let t = Ends-answered contents OtherNodes other_nodes s text k in is_other (λ same. false≢true (sym e ∙ alike old new same)) t.0 t.1
 
 -- after an accepted old plan
 abbrev NewTells : Option Contents → List ℕ → Network → Status → List ℕ → Type 0
@@ -256,9 +209,9 @@ verdict_of word plan next on s text goes (is_refused same w lawful is spelt) = s
 verdict_of word plan next on s text goes (is_wide same lawful is spelt) = subst (VerdictEnds plan on) (sym is) (wide lawful)
 verdict_of word plan next on s text goes (is_accepted a rest lawful spelt more) = accepted (a.bound, lawful.0) (goes rest more)
 
-mixture_of : (old new : Network) (s : Status) (text : List ℕ) → TellsMixture old new s text → MixtureEnds old new s
-mixture_of old new s text (is_other differ is spelt) = subst (MixtureEnds old new) (sym is) (other differ)
-mixture_of old new s text (is_told same change lawful is spelt) = told same change lawful is
+mixture_answer : (old new : Network) (s : Status) (text : List ℕ) → TellsMixture old new s text → MixtureEnds old new s
+mixture_answer old new s text (is_other differ is spelt) = subst (MixtureEnds old new) (sym is) (other differ)
+mixture_answer old new s text (is_told same change lawful is spelt) = told same change lawful is
 
 file_of : (contents : Option Contents) (name word : List ℕ) (next : Network → Status → List ℕ → Type 0) (on : Network → Status
     → Type 0) (text : List ℕ) (s : Status) → ((plan : Network) (rest : List ℕ) → next plan s rest → on plan s)
@@ -279,7 +232,7 @@ change_ends : (contents : Option Contents) (old new : List ℕ) (s : Status) (te
     → ChangeEnds contents old new s
 change_ends contents old new s text h =
     file_of contents old old_word (NewTells contents new) (Ahead contents new) text s
-    (λ p rest more. file_of contents new new_word (λ q. TellsMixture p q) (MixtureEnds p) rest s (λ q last k. mixture_of p q s last k) more)
+    (λ p rest more. file_of contents new new_word (λ q. TellsMixture p q) (MixtureEnds p) rest s (λ q last k. mixture_answer p q s last k) more)
     (change_told contents old new s text h)
 
 -- ---- what each answer says of the plans
@@ -451,18 +404,13 @@ refused_for c old new s (inr has) ends = by (goes_on_or_wide p (Ahead (Some c) n
 
 -- ---- the files of the command
 
-accepted_files : (c : Contents) (word name : List ℕ) (next : Network → Work) → ((plan : Network) → HasFiles c (next plan)) → IsThere c name
-    → HasFiles c (with_accepted word name next)
-accepted_files c word name next go there = limit_files c name (λ octets. read_on_plan word next (plan_of octets))
+with_accepted_files : (c : Contents) (word name : List ℕ) (next : Network → Work) → ((plan : Network) → HasFiles c (next plan))
+    → IsThere c name → HasFiles c (with_accepted word name next)
+with_accepted_files c word name next go there = limit_files c name (λ octets. read_on_plan word next (plan_of octets))
     (λ octets. by (plan_of octets)) there
   where
-    on : (plan : Network) (v : Verdict) → HasFiles c (accepted_on word next plan v)
-    on plan (verdicts.Accepted a) = go plan
-    on plan (verdicts.Refused same witness) = tt
-    on plan (verdicts.TooWide same) = tt
-
     by : (r : Result Network PlanFault) → HasFiles c (read_on_plan word next r)
-    by (Ok plan) = λ v judged. on plan v
+    by (Ok plan) = accepted_files c word plan (told_first word next plan) (λ accepted. go plan)
     by (Err fault) = tt
 
 mixed_files : (c : Contents) (old new : Network) → HasFiles c (mixed_work old new)
@@ -474,8 +422,8 @@ mixed_files c old new = by (same_nodes old new)
 
 change_files : (c : Contents) (old new : List ℕ) → IsThere c old → IsThere c new → HasFiles c (change_work old new)
 change_files c old new old_there new_there =
-    accepted_files c old_word old (λ p. with_accepted new_word new (λ q. mixed_work p q))
-    (λ p. accepted_files c new_word new (λ q. mixed_work p q) (mixed_files c p) new_there) old_there
+    with_accepted_files c old_word old (λ p. with_accepted new_word new (λ q. mixed_work p q))
+    (λ p. with_accepted_files c new_word new (λ q. mixed_work p q) (mixed_files c p) new_there) old_there
 
 -- the text gives it
 

@@ -2,6 +2,7 @@
 mod Causes
 mod ChangeLemmas
 mod ConnectLemmas
+mod CoversLemmas
 mod CutsLemmas
 mod ImportLemmas
 mod LoadLemmas

@@ -18,13 +18,13 @@ use Rattle.plan_change.specs.declared.mixed_hop.MixedHop.{MixedHop}
 use Rattle.plan_change.specs.declared.turn.Turn.{Turn}
 use Rattle.plan_text.specs.PlanText.{plan_of}
 use Rattle.plan_verify.specs.Lawful.{IsLawful}
-use Rattle.plan_verify.specs.declared.verdict.Verdict.{Verdict}
 use Rattle.plan_verify.specs.declared.verdict.Verdict.TheVariants as verdicts
 use Rattle.plan_verify.specs.declared.witness.Witness.{Witness}
 use Rattle.sccp_io.specs.Files.{Contents}
 use Rattle.sccp_report.specs.Changes.{change_text}
 use Rattle.sccp_report.specs.Verdicts.{accepted_line, verdict_text}
 use Rattle.trace_text.specs.Forms.{file_name}
+use Rattle.sccp_work.specs.Accepting.{if_accepted}
 use Rattle.sccp_work.specs.Ending.{Works}
 use Rattle.sccp_work.specs.Limit.{within_limit, HasLongFile}
 use Rattle.sccp_work.specs.Moment.{Moment}
@@ -32,7 +32,8 @@ use Rattle.sccp_work.specs.Plans.{bad_plan, HasPlan, HasBadPlan}
 use Rattle.sccp_tool.specs.Task.{Task, Change as asked}
 use Rattle.sccp_tool.specs.Texts.{other_nodes}
 use Rattle.sccp_work.specs.Verdict.{IsSafe, IsBad, IsWide, IsOnVerdict}
-use Rattle.sccp_work.specs.Work.{Work, print, judge, mix, answered, IsCompared}
+use Rattle.sccp_work.specs.Questions.{IsCompared}
+use Rattle.sccp_work.specs.Work.{Work, print, mix, answered}
 use Rattle.sccp_work.specs.declared.status.Status.{Status}
 use Rattle.sccp_work.specs.declared.status.Status.TheVariants.{Done, Refused, BadPlan, TooWide, TooLong, OtherNodes}
 use Rattle.sccp_work.specs.declared.stop.Stop.{Stop}
@@ -52,20 +53,9 @@ old_word = codes "old "
 unfoldable pub new_word : List ℕ
 new_word = codes "new "
 
--- the text on a verdict: of an accepted plan its bound, and of another the whole text of the verdict
-abbrev pub plan_told : Network → Verdict → List ℕ
-plan_told plan (verdicts.Accepted accepted) = accepted_line accepted.bound
-plan_told plan (verdicts.Refused same witness) = verdict_text plan (verdicts.Refused same witness)
-plan_told plan (verdicts.TooWide same) = verdict_text plan (verdicts.TooWide same)
-
--- of an accepted plan its line is printed, and the work goes on; any other verdict is the answer
-abbrev pub accepted_on : List ℕ → (Network → Work) → Network → Verdict → Work
-accepted_on word next plan (verdicts.Accepted accepted) = print (word ++ plan_told plan (verdicts.Accepted accepted)) (next plan)
-accepted_on word next plan (verdicts.Refused same witness) = answered (Refused, word ++ plan_told plan (verdicts.Refused same witness))
-accepted_on word next plan (verdicts.TooWide same) = answered (TooWide, word ++ plan_told plan (verdicts.TooWide same))
-
+-- of an accepted plan its line is printed, and the work goes on
 abbrev pub read_on_plan : List ℕ → (Network → Work) → Result Network PlanFault → Work
-read_on_plan word next (Ok plan) = judge plan (accepted_on word next plan)
+read_on_plan word next (Ok plan) = if_accepted word plan (λ accepted. print (word ++ accepted_line accepted.bound) (next plan))
 read_on_plan word next (Err fault) = answered (BadPlan, word ++ bad_plan fault)
 
 -- the plan of a file, if it is accepted; its text is after this word
@@ -87,13 +77,13 @@ change_work old new = with_accepted old_word old (λ p. with_accepted new_word n
 
 -- ---- what the code gives while the work is done
 
--- Whatever the work that needs the plan goes on with: from an accepted plan it goes on, and otherwise it has ended or
--- stopped.
-abbrev pub GivesAccepted : List ℕ → List ℕ → Result Verified Stop → Moment → Moment → Type 0
-GivesAccepted word name (Ok accepted) first now =
+-- Whatever the work that needs the plan of a file goes on with: from an accepted plan it goes on, and otherwise it has ended
+-- or stopped.
+abbrev pub GivesAcceptedOf : List ℕ → List ℕ → Result Verified Stop → Moment → Moment → Type 0
+GivesAcceptedOf word name (Ok accepted) first now =
     (next : Network → Work) (result : Result Status Stop) (after : Moment) → Works (next accepted.plan) result now after
     → Works (with_accepted word name next) result first after
-GivesAccepted word name (Err stop) first now = (next : Network → Work) → Works (with_accepted word name next) (Err stop) first now
+GivesAcceptedOf word name (Err stop) first now = (next : Network → Work) → Works (with_accepted word name next) (Err stop) first now
 
 -- the answer on two plans and its text, as the work has them
 abbrev pub IsAnswered : Network → Network → Status → List ℕ → Type 0

@@ -3,6 +3,7 @@ use Rattle.std.specs.Prelude.{ℕ, List, [], ◌∷◌, Option, None, if◌then�
 use Rattle.std.specs.Str.{bytes_eq}
 use Rattle.std.specs.declared.alloc.Global.{Global}
 use Rattle.sccp_tool.specs.Replay.{replay_words}
+use Rattle.sccp_tool.specs.Covers.{covers_words}
 use Rattle.sccp_tool.specs.Cuts.{cuts_words}
 use Rattle.sccp_tool.specs.Import.{import_words}
 use Rattle.sccp_tool.specs.Change.{change_words}
@@ -23,6 +24,7 @@ further_command_of name words =
     else if bytes_eq name (codes "change") then change_words words
     else if bytes_eq name (codes "connect") then connect_words words
     else if bytes_eq name (codes "send-on") then send_on_words words
+    else if bytes_eq name (codes "covers") then covers_words words
     else None
 
 -- the commands by their names

@@ -10,24 +10,22 @@ use Rattle.chain_call.specs.declared.outcome.Outcome.TheVariants.{Unsettled, Una
 use Rattle.chain_call.specs.declared.outcome.Through.{Through}
 use Rattle.chain_world.specs.Kept.{kept}
 use Rattle.plan_model.specs.Network.{Network, has_name, has_point}
-use Rattle.plan_verify.specs.declared.verdict.Verdict.{Verdict}
-use Rattle.plan_verify.specs.declared.verdict.Verdict.TheVariants as verdicts
 use Rattle.sccp_base.specs.Text.{point_code_of}
 use Rattle.sccp_message.specs.declared.cause.CauseTable.TheVariants.{Refusal}
 use Rattle.sccp_report.specs.Fields.{cause_line}
 use Rattle.sccp_report.specs.Values.{numbered, octets_text, point_code_text}
-use Rattle.sccp_report.specs.Verdicts.{verdict_text}
 use Rattle.sccp_scrc.specs.Arriving.{point_of}
 use Rattle.trace_text.specs.Forms.{file_name}
 use Rattle.trace_text.specs.Hex.{hex_word}
+use Rattle.sccp_work.specs.Accepting.{if_accepted}
 use Rattle.sccp_work.specs.Plans.{with_plan}
 use Rattle.sccp_tool.specs.Starts.{start_of}
 use Rattle.sccp_tool.specs.Task.{Task, Connect}
 use Rattle.sccp_tool.specs.Texts.{unknown_node}
-use Rattle.sccp_work.specs.Verdict.{status_of}
-use Rattle.sccp_work.specs.Work.{Work, judge, answered}
+use Rattle.sccp_work.specs.Work.{Work, answered}
 use Rattle.sccp_tool.specs.declared.connect.Calling.{Calling}
 use Rattle.sccp_tool.specs.declared.start.Start.{Start}
+use Rattle.sccp_work.specs.declared.status.Status.TheVariants.{Done}
 
 -- ---- the words
 
@@ -118,14 +116,9 @@ abbrev pub connect_text : Network → Calling → List ℕ
 connect_text plan calling =
     text_by plan calling (position (has_name calling.start.node) plan.nodes) (is_some (position (has_point calling.from) plan.nodes))
 
--- the outcome of the connection if the plan is accepted, and otherwise the verdict
-abbrev pub connected : Network → Calling → Verdict → List ℕ
-connected plan calling (verdicts.Accepted accepted) = connect_text plan calling
-connected plan calling (verdicts.Refused same witness) = verdict_text plan (verdicts.Refused same witness)
-connected plan calling (verdicts.TooWide same) = verdict_text plan (verdicts.TooWide same)
-
+-- a plan that is not accepted gives its verdict
 abbrev pub connect_judged : Calling → Network → Work
-connect_judged calling plan = judge plan (λ verdict. answered (status_of verdict, connected plan calling verdict))
+connect_judged calling plan = if_accepted [] plan (λ accepted. answered (Done, connect_text plan calling))
 
 -- the plan is read and verified first
 abbrev pub connect_work : List ℕ → Calling → Work

@@ -2,9 +2,11 @@
 pub mod Change
 pub mod Commands
 pub mod Connect
+pub mod Covers
 pub mod Import
 pub mod Load
 pub mod Parsed
+pub mod Promise
 pub mod Replay
 pub mod Route
 pub mod Run
@@ -13,6 +15,7 @@ pub mod Show
 pub mod ShowHex
 pub mod Cuts
 pub mod Starts
+pub mod Tallies
 pub mod Task
 pub mod Texts
 pub mod Verify

@@ -2,20 +2,16 @@
 use Rattle.std.specs.Prelude.{ℕ, nat_le, List, [], ◌∷◌, ◌++◌, codes, Option, Some, None, option_and_then, if◌then◌else◌}
 use Rattle.std.specs.Option.{option_map}
 use Rattle.sccp_base.specs.Text.{decimal_of}
-use Rattle.plan_verify.specs.declared.verdict.Verdict.{Verdict}
-use Rattle.plan_verify.specs.declared.verdict.Verdict.TheVariants as verdicts
 use Rattle.made_load.specs.Loads.{load_counts}
 use Rattle.made_load.specs.Relays.{load_plan}
 use Rattle.made_load.specs.declared.counts.Counts.{Counts}
 use Rattle.sccp_report.specs.Values.{numbered}
-use Rattle.sccp_report.specs.Verdicts.{verdict_text}
 use Rattle.sccp_replay.specs.Workers.{workers_in}
-use Rattle.sccp_work.specs.Verdict.{IsOnRefusal}
+use Rattle.sccp_work.specs.Accepting.{if_accepted}
 use Rattle.sccp_tool.specs.Task.{Task, Load}
-use Rattle.sccp_work.specs.Verdict.{status_of, IsSafe, IsBad, IsWide, Tells}
-use Rattle.sccp_work.specs.Work.{Work, judge, answered}
+use Rattle.sccp_work.specs.Work.{Work, answered}
 use Rattle.sccp_work.specs.declared.status.Status.{Status}
-use Rattle.sccp_work.specs.declared.status.Status.TheVariants.{Done, Refused, TooWide}
+use Rattle.sccp_work.specs.declared.status.Status.TheVariants.{Done}
 
 -- one to ten decimal digits that spell a number up to the given one
 abbrev pub number_to : ℕ → List ℕ → Option ℕ
@@ -40,28 +36,11 @@ counts_text c =
     count_line (codes "messages ") c.messages ++ count_line (codes "ended ") c.ended
     ++ count_line (codes "returned ") c.returned ++ count_line (codes "translations ") c.translations
 
--- the counts if the plan is accepted, and otherwise the verdict
-abbrev pub load_text : ℕ → ℕ → Verdict → List ℕ
-load_text number size (verdicts.Accepted accepted) = counts_text (load_counts number size)
-load_text number size (verdicts.Refused same witness) = verdict_text (load_plan number) (verdicts.Refused same witness)
-load_text number size (verdicts.TooWide same) = verdict_text (load_plan number) (verdicts.TooWide same)
-
--- the plan is verified as any other
+-- the plan is verified as any other; if it is not accepted, its verdict is printed
 abbrev pub load_work : ℕ → ℕ → Work
-load_work number size = judge (load_plan number) (λ verdict. answered (status_of verdict, load_text number size verdict))
+load_work number size = if_accepted [] (load_plan number) (λ accepted. answered (Done, counts_text (load_counts number size)))
 
--- the cause of each answer
-abbrev pub LoadCause : ℕ → Status → Type 0
-LoadCause number Done = IsSafe (load_plan number)
-LoadCause number Refused = IsBad (load_plan number)
-LoadCause number TooWide = IsWide (load_plan number)
-LoadCause number answer = ⊥
-
--- what gives an answer for sure: a plan that is both safe and wide may be reported as too wide as well
-abbrev pub LoadSure : ℕ → Status → Type 0
-LoadSure number Done = IsSafe (load_plan number) × (IsWide (load_plan number) → ⊥)
-LoadSure number answer = ⊥
-
--- an answer that the plan is not accepted gives a lawful verdict on it
-abbrev pub LoadTells : ℕ → Status → Option (List ℕ) → Option (List ℕ) → Type 0
-LoadTells number given taken taken' = IsOnRefusal given → Tells (load_plan number) given taken taken'
+-- the cause of each answer: the plan of each number is accepted
+abbrev pub LoadCause : Status → Type 0
+LoadCause Done = Unit {0}
+LoadCause answer = ⊥

@@ -27,3 +27,5 @@ pub data Task : Type 0 where
   Connect : List ℕ → Calling → Task
   -- prints what becomes of octets at a relay of the plan of the file of this name, and cuts a long message that leaves it
   SendOn : List ℕ → Incoming → Task
+  -- verifies each cover of the plan of the file of this name by itself
+  Covers : List ℕ → Task

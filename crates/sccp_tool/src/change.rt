@@ -1,26 +1,26 @@
 //! The command that says whether relays may hold either of two plans.
 ghost use Rattle.std.specs.Prelude.{◌≡◌, ◌++◌, false, IfOk, OnOk};
-ghost use Rattle.plan_model.specs.Network.{IsPlan};
 ghost use Rattle.plan_text.specs.Faults.{is_memory};
-ghost use Rattle.plan_verify.specs.Lawful.{IsLawful, plan_of};
-ghost use Rattle.sccp_tool.specs.Change.{change_of, change_words, change_work, change_status, old_word, new_word, plan_told, GivesAccepted};
+ghost use Rattle.sccp_report.specs.Verdicts.{accepted_line};
+ghost use Rattle.sccp_tool.specs.Change.{change_of, change_words, change_work, change_status, old_word, new_word, GivesAcceptedOf};
 ghost use Rattle.sccp_tool.specs.Change.{IsAnswered};
 ghost use Rattle.sccp_tool.specs.Commands.{texts};
 ghost use Rattle.sccp_work.specs.Ending.{Works};
 ghost use Rattle.sccp_work.specs.Moment.{moment};
 ghost use Rattle.sccp_tool.specs.Parsed.{task_in};
 ghost use Rattle.sccp_work.specs.Plans.{bad_plan};
+ghost use Rattle.sccp_work.specs.Writing.{Writes};
 
 use crate::command::Command;
 use plan_change::{Change, ChangeFault};
 use plan_check::Accepted;
-use plan_model::{Plan, PlanFault};
-use plan_verify::Verdict;
+use plan_model::PlanFault;
 use sccp_base::{Octets, OutOfMemory};
 use sccp_io::{Files, Sink};
 use sccp_report::{accepted_text, change_text};
 use sccp_work::{
-    Opened, Status, Stop, bad_plan, early, lawful_text, print_last, put_all, within_limit,
+    Opened, Status, Stop, after_word, bad_plan, early, if_accepted, print_last, put_all,
+    within_limit,
 };
 use std::alloc::Global;
 use trace_text::is_file_name;
@@ -95,103 +95,51 @@ fn with_accepted<F: Files, K: Sink>(
     files: &mut F,
     out: &mut K,
 ) -> Result<Accepted, Stop>
-    ensures { GivesAccepted word.now name.now result
+    ensures { GivesAcceptedOf word.now name.now result
         (moment F.contents F.sound F.faults K.taken K.faults files.old out.old)
         (moment F.contents F.sound F.faults K.taken K.faults files.new out.new) }
 {
     let text = within_limit(alloc, Opened::First, name, files, out)?;
     match plan_text::read(alloc, &text) {
         Ok(plan) => {
-            let Judged { verdict, line } = verdict_behind(alloc, word, plan)?;
-            match verdict {
-                Verdict::Accepted(accepted) => match put_all(out, line.as_slice()) {
-                    Ok(()) => Ok(accepted),
-                    Err(stop) => {
-                        drop(accepted);
-                        Err(stop)
-                    }
-                },
-                Verdict::Refused(plan, witness) => {
-                    drop(plan);
-                    drop(witness);
-                    Err(early(print_last(out, line.as_slice(), Status::Refused)))
-                }
-                Verdict::TooWide(plan) => {
-                    drop(plan);
-                    Err(early(print_last(out, line.as_slice(), Status::TooWide)))
+            let accepted = if_accepted(alloc, word, plan, out)?;
+            match put_accepted(alloc, word, &accepted, out) {
+                Ok(()) => Ok(accepted),
+                Err(stop) => {
+                    drop(accepted);
+                    Err(stop)
                 }
             }
         }
         Err(fault) => {
-            let line = bad_plan_behind(alloc, word, &fault)?;
+            let line = bad_plan_after(alloc, word, &fault)?;
             Err(early(print_last(out, line.as_slice(), Status::BadPlan)))
         }
     }
 }
 
-/// The verdict on a plan, and its text.
-#[derive(Drop)]
-struct Judged {
-    verdict: Verdict,
-    line: Octets,
-}
-
-/// The verdict on a plan, and its text after a word.
-fn verdict_behind(alloc: Global, word: &[u8], plan: Plan) -> Result<Judged, OutOfMemory>
-    requires { IsPlan plan }
-    ensures lawful { IfOk result (λ j. IsLawful plan j.verdict) }
-    ensures same { IfOk result (λ j. plan_of j.verdict ≡ plan) }
-    ensures line { IfOk result (λ j. j.line ≡ word.now ++ plan_told plan j.verdict) }
+/// Writes the line of an accepted plan, after a word.
+fn put_accepted<K: Sink>(
+    alloc: Global,
+    word: &[u8],
+    accepted: &Accepted,
+    out: &mut K,
+) -> Result<(), Stop>
+    ensures { Writes (word.now ++ accepted_line accepted.now.bound) result (K.taken out.old) (K.taken out.new) (K.faults out.old)
+        (K.faults out.new) }
 {
-    let verdict = plan_verify::verify(alloc, plan)?;
-    match told_behind(alloc, word, &verdict) {
-        Ok(line) => Ok(Judged { verdict, line }),
-        Err(fault) => {
-            drop(verdict);
-            Err(fault)
-        }
-    }
-}
-
-/// The text on a verdict, after a word.
-fn told_behind(alloc: Global, word: &[u8], verdict: &Verdict) -> Result<Octets, OutOfMemory>
-    requires plan { IsPlan (plan_of verdict.now) }
-    requires lawful { IsLawful (plan_of verdict.now) verdict.now }
-    ensures { IfOk result (λ line. line ≡ word.now ++ plan_told (plan_of verdict.now) verdict.now) }
-{
-    let text = told(alloc, verdict)?;
-    behind(alloc, word, text.as_slice())
+    let line = accepted_text(alloc, accepted)?;
+    let line = after_word(alloc, word, line.as_slice())?;
+    put_all(out, line.as_slice())
 }
 
 /// The line on a text that is no plan, after a word. Want of memory has no line.
-fn bad_plan_behind(alloc: Global, word: &[u8], fault: &PlanFault) -> Result<Octets, OutOfMemory>
+fn bad_plan_after(alloc: Global, word: &[u8], fault: &PlanFault) -> Result<Octets, OutOfMemory>
     ensures line { IfOk result (λ line. line ≡ word.now ++ bad_plan fault.now) }
     ensures told { OnOk result (is_memory fault.now ≡ false) }
 {
     let text = bad_plan(alloc, fault)?;
-    behind(alloc, word, text.as_slice())
-}
-
-/// A text after a word.
-fn behind(alloc: Global, word: &[u8], text: &[u8]) -> Result<Octets, OutOfMemory>
-    ensures { IfOk result (λ all. all ≡ word.now ++ text.now) }
-{
-    let mut all = Vec::from_slice(alloc, word)?;
-    all.extend_from_slice(text)?;
-    Ok(Octets::from_vec(all))
-}
-
-/// The text on a verdict: of an accepted plan its bound, and of another the whole text of the verdict.
-fn told(alloc: Global, verdict: &Verdict) -> Result<Octets, OutOfMemory>
-    requires plan { IsPlan (plan_of verdict.now) }
-    requires lawful { IsLawful (plan_of verdict.now) verdict.now }
-    ensures { IfOk result (λ text. text ≡ plan_told (plan_of verdict.now) verdict.now) }
-{
-    match verdict {
-        Verdict::Accepted(accepted) => accepted_text(alloc, accepted),
-        Verdict::Refused(plan, _) => lawful_text(alloc, plan, verdict),
-        Verdict::TooWide(plan) => lawful_text(alloc, plan, verdict),
-    }
+    after_word(alloc, word, text.as_slice())
 }
 
 /// The answer on two plans, and its text.

@@ -5,6 +5,7 @@ ghost use Rattle.sccp_tool.specs.Parsed.{task_in};
 
 use crate::change::change_words;
 use crate::connect::{Calling, connect_words};
+use crate::covers::covers_words;
 use crate::cuts::cuts_words;
 use crate::import::import_words;
 use crate::load::load_words;
@@ -44,6 +45,8 @@ pub enum Command<'a> {
     Connect(&'a str, Calling),
     /// To print what becomes of octets at a relay of the plan of the file of this name, a long message in segments.
     SendOn(&'a str, Incoming),
+    /// To verify each cover of the plan of the file of this name by itself.
+    Covers(&'a str),
 }
 
 /// What the words ask for, or none if they have none of the shapes.
@@ -101,6 +104,8 @@ fn further_command_of<'a>(
         connect_words(alloc, words)
     } else if name == "send-on" {
         send_on_words(alloc, words)
+    } else if name == "covers" {
+        Ok(covers_words(words))
     } else {
         Ok(None)
     }

@@ -1,30 +1,25 @@
 //! The command that makes one connection over the relays of a plan (Q.714 section 3).
 ghost use Rattle.std.specs.Prelude.{◌≡◌, ◌<◌, ◌++◌, IfOk, OnOk, codes, length};
 ghost use Rattle.std.specs.List.{flat_map};
-ghost use Rattle.plan_model.specs.Network.{IsPlan};
-ghost use Rattle.plan_verify.specs.Lawful.{IsLawful, plan_of};
 ghost use Rattle.sccp_tool.specs.Commands.{texts};
-ghost use Rattle.sccp_tool.specs.Connect.{call_of, call_text, calling_of, connect_of, connect_text, connect_words, connect_work, connected};
+ghost use Rattle.sccp_tool.specs.Connect.{call_of, call_text, calling_of, connect_of, connect_text, connect_words, connect_work};
 ghost use Rattle.sccp_tool.specs.Connect.{is_unsaid, names_text, next_name, octets_line, opened_line, outcome_text, sections_line, ssn_in};
 ghost use Rattle.sccp_tool.specs.Connect.{through_lines};
 ghost use Rattle.sccp_work.specs.Ending.{Works};
 ghost use Rattle.sccp_work.specs.Moment.{moment};
 ghost use Rattle.sccp_tool.specs.Parsed.{task_in};
-ghost use Rattle.sccp_work.specs.Verdict.{status_of};
 ghost use Rattle.sccp_work.specs.Writing.{Writes};
 
 use crate::command::Command;
 use crate::route::UNKNOWN_NODE;
-use crate::send_on::put_point_code;
-use crate::start::{Start, start_of};
+use crate::start::{Start, StartWords, start_of};
 use chain_call::{Call, Outcome, Through};
 use plan_model::Plan;
-use plan_verify::Verdict;
 use sccp_base::{Name, Octets, OutOfMemory, PointCode};
 use sccp_io::{Files, Sink};
 use sccp_message::CauseTable;
-use sccp_report::{Text, put_cause};
-use sccp_work::{Status, Stop, print_last, tell_verdict, with_plan};
+use sccp_report::{Text, put_cause, put_point_code};
+use sccp_work::{Status, Stop, if_accepted, print_last, with_plan};
 use std::alloc::Global;
 use trace_text::{is_file_name, octets_of};
 
@@ -46,16 +41,15 @@ pub fn connect_words(alloc: Global, words: &[String]) -> Result<Option<Command<'
     ensures { IfOk result (λ command. task_in command ≡ connect_words (texts words.now)) }
 {
     match words {
-        [plan, node, from, selector, ssn, digits, octets] => connect_of(
-            alloc,
-            plan.as_str(),
-            node.as_str(),
-            from.as_str(),
-            selector.as_str(),
-            ssn.as_str(),
-            digits.as_str(),
-            octets.as_str(),
-        ),
+        [plan, node, from, selector, ssn, digits, octets] => {
+            let start = StartWords {
+                node: node.as_str(),
+                selector: selector.as_str(),
+                ssn: ssn.as_str(),
+                digits: digits.as_str(),
+            };
+            connect_of(alloc, plan.as_str(), &start, from.as_str(), octets.as_str())
+        }
         _ => Ok(None),
     }
 }
@@ -65,19 +59,17 @@ pub fn connect_words(alloc: Global, words: &[String]) -> Result<Option<Command<'
 fn connect_of<'a>(
     alloc: Global,
     plan: &'a str,
-    node: &str,
+    start: &StartWords<'_>,
     from: &str,
-    selector: &str,
-    ssn: &str,
-    digits: &str,
     octets: &str,
 ) -> Result<Option<Command<'a>>, OutOfMemory>
-    ensures { IfOk result (λ command. task_in command ≡ connect_of plan.now node.now from.now selector.now ssn.now digits.now octets.now) }
+    ensures { IfOk result (λ command. task_in command
+        ≡ connect_of plan.now start.now.node.now from.now start.now.selector.now start.now.ssn.now start.now.digits.now octets.now) }
 {
     if !is_file_name(plan.as_bytes()) {
         return Ok(None);
     }
-    match calling_of(alloc, node, from, selector, ssn, digits, octets)? {
+    match calling_of(alloc, start, from, octets)? {
         Some(calling) => Ok(Some(Command::Connect(plan, calling))),
         None => Ok(None),
     }
@@ -87,16 +79,14 @@ fn connect_of<'a>(
 #[tactic(auto, unfolding(crate::specs::Connect::calling_of))]
 fn calling_of(
     alloc: Global,
-    node: &str,
+    start: &StartWords<'_>,
     from: &str,
-    selector: &str,
-    ssn: &str,
-    digits: &str,
     octets: &str,
 ) -> Result<Option<Calling>, OutOfMemory>
-    ensures { IfOk result (λ calling. calling ≡ calling_of node.now from.now selector.now ssn.now digits.now octets.now) }
+    ensures { IfOk result (λ calling. calling
+        ≡ calling_of start.now.node.now from.now start.now.selector.now start.now.ssn.now start.now.digits.now octets.now) }
 {
-    let Some(start) = start_of(node, selector, ssn, digits) else {
+    let Some(start) = start_of(start) else {
         return Ok(None);
     };
     if is_unsaid(&start) {
@@ -135,33 +125,8 @@ pub fn connect<F: Files, K: Sink>(
         (moment F.contents F.sound F.faults K.taken K.faults files.new out.new) }
 {
     let plan = with_plan(alloc, name, files, out)?;
-    let verdict = plan_verify::verify(alloc, plan)?;
-    connect_judged(alloc, verdict, calling, out)
-}
-
-/// Does what follows the verdict on the plan.
-fn connect_judged<K: Sink>(
-    alloc: Global,
-    verdict: Verdict,
-    calling: &Calling,
-    out: &mut K,
-) -> Result<Status, Stop>
-    requires plan { IsPlan (plan_of verdict) }
-    requires lawful { IsLawful (plan_of verdict) verdict }
-    ensures text { Writes (connected (plan_of verdict) calling.now verdict) result (K.taken out.old) (K.taken out.new) (K.faults out.old)
-        (K.faults out.new) }
-    ensures answer { IfOk result (λ s. s ≡ status_of verdict) }
-{
-    match verdict {
-        Verdict::Accepted(accepted) => {
-            connect_accepted(alloc, accepted.into_plan(), calling, out)
-        }
-        other => {
-            let told = tell_verdict(alloc, &other, out);
-            drop(other);
-            told
-        }
-    }
+    let accepted = if_accepted(alloc, b"", plan, out)?;
+    connect_accepted(alloc, accepted.into_plan(), calling, out)
 }
 
 /// Makes the connection over a plan that was accepted, and prints its outcome.

@@ -3,7 +3,7 @@
 //! SCCP messages (ITU-T Q.713) are shown, given as a word of hexadecimal digits or in a file with one a line. Each cut of one
 //! is shown, and captured ones become a trace (RFC 4666).
 //!
-//! A plan of relays is verified, and a title is followed through it (Q.714 section 2). A trace of traffic and failures is
+//! A plan of relays is verified, as a whole or each cover by itself, and a title is followed through it (Q.714 section 2). A trace of traffic and failures is
 //! replayed over it (Q.714 sections 2 to 5). A connection is made over it and released (Q.714 section 3). What leaves a relay
 //! is printed, a long message in segments (Q.714 section 4.1). Of two plans it is said whether relays may hold either.
 //!
@@ -17,6 +17,7 @@
 mod change;
 mod command;
 mod connect;
+mod covers;
 mod cuts;
 mod import;
 mod load;
@@ -27,6 +28,7 @@ mod send_on;
 mod show;
 mod show_hex;
 mod start;
+mod tally;
 mod verify;
 
 pub use program::{run, run_gated};

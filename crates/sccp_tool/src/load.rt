@@ -1,26 +1,19 @@
 //! The command that makes a plan and messages from a number, and counts what becomes of the messages.
 ghost use Rattle.std.specs.Prelude.{◌≡◌, ◌<◌, ◌^◌, ◌++◌, ℕ, Bool, Option, IfOk, OnOk};
-ghost use Rattle.made_load.specs.Loads.{load_counts};
-ghost use Rattle.made_load.specs.Relays.{load_plan};
-ghost use Rattle.plan_model.specs.Network.{IsPlan};
-ghost use Rattle.plan_verify.specs.Lawful.{IsLawful, plan_of};
 ghost use Rattle.sccp_io.specs.Files.{Contents};
 ghost use Rattle.sccp_tool.specs.Commands.{texts};
 ghost use Rattle.sccp_work.specs.Ending.{Works};
-ghost use Rattle.sccp_tool.specs.Load.{count_line, counts_text, load_of, load_text, load_words, load_work, number_to};
+ghost use Rattle.sccp_tool.specs.Load.{count_line, counts_text, load_of, load_words, load_work, number_to};
 ghost use Rattle.sccp_tool.specs.Parsed.{task_in};
-ghost use Rattle.sccp_work.specs.Verdict.{status_of};
 ghost use Rattle.sccp_work.specs.Writing.{Writes};
 
 use crate::command::Command;
 use made_load::{Counts, load_counts, load_plan};
-use plan_check::Accepted;
-use plan_verify::Verdict;
 use sccp_base::{Octets, OutOfMemory, decimal};
 use sccp_io::Sink;
 use sccp_replay::Workers;
 use sccp_report::Text;
-use sccp_work::{Status, Stop, print_last, tell_verdict};
+use sccp_work::{Status, Stop, if_accepted, print_last};
 use std::alloc::Global;
 use std::thread::Threads;
 
@@ -79,55 +72,18 @@ pub fn load<R: Threads + Sync, K: Sink>(
         (record { contents = contents; sound = sound; read_faults = faults; taken = K.taken out.new; write_faults = K.faults out.new }) }
 {
     let plan = load_plan(alloc, number)?;
-    let verdict = plan_verify::verify(alloc, plan)?;
-    let loaded = load_judged(rt, alloc, &verdict, number, size, workers, out);
-    drop(verdict);
-    loaded
+    let accepted = if_accepted(alloc, b"", plan, out)?;
+    let counted = load_counts(rt, alloc, &accepted, number, size, workers.count());
+    drop(accepted);
+    print_counts(alloc, &counted?, out)
 }
 
-/// Does what follows the verdict on the plan.
-fn load_judged<R: Threads + Sync, K: Sink>(
-    rt: &R,
-    alloc: Global,
-    verdict: &Verdict,
-    number: u32,
-    size: u32,
-    workers: &Workers,
-    out: &mut K,
-) -> Result<Status, Stop>
-    requires same { plan_of verdict.now ≡ load_plan number }
-    requires plan { IsPlan (plan_of verdict.now) }
-    requires lawful { IsLawful (plan_of verdict.now) verdict.now }
-    ensures text { Writes (load_text number size verdict.now) result (K.taken out.old) (K.taken out.new) (K.faults out.old)
-        (K.faults out.new) }
-    ensures answer { IfOk result (λ s. s ≡ status_of verdict.now) }
-{
-    match verdict {
-        Verdict::Accepted(accepted) => {
-            load_accepted(rt, alloc, accepted, number, size, workers, out)
-        }
-        Verdict::Refused(_, _) => tell_verdict(alloc, verdict, out),
-        Verdict::TooWide(_) => tell_verdict(alloc, verdict, out),
-    }
-}
-
-/// Sends the messages over a plan that was accepted, and prints the counts.
-fn load_accepted<R: Threads + Sync, K: Sink>(
-    rt: &R,
-    alloc: Global,
-    accepted: &Accepted,
-    number: u32,
-    size: u32,
-    workers: &Workers,
-    out: &mut K,
-) -> Result<Status, Stop>
-    requires { accepted.now.plan ≡ load_plan number }
-    ensures text { Writes (counts_text (load_counts number size)) result (K.taken out.old) (K.taken out.new) (K.faults out.old)
-        (K.faults out.new) }
+/// Prints the counts.
+fn print_counts<K: Sink>(alloc: Global, counts: &Counts, out: &mut K) -> Result<Status, Stop>
+    ensures text { Writes (counts_text counts.now) result (K.taken out.old) (K.taken out.new) (K.faults out.old) (K.faults out.new) }
     ensures answer { IfOk result (λ s. s ≡ Status.Done) }
 {
-    let counts = load_counts(rt, alloc, accepted, number, size, workers.count())?;
-    let text = counts_text(alloc, &counts)?;
+    let text = counts_text(alloc, counts)?;
     print_last(out, text.as_slice(), Status::Done)
 }
 

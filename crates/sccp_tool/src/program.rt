@@ -1,17 +1,16 @@
 //! The whole program, without its edge.
-ghost use Rattle.std.specs.Prelude.{◌≡◌, ◌≢◌, ◌<◌, ◌-◌, ◌^◌, IsTrue, IfSome, Some, None, Err};
-ghost use Rattle.sccp_io.specs.Faults.{Rose};
+ghost use Rattle.std.specs.Prelude.{◌≡◌, Some, Err};
 ghost use Rattle.sccp_tool.specs.Commands.{task_of, texts};
-ghost use Rattle.sccp_work.specs.Ending.{Works, Outcome, Closes, answer_of};
+ghost use Rattle.sccp_work.specs.Ending.{Works, Closes, answer_of};
 ghost use Rattle.sccp_work.specs.Moment.{moment};
 ghost use Rattle.sccp_tool.specs.Parsed.{task_in};
-ghost use Rattle.sccp_tool.specs.Run.{work_of, Cause, SureCause, TellsAnswer, TellsJourneys, HasNamedFiles, ExactlyWhere, ComesWhere};
-ghost use Rattle.sccp_tool.specs.Run.{RefusedWhere};
-ghost use Rattle.sccp_work.specs.Work.{HasFiles};
+ghost use Rattle.sccp_tool.specs.Promise.{Promise};
+ghost use Rattle.sccp_tool.specs.Run.{work_of};
 
 use crate::change::change;
 use crate::command::{Command, parse};
 use crate::connect::connect;
+use crate::covers::covers;
 use crate::cuts::cuts;
 use crate::import::import;
 use crate::load::load;
@@ -30,7 +29,7 @@ use std::sync::Wait;
 use std::thread::Threads;
 
 const USAGE: &[u8] =
-    b"usage: show-hex HEX | show FILE | verify PLAN | route PLAN NODE SELECTOR SSN DIGITS | replay PLAN TRACE WORKERS | load NUMBER SIZE WORKERS | cuts HEX | change OLD NEW | connect PLAN NODE FROM SELECTOR SSN DIGITS HEX | send-on PLAN NODE ORIGIN SIZE HEX | import PLAN FILE\n";
+    b"usage: show-hex HEX | show FILE | verify PLAN | route PLAN NODE SELECTOR SSN DIGITS | replay PLAN TRACE WORKERS | load NUMBER SIZE WORKERS | cuts HEX | change OLD NEW | connect PLAN NODE FROM SELECTOR SSN DIGITS HEX | send-on PLAN NODE ORIGIN SIZE HEX | import PLAN FILE | covers PLAN\n";
 
 const READ_FAULT: &[u8] = b"read fault\n";
 
@@ -42,48 +41,9 @@ pub fn run<R: Threads + Wait + Sync, F: Files, K: Sink>(
     files: &mut F,
     out: &mut K,
 ) -> Status
-    // The answer, what the sink took, and what became of the files.
-    ensures outcome { Outcome (work_of (task_of (texts words.now))) result
+    ensures { Promise (task_of (texts words.now)) result
         (moment F.contents F.sound F.faults K.taken K.faults files.old out.old)
         (moment F.contents F.sound F.faults K.taken K.faults files.new out.new) }
-
-    // What the text says of a plan, of two plans, or of a file of DATA messages.
-    ensures tells { IfSome (F.contents files.old)
-        (λ c. TellsAnswer c (task_of (texts words.now)) result (K.taken out.old) (K.taken out.new)) }
-
-    // The journey of each message of a replay.
-    ensures journeys { IfSome (F.contents files.old)
-        (λ c. TellsJourneys c (task_of (texts words.now)) result (K.taken out.old) (K.taken out.new)) }
-
-    // The cause of each answer.
-    ensures done { IfSome (F.contents files.old)
-        (λ c. ComesWhere Status.Done result (Cause c (task_of (texts words.now)) Status.Done)
-        (SureCause c (task_of (texts words.now)) Status.Done)) }
-    ensures refused { IfSome (F.contents files.old)
-        (λ c. RefusedWhere result (Cause c (task_of (texts words.now)) Status.Refused)) }
-    ensures too_wide { IfSome (F.contents files.old)
-        (λ c. result ≡ Status.TooWide → Cause c (task_of (texts words.now)) Status.TooWide) }
-    ensures usage { ExactlyWhere Status.Usage result (task_of (texts words.now) ≡ None) }
-    ensures bad_plan { IfSome (F.contents files.old)
-        (λ c. ComesWhere Status.BadPlan result (Cause c (task_of (texts words.now)) Status.BadPlan)
-        (SureCause c (task_of (texts words.now)) Status.BadPlan)) }
-    ensures bad_trace { IfSome (F.contents files.old)
-        (λ c. ComesWhere Status.BadTrace result (Cause c (task_of (texts words.now)) Status.BadTrace)
-        (SureCause c (task_of (texts words.now)) Status.BadTrace)) }
-    ensures too_long { IfSome (F.contents files.old)
-        (λ c. ComesWhere Status.TooLong result (Cause c (task_of (texts words.now)) Status.TooLong)
-        (SureCause c (task_of (texts words.now)) Status.TooLong)) }
-    ensures other_nodes { IfSome (F.contents files.old)
-        (λ c. ComesWhere Status.OtherNodes result (Cause c (task_of (texts words.now)) Status.OtherNodes)
-        (SureCause c (task_of (texts words.now)) Status.OtherNodes)) }
-    ensures read_fault { result ≡ Status.ReadFault → Rose (F.faults files.old) (F.faults files.new) }
-    ensures write_fault { result ≡ Status.WriteFault → Rose (K.faults out.old) (K.faults out.new) }
-    // Sound files that have each file which the work may read do not fail.
-    ensures sound { IsTrue (F.sound files.old) → IfSome (F.contents files.old) (λ c. HasFiles c (work_of (task_of (texts words.now)))
-        → (F.faults files.new ≡ F.faults files.old) × (F.faults files.old < 2 ^ 64 - 1 → result ≢ Status.ReadFault)) }
-    // Nor do those that have each file which the words name, or a line of the trace as a later plan.
-    ensures named { IsTrue (F.sound files.old) → IfSome (F.contents files.old) (λ c. HasNamedFiles c (task_of (texts words.now))
-        → (F.faults files.new ≡ F.faults files.old) × (F.faults files.old < 2 ^ 64 - 1 → result ≢ Status.ReadFault)) }
 {
     run_gated(rt, alloc, words, files, out, &OpenGate)
 }
@@ -98,48 +58,9 @@ pub fn run_gated<R: Threads + Wait + Sync, F: Files, K: Sink, G: Gate + Sync>(
     out: &mut K,
     gate: &G,
 ) -> Status
-    // The answer, what the sink took, and what became of the files.
-    ensures outcome { Outcome (work_of (task_of (texts words.now))) result
+    ensures { Promise (task_of (texts words.now)) result
         (moment F.contents F.sound F.faults K.taken K.faults files.old out.old)
         (moment F.contents F.sound F.faults K.taken K.faults files.new out.new) }
-
-    // What the text says of a plan, of two plans, or of a file of DATA messages.
-    ensures tells { IfSome (F.contents files.old)
-        (λ c. TellsAnswer c (task_of (texts words.now)) result (K.taken out.old) (K.taken out.new)) }
-
-    // The journey of each message of a replay.
-    ensures journeys { IfSome (F.contents files.old)
-        (λ c. TellsJourneys c (task_of (texts words.now)) result (K.taken out.old) (K.taken out.new)) }
-
-    // The cause of each answer.
-    ensures done { IfSome (F.contents files.old)
-        (λ c. ComesWhere Status.Done result (Cause c (task_of (texts words.now)) Status.Done)
-        (SureCause c (task_of (texts words.now)) Status.Done)) }
-    ensures refused { IfSome (F.contents files.old)
-        (λ c. RefusedWhere result (Cause c (task_of (texts words.now)) Status.Refused)) }
-    ensures too_wide { IfSome (F.contents files.old)
-        (λ c. result ≡ Status.TooWide → Cause c (task_of (texts words.now)) Status.TooWide) }
-    ensures usage { ExactlyWhere Status.Usage result (task_of (texts words.now) ≡ None) }
-    ensures bad_plan { IfSome (F.contents files.old)
-        (λ c. ComesWhere Status.BadPlan result (Cause c (task_of (texts words.now)) Status.BadPlan)
-        (SureCause c (task_of (texts words.now)) Status.BadPlan)) }
-    ensures bad_trace { IfSome (F.contents files.old)
-        (λ c. ComesWhere Status.BadTrace result (Cause c (task_of (texts words.now)) Status.BadTrace)
-        (SureCause c (task_of (texts words.now)) Status.BadTrace)) }
-    ensures too_long { IfSome (F.contents files.old)
-        (λ c. ComesWhere Status.TooLong result (Cause c (task_of (texts words.now)) Status.TooLong)
-        (SureCause c (task_of (texts words.now)) Status.TooLong)) }
-    ensures other_nodes { IfSome (F.contents files.old)
-        (λ c. ComesWhere Status.OtherNodes result (Cause c (task_of (texts words.now)) Status.OtherNodes)
-        (SureCause c (task_of (texts words.now)) Status.OtherNodes)) }
-    ensures read_fault { result ≡ Status.ReadFault → Rose (F.faults files.old) (F.faults files.new) }
-    ensures write_fault { result ≡ Status.WriteFault → Rose (K.faults out.old) (K.faults out.new) }
-    // Sound files that have each file which the work may read do not fail.
-    ensures sound { IsTrue (F.sound files.old) → IfSome (F.contents files.old) (λ c. HasFiles c (work_of (task_of (texts words.now)))
-        → (F.faults files.new ≡ F.faults files.old) × (F.faults files.old < 2 ^ 64 - 1 → result ≢ Status.ReadFault)) }
-    // Nor do those that have each file which the words name, or a line of the trace as a later plan.
-    ensures named { IsTrue (F.sound files.old) → IfSome (F.contents files.old) (λ c. HasNamedFiles c (task_of (texts words.now))
-        → (F.faults files.new ≡ F.faults files.old) × (F.faults files.old < 2 ^ 64 - 1 → result ≢ Status.ReadFault)) }
 {
     let worked = carry_out(rt, gate, alloc, words, files, out);
     close(worked, out)
@@ -197,6 +118,7 @@ fn obey<R: Threads + Wait + Sync, G: Gate + Sync, F: Files, K: Sink>(
         Command::Change(old, new) => change(alloc, old, new, files, out),
         Command::Connect(name, calling) => connect(alloc, name, calling, files, out),
         Command::SendOn(name, incoming) => send_on(alloc, name, incoming, files, out),
+        Command::Covers(name) => covers(alloc, name, files, out),
     }
 }
 

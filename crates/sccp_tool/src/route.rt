@@ -8,7 +8,7 @@ ghost use Rattle.sccp_tool.specs.Parsed.{task_in};
 ghost use Rattle.sccp_tool.specs.Route.{route_words, route_of, unmarked, hops_from, spot_at, route_text, route_work};
 
 use crate::command::Command;
-use crate::start::{Start, start_of};
+use crate::start::{Start, StartWords, start_of};
 use plan_model::{Plan, Spot};
 use sccp_base::{Marking, Octets, OutOfMemory};
 use sccp_io::{Files, Sink};
@@ -29,32 +29,28 @@ pub fn route_words(words: &[String]) -> Option<Command<'_>>
     ensures { task_in result ≡ route_words (texts words.now) }
 {
     match words {
-        [plan, node, selector, ssn, digits] => route_of(
-            plan.as_str(),
-            node.as_str(),
-            selector.as_str(),
-            ssn.as_str(),
-            digits.as_str(),
-        ),
+        [plan, node, selector, ssn, digits] => {
+            let start = StartWords {
+                node: node.as_str(),
+                selector: selector.as_str(),
+                ssn: ssn.as_str(),
+                digits: digits.as_str(),
+            };
+            route_of(plan.as_str(), &start)
+        }
         _ => None,
     }
 }
 
 /// The command of these five words.
 #[tactic(auto, unfolding(crate::specs::Route::route_of))]
-fn route_of<'a>(
-    plan: &'a str,
-    node: &str,
-    selector: &str,
-    ssn: &str,
-    digits: &str,
-) -> Option<Command<'a>>
-    ensures { task_in result ≡ route_of plan.now node.now selector.now ssn.now digits.now }
+fn route_of<'a>(plan: &'a str, start: &StartWords<'_>) -> Option<Command<'a>>
+    ensures { task_in result ≡ route_of plan.now start.now.node.now start.now.selector.now start.now.ssn.now start.now.digits.now }
 {
     if !is_file_name(plan.as_bytes()) {
         return None;
     }
-    match start_of(node, selector, ssn, digits) {
+    match start_of(start) {
         Some(start) => Some(Command::Route(plan, start)),
         None => None,
     }

@@ -9,7 +9,7 @@ ghost use Rattle.sccp_message.specs.declared.message.Message.{Message};
 ghost use Rattle.sccp_message.specs.Unitdata.{called_of};
 ghost use Rattle.sccp_report.specs.MessageText.{undecodable_line};
 ghost use Rattle.sccp_report.specs.Hops.{marks_text};
-ghost use Rattle.sccp_report.specs.Values.{numbered, point_code_text};
+ghost use Rattle.sccp_report.specs.Values.{numbered};
 ghost use Rattle.sccp_scrc.specs.Arriving.{arrival};
 ghost use Rattle.sccp_tool.specs.Commands.{texts};
 ghost use Rattle.sccp_work.specs.Ending.{Works};
@@ -24,7 +24,7 @@ use long_segments::LongFault;
 use plan_model::Plan;
 use sccp_base::{Marking, Name, Octets, OutOfMemory, PointCode, Reference, cut, decimal};
 use sccp_io::{Files, Sink};
-use sccp_report::{Text, message_text};
+use sccp_report::{Text, message_text, put_point_code};
 use sccp_scrc::{Arrival, arrive};
 use sccp_work::{Status, Stop, print_last, with_plan};
 use std::alloc::Global;
@@ -266,19 +266,6 @@ fn put_to(text: &mut Text, pc: PointCode, octets: &[u8]) -> Result<(), OutOfMemo
     text.put(b" ")?;
     text.put_octets(octets)?;
     text.put(b"\n")
-}
-
-/// Appends a point code as zone, area and signalling point.
-#[tactic(auto, unfolding(sccp_report::specs::Values::point_code_text))]
-pub fn put_point_code(text: &mut Text, pc: PointCode) -> Result<(), OutOfMemory>
-    ensures { OnOk result (text.new ≡ text.old ++ point_code_text pc) }
-{
-    let value = u32::from(pc.value());
-    text.put_number(value / 2048)?;
-    text.put(b"-")?;
-    text.put_number(value / 8 % 256)?;
-    text.put(b"-")?;
-    text.put_number(value % 8)
 }
 
 /// Appends the line of a message for a subsystem of the node.

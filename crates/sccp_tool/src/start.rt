@@ -13,15 +13,24 @@ pub struct Start {
     pub digits: Digits,
 }
 
+/// The words that spell a start.
+#[derive(Clone, Copy)]
+pub struct StartWords<'a> {
+    pub node: &'a str,
+    pub selector: &'a str,
+    pub ssn: &'a str,
+    pub digits: &'a str,
+}
+
 /// The start that four words spell, or none if one of them does not have its form.
 #[tactic(auto, unfolding(crate::specs::Starts::start_of))]
-pub fn start_of(node: &str, selector: &str, ssn: &str, digits: &str) -> Option<Start>
-    ensures { result ≡ start_of node.now selector.now ssn.now digits.now }
+pub fn start_of(words: &StartWords<'_>) -> Option<Start>
+    ensures { result ≡ start_of words.now.node.now words.now.selector.now words.now.ssn.now words.now.digits.now }
 {
-    let node = Name::parse(node.as_bytes())?;
-    let selector = Selector::parse(selector.as_bytes())?;
-    let ssn = ssn_of(ssn.as_bytes())?;
-    let digits = title_digits(digits)?;
+    let node = Name::parse(words.node.as_bytes())?;
+    let selector = Selector::parse(words.selector.as_bytes())?;
+    let ssn = ssn_of(words.ssn.as_bytes())?;
+    let digits = title_digits(words.digits)?;
     Some(Start {
         node,
         selector,

@@ -2,11 +2,10 @@
 use Rattle.std.proofs.Common.{◌≡◌, ℕ, List, [], ◌++◌, length, Option, sym, ◌∙◌, ap, subst, append-nil, append_assoc, take_all, inl, inr}
 use Rattle.std.proofs.Common.{arith}
 use Rattle.std.specs.Io.{StartsWith}
-use Rattle.plan_change.specs.declared.answer.Change.{Change}
-use Rattle.plan_verify.specs.declared.verdict.Verdict.{Verdict}
 use Rattle.sccp_io.specs.Files.{Contents, Reads}
 use Rattle.sccp_work.specs.Numbers.{AreNumbers}
-use Rattle.sccp_work.specs.Work.{Work, finish, print, read, read_on, judge, mix, serve, IsJudged, IsCompared, Ends, ComesToReading}
+use Rattle.sccp_work.specs.Questions.{Reply, IsTrueOf}
+use Rattle.sccp_work.specs.Work.{Work, finish, print, read, read_on, ask, serve, Ends, ComesToReading}
 use Rattle.sccp_work.specs.Work.{BeginsWith}
 use Rattle.sccp_work.specs.declared.status.Status.{Status}
 
@@ -18,8 +17,8 @@ Through ends reads fronts k (print t w) acc = ((front : List ℕ) → StartsWith
     × Through ends reads fronts k w (acc ++ t)
 Through ends reads fronts k (read name f) acc = reads acc × ((octets : List ℕ) → Reads k name octets
     → Through ends reads fronts k (f octets) acc)
-Through ends reads fronts k (judge plan f) acc = (v : Verdict) → IsJudged plan v → Through ends reads fronts k (f v) acc
-Through ends reads fronts k (mix old new f) acc = (c : Change) → IsCompared old new c → Through ends reads fronts k (f c) acc
+Through ends reads fronts k (ask question f) acc =
+    (reply : Reply question) → IsTrueOf question reply → Through ends reads fronts k (f reply) acc
 Through ends reads fronts k (read_on w) acc = reads acc × Through ends reads fronts k w acc
 Through ends reads fronts k (serve b f) acc = (ns : List ℕ) → AreNumbers b ns → Through ends reads fronts k (f ns) acc
 
@@ -36,8 +35,7 @@ ends_of ends reads fronts k (finish z) acc text s h e = subst (ends s) (whole_te
 ends_of ends reads fronts k (print t w) acc text s h e = subst (ends s) (further acc t e.0 text e.1)
     (ends_of ends reads fronts k w (acc ++ t) e.0 s h.1 e.2)
 ends_of ends reads fronts k (read name f) acc text s h e = ends_of ends reads fronts k (f e.0) acc text s (h.1 e.0 e.1) e.2
-ends_of ends reads fronts k (judge plan f) acc text s h e = ends_of ends reads fronts k (f e.0) acc text s (h e.0 e.1) e.2
-ends_of ends reads fronts k (mix old new f) acc text s h e = ends_of ends reads fronts k (f e.0) acc text s (h e.0 e.1) e.2
+ends_of ends reads fronts k (ask question f) acc text s h e = ends_of ends reads fronts k (f e.0) acc text s (h e.0 e.1) e.2
 ends_of ends reads fronts k (read_on w) acc text s h e = ends_of ends reads fronts k w acc text s h.1 e
 ends_of ends reads fronts k (serve b f) acc text s h e = ends_of ends reads fronts k (f e.0) acc text s (h e.0 e.1) e.2
 
@@ -48,8 +46,7 @@ reads_of ends reads fronts k (print t w) acc text h e = subst reads (further acc
     (reads_of ends reads fronts k w (acc ++ t) e.0 h.1 e.2)
 reads_of ends reads fronts k (read name f) acc text h (inl e) = subst reads (whole_text acc text e) h.0
 reads_of ends reads fronts k (read name f) acc text h (inr e) = reads_of ends reads fronts k (f e.0) acc text (h.1 e.0 e.1) e.2
-reads_of ends reads fronts k (judge plan f) acc text h e = reads_of ends reads fronts k (f e.0) acc text (h e.0 e.1) e.2
-reads_of ends reads fronts k (mix old new f) acc text h e = reads_of ends reads fronts k (f e.0) acc text (h e.0 e.1) e.2
+reads_of ends reads fronts k (ask question f) acc text h e = reads_of ends reads fronts k (f e.0) acc text (h e.0 e.1) e.2
 reads_of ends reads fronts k (read_on w) acc text h (inl e) = subst reads (whole_text acc text e) h.0
 reads_of ends reads fronts k (read_on w) acc text h (inr e) = reads_of ends reads fronts k w acc text h.1 e
 reads_of ends reads fronts k (serve b f) acc text h e = reads_of ends reads fronts k (f e.0) acc text (h e.0 e.1) e.2
@@ -65,10 +62,8 @@ fronts_of ends reads fronts k (print t w) acc text so h (inr e) =
     subst fronts (further acc t e.0 text e.1) (fronts_of ends reads fronts k w (acc ++ t) e.0 (h.0 t (starts_whole t)) h.1 e.2)
 fronts_of ends reads fronts k (read name f) acc text so h (inl e) = subst fronts (whole_text acc text e) so
 fronts_of ends reads fronts k (read name f) acc text so h (inr e) = fronts_of ends reads fronts k (f e.0) acc text so (h.1 e.0 e.1) e.2
-fronts_of ends reads fronts k (judge plan f) acc text so h (inl e) = subst fronts (whole_text acc text e) so
-fronts_of ends reads fronts k (judge plan f) acc text so h (inr e) = fronts_of ends reads fronts k (f e.0) acc text so (h e.0 e.1) e.2
-fronts_of ends reads fronts k (mix old new f) acc text so h (inl e) = subst fronts (whole_text acc text e) so
-fronts_of ends reads fronts k (mix old new f) acc text so h (inr e) = fronts_of ends reads fronts k (f e.0) acc text so (h e.0 e.1) e.2
+fronts_of ends reads fronts k (ask question f) acc text so h (inl e) = subst fronts (whole_text acc text e) so
+fronts_of ends reads fronts k (ask question f) acc text so h (inr e) = fronts_of ends reads fronts k (f e.0) acc text so (h e.0 e.1) e.2
 fronts_of ends reads fronts k (read_on w) acc text so h e = fronts_of ends reads fronts k w acc text so h.1 e
 fronts_of ends reads fronts k (serve b f) acc text so h (inl e) = subst fronts (whole_text acc text e) so
 fronts_of ends reads fronts k (serve b f) acc text so h (inr e) = fronts_of ends reads fronts k (f e.0) acc text so (h e.0 e.1) e.2

@@ -11,12 +11,13 @@ use Rattle.sccp_report.specs.Verdicts.{verdict_text}
 use Rattle.sccp_work.specs.Ending.{IsCut, Works}
 use Rattle.sccp_work.specs.Moment.{Moment}
 use Rattle.sccp_work.specs.Verdict.{status_of, IsSafe, IsBad, IsWide, IsOnVerdict, IsOnRefusal}
-use Rattle.sccp_work.specs.Work.{Work, judge, answered, IsJudged}
+use Rattle.sccp_work.specs.Questions.{verdict_on, IsJudged}
+use Rattle.sccp_work.specs.Work.{Work, judge, answered}
 use Rattle.sccp_work.specs.Writing.{Writes}
 use Rattle.sccp_work.specs.declared.status.Status.{Status}
 use Rattle.sccp_work.specs.declared.status.Status.TheVariants.{Done, Refused, TooWide}
 use Rattle.sccp_work.specs.declared.stop.Stop.{Stop}
-use Rattle.sccp_work.proofs.WorkLemmas.{Works-answered, Works-judge}
+use Rattle.sccp_work.proofs.WorkLemmas.{Works-answered, Works-ask}
 
 abbrev pub judged_work : Network → Work
 judged_work plan = judge plan (λ verdict. answered (status_of verdict, verdict_text plan verdict))
@@ -35,7 +36,7 @@ pub Works-verdict : (plan : Network) (verdict : Verdict) (status : Status) (text
 Works-verdict plan verdict status text result b a judged of spelt writes is contents sound read_faults =
     let whole = subst (λ t. Writes t result b.taken a.taken b.write_faults a.write_faults) spelt writes in
     let answer = subst (λ t. IfOk result (λ s. s ≡ t)) of is in
-    Works-judge plan (λ v. answered (status_of v, verdict_text plan v)) verdict result b a judged
+    Works-ask (verdict_on plan) (λ v. answered (status_of v, verdict_text plan v)) verdict result b a judged
     (Works-answered (status_of verdict, verdict_text plan verdict) result b a (not_cut verdict) whole answer contents sound read_faults)
 
 -- ---- what each answer follows from

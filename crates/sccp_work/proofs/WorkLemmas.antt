@@ -4,8 +4,6 @@ use Rattle.std.proofs.Common.{ap, subst, append-nil, arith, inl, inr}
 use Rattle.std.specs.Prelude.{is_none, IsErrOf, OnOk}
 use Rattle.std.specs.Io.{StartsWith}
 use Rattle.std.specs.Io.KnownBytes.{append_known}
-use Rattle.plan_model.specs.Network.{Network}
-use Rattle.plan_verify.specs.declared.verdict.Verdict.{Verdict}
 use Rattle.sccp_io.specs.Faults.{Rose}
 use Rattle.sccp_io.specs.Files.{Contents, Reads, lacks}
 use Rattle.sccp_work.specs.Ending.{Goes, IsCut, IsSpared, Stops, Works, Answers, Outcome, Closes, answer_of, early}
@@ -13,7 +11,8 @@ use Rattle.sccp_work.specs.Moment.{Moment}
 use Rattle.sccp_work.specs.Numbers.{Batch, AreNumbers}
 use Rattle.sccp_work.specs.Texts.{read_fault}
 use Rattle.sccp_work.specs.Writing.{Writes}
-use Rattle.sccp_work.specs.Work.{Work, finish, print, read, read_on, judge, mix, serve, answered, IsJudged, Ends, ComesToReading}
+use Rattle.sccp_work.specs.Questions.{Question, Reply, IsTrueOf}
+use Rattle.sccp_work.specs.Work.{Work, finish, print, read, read_on, ask, serve, answered, Ends, ComesToReading}
 use Rattle.sccp_work.specs.Work.{BeginsWith, HasFiles}
 use Rattle.sccp_work.specs.declared.status.Status.{Status}
 use Rattle.sccp_work.specs.declared.status.Status.TheVariants.{NoMemory, ReadFault, WriteFault}
@@ -65,8 +64,7 @@ pub BeginsWith-nil : (contents : Option Contents) (work : Work) → BeginsWith c
 BeginsWith-nil contents (finish s) = refl
 BeginsWith-nil contents (print t w) = inl refl
 BeginsWith-nil contents (read name f) = inl refl
-BeginsWith-nil contents (judge plan f) = inl refl
-BeginsWith-nil contents (mix old new f) = inl refl
+BeginsWith-nil contents (ask question f) = inl refl
 BeginsWith-nil contents (read_on w) = BeginsWith-nil contents w
 BeginsWith-nil contents (serve batch f) = inl refl
 
@@ -196,27 +194,27 @@ Works-reading name f stop b m p spared failed no_writing no_answer = record {
   at None e h = tt
   at (Some c) e h = λ has. spared h (subst (λ k. lacks k name ≡ false) (sym e) (there (c name) has.0 has.1))
 
--- ---- a verdict
+-- ---- a question
 
-pub Works-judge : (plan : Network) (f : Verdict → Work) (verdict : Verdict) (result : Result Status Stop) (b a : Moment)
-    → IsJudged plan verdict → Works (f verdict) result b a → Works (judge plan f) result b a
-Works-judge plan f verdict result b a judged w = record {
+pub Works-ask : (question : Question) (f : Reply question → Work) (reply : Reply question) (result : Result Status Stop) (b a : Moment)
+    → IsTrueOf question reply → Works (f reply) result b a → Works (ask question f) result b a
+Works-ask question f reply result b a true_of w = record {
   text = w.text;
   goes = w.goes;
-  stops = stops_judge result w.stops;
+  stops = stops_ask result w.stops;
   spared = λ h. at b.contents (w.spared h);
 } where
-  stops_judge : (r : Result Status Stop) → Stops (f verdict) r w.text b a → Stops (judge plan f) r w.text b a
-  stops_judge (Ok s) e = (e.0, (verdict, judged, e.1))
-  stops_judge (Err (Answered s)) e = (e.0, (verdict, judged, e.1))
-  stops_judge (Err Read) e = (e.0, (verdict, judged, e.1))
-  stops_judge (Err Write) e = (e.0, inr (verdict, judged, e.1))
-  stops_judge (Err Memory) e = inr (verdict, judged, e)
+  stops_ask : (r : Result Status Stop) → Stops (f reply) r w.text b a → Stops (ask question f) r w.text b a
+  stops_ask (Ok s) e = (e.0, (reply, true_of, e.1))
+  stops_ask (Err (Answered s)) e = (e.0, (reply, true_of, e.1))
+  stops_ask (Err Read) e = (e.0, (reply, true_of, e.1))
+  stops_ask (Err Write) e = (e.0, inr (reply, true_of, e.1))
+  stops_ask (Err Memory) e = inr (reply, true_of, e)
 
-  at : (k : Option Contents) → IfSome k (λ c. HasFiles c (f verdict) → a.read_faults ≡ b.read_faults)
-      → IfSome k (λ c. HasFiles c (judge plan f) → a.read_faults ≡ b.read_faults)
+  at : (k : Option Contents) → IfSome k (λ c. HasFiles c (f reply) → a.read_faults ≡ b.read_faults)
+      → IfSome k (λ c. HasFiles c (ask question f) → a.read_faults ≡ b.read_faults)
   at None h = tt
-  at (Some c) h = λ has. h (has verdict judged)
+  at (Some c) h = λ has. h (has reply true_of)
 
 -- ---- an open file is read on
 
@@ -371,7 +369,7 @@ stops_print t w (Err Write) text b m a p e = (
 )
 stops_print t w (Err Memory) text b m a p e = inr (text, refl, subst (λ c. BeginsWith c w text) p.contents e)
 
-pub Works-print : (t : List ℕ) (w : Work) (result : Result Status Stop) (b m a : Moment) → Goes b m t → m.read_faults ≡ b.read_faults
+Works-print : (t : List ℕ) (w : Work) (result : Result Status Stop) (b m a : Moment) → Goes b m t → m.read_faults ≡ b.read_faults
     → Works w result m a → Works (print t w) result b a
 Works-print t w result b m a p same h = record {
   text = t ++ h.text;
@@ -388,7 +386,7 @@ Works-print t w result b m a p same h = record {
       more' has ∙ same
 
 -- the sink failed at a text, or memory was wanting
-pub Works-print-stopped : (t : List ℕ) (w : Work) (front : List ℕ) (stop : Stop) (b m : Moment) → StartsWith t front → Goes b m front
+Works-print-stopped : (t : List ℕ) (w : Work) (front : List ℕ) (stop : Stop) (b m : Moment) → StartsWith t front → Goes b m front
     → m.read_faults ≡ b.read_faults → (stop ≡ Write → Rose b.write_faults m.write_faults)
     → (stop ≡ Read → ⊥) → ((s : Status) → stop ≡ Answered s → ⊥) → Works (print t w) (Err stop) b m
 Works-print-stopped t w front stop b m starts p kept failed no_reading no_answer = record {
@@ -407,6 +405,41 @@ Works-print-stopped t w front stop b m starts p kept failed no_reading no_answer
   at : (k : Option Contents) → IfSome k (λ c. HasFiles c (print t w) → m.read_faults ≡ b.read_faults)
   at None = tt
   at (Some c) = λ has. kept
+
+-- the files stay while a text is written
+pub record Kept (b m : Moment) : Type 0 where
+  pub contents : m.contents ≡ b.contents
+  pub sound : m.sound ≡ b.sound
+  pub read_faults : m.read_faults ≡ b.read_faults
+
+abbrev pub Printed : List ℕ → Work → Result (Unit {0}) Stop → Moment → Moment → Type 0
+Printed t w (Ok done) b m = (result : Result Status Stop) (after : Moment) → Works w result m after → Works (print t w) result b after
+Printed t w (Err stop) b m = Works (print t w) (Err stop) b m
+
+pub printed : (t : List ℕ) (w : Work) (r : Result (Unit {0}) Stop) (b m : Moment) → Writes t r b.taken m.taken b.write_faults m.write_faults
+    → Kept b m → Printed t w r b m
+printed t w (Ok done) b m writes k = λ result after h.
+    Works-print t w result b m after
+    (record {
+      contents = k.contents;
+      sound = k.sound;
+      read_faults = omega
+          (arith, k.read_faults);
+      write_faults = writes.later;
+      taken = writes.appends ∙ ap (append_known b.taken) writes.whole;
+    })
+    k.read_faults h
+printed t w (Err stop) b m writes k =
+    Works-print-stopped t w writes.front stop b m writes.begins
+    (record {
+      contents = k.contents;
+      sound = k.sound;
+      read_faults = omega
+          (arith, k.read_faults);
+      write_faults = writes.later;
+      taken = writes.appends;
+    })
+    k.read_faults (λ e. writes.failed (ap Err e)) (λ e. writes.no_reading (ap Err e)) (λ s e. writes.no_answer s (ap Err e))
 
 -- ---- the end of the call
 

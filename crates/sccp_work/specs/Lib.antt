@@ -1,4 +1,5 @@
 -- The definitions of this crate, one file a subject.
+pub mod Accepting
 pub mod Ending
 pub mod Limit
 pub mod LineFault
@@ -6,6 +7,7 @@ pub mod Moment
 pub mod Numbers
 pub mod Opened
 pub mod Plans
+pub mod Questions
 pub mod Reading
 pub mod Status
 pub mod Texts

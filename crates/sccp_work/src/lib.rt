@@ -5,6 +5,7 @@
 //! goes on from what the call gave, or how it has ended. A file that a command needs whole has at most 1,048,576 octets.
 #![tactic(auto)]
 
+mod accepting;
 mod limit;
 mod line_fault;
 mod opened;
@@ -15,6 +16,7 @@ mod stop;
 mod verdict;
 mod writing;
 
+pub use accepting::if_accepted;
 pub use limit::within_limit;
 pub use line_fault::bad_line;
 pub use opened::Opened;
@@ -23,4 +25,4 @@ pub use reading::stopped;
 pub use status::Status;
 pub use stop::{Stop, early};
 pub use verdict::{lawful_text, plan_of, tell_verdict};
-pub use writing::{print_last, put_all};
+pub use writing::{after_word, print_last, put_all};

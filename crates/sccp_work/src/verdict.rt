@@ -49,7 +49,7 @@ pub fn plan_of(verdict: &Verdict) -> &Plan
 }
 
 /// The answer of a verdict.
-fn status_of(verdict: &Verdict) -> Status
+pub fn status_of(verdict: &Verdict) -> Status
     ensures { result ≡ status_of verdict.now }
 {
     match verdict {

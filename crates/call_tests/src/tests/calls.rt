@@ -86,7 +86,7 @@ fn first_other<R: Threads + Wait + Sync>(
 }
 
 /// Words, and the call on the files that fails.
-const FAILING: [(&str, u64); 16] = [
+const FAILING: [(&str, u64); 19] = [
     ("show f", 0),
     ("show f", 1),
     ("show f", 2),
@@ -95,6 +95,9 @@ const FAILING: [(&str, u64); 16] = [
     ("verify f", 1),
     ("verify f", 2),
     ("verify g", 9),
+    ("covers f", 0),
+    ("covers f", 2),
+    ("covers g", 9),
     ("route f b 4:0:1:4 6 49", 0),
     ("route f b 4:0:1:4 6 49", 1),
     ("route f b 4:0:1:4 6 49", 2),
@@ -128,12 +131,13 @@ fn at_failing_sink<R: Threads + Wait + Sync>(
 }
 
 /// Words that write something at once.
-const WRITING: [&str; 7] = [
+const WRITING: [&str; 8] = [
     "show-hex 00",
     "show-hex 0",
     "show f",
     "show g",
     "verify f",
+    "covers f",
     "route f a 4:0:1:4 6 49",
     "replay f g 1",
 ];

@@ -8,8 +8,7 @@ use Rattle.sccp_replay.specs.Trace.{trace_of}
 use Rattle.sccp_work.specs.Work.{Work, print, read}
 use Rattle.sccp_work.specs.Writing.{Writes}
 use Rattle.sccp_work.specs.declared.stop.Stop.TheVariants.{Memory}
-use Rattle.sccp_replay.proofs.TakeSteps.{printed}
-use Rattle.sccp_work.proofs.WorkLemmas.{Works-memory}
+use Rattle.sccp_work.proofs.WorkLemmas.{Works-memory, printed}
 use Rattle.sccp_replay.proofs.replaying.replay_accepted.Goals as goal
 
 pub returns-in_err-line : goal.returns-in_err-line

@@ -1,0 +1,8 @@
+-- The definitions of this crate, one file a subject.
+pub mod Numbers
+pub mod Packets
+pub mod Units
+pub mod Steps
+pub mod Told
+pub mod Views
+pub mod Standings

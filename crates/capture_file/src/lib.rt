@@ -1,0 +1,28 @@
+//! The packets of a capture file: a pcap file (draft-ietf-opsawg-pcap) or a pcapng file (draft-ietf-opsawg-pcapng). The file may
+//! arrive in any pieces.
+//!
+//! The layer above may rely on this: what a `Reader` has reported of its pieces is what the definitions give for all octets
+//! together. A packet is reported as soon as its last octet has arrived.
+#![tactic(auto)]
+
+mod blocks;
+mod expected;
+mod fed;
+mod file_fault;
+mod file_kind;
+mod held;
+mod numbers;
+mod order;
+mod pieces;
+mod progress;
+mod reader;
+mod records;
+mod section;
+mod step;
+mod units;
+
+pub use fed::Fed;
+pub use file_fault::{Damage, FileFault};
+pub use held::{BadPacket, Held, Packet, PacketOctets};
+pub use order::Order;
+pub use reader::Reader;

@@ -1,0 +1,7 @@
+-- The lemmas of this crate, one file a subject.
+pub mod Ascending
+pub mod Titles
+pub mod Adding
+pub mod Climbing
+pub mod Listing
+pub mod Safety

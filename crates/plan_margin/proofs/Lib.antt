@@ -1,0 +1,9 @@
+-- Lemmas of this crate, one file a subject.
+pub mod Arriving
+pub mod Closing
+pub mod Counting
+pub mod Following
+pub mod Margins
+pub mod Passing
+pub mod Sets
+pub mod Starting

@@ -1,0 +1,36 @@
+use Rattle.std.proofs.Common.{◌+◌, ◌-◌, ◌*◌, ◌<◌, take}
+use Rattle.std.specs.List.{All}
+use Rattle.plan_margin.specs.Searching.{IsIn, AllArrive, most_ways}
+use Rattle.plan_margin.proofs.search.+search.Given as goal
+
+-- a part has fewer open digits, a next class fewer hops left, and the next place fewer targets after it
+abbrev pub decreases-explore : goal.decreases-explore
+decreases-explore l = 2000 * (l.left + l.class.now.most) + 1999
+
+abbrev pub decreases-explore_parts : goal.decreases-explore_parts
+decreases-explore_parts l = 2000 * (l.left + l.class.now.most) + 1998
+
+abbrev pub decreases-explore_targets : goal.decreases-explore_targets
+decreases-explore_targets l = 2000 * (l.left + l.class.now.most) + 1998
+
+abbrev pub decreases-follow_row : goal.decreases-follow_row
+decreases-follow_row l = 2000 * (l.left + l.class.now.most) + 5 * (256 - l.place) + 3
+
+abbrev pub decreases-follow_either : goal.decreases-follow_either
+decreases-follow_either l = 2000 * (l.left + l.class.now.most) + 5 * (256 - l.place) + 2
+
+abbrev pub decreases-follow_up : goal.decreases-follow_up
+decreases-follow_up l = 2000 * (l.left + l.class.now.most) + 5 * (256 - l.place) + 1
+
+abbrev pub decreases-follow_lost : goal.decreases-follow_lost
+decreases-follow_lost l = 2000 * (l.left + l.class.now.most) + 5 * (256 - l.place) + 1
+
+abbrev pub decreases-follow_target : goal.decreases-follow_target
+decreases-follow_target l = 2000 * (l.left + l.class.now.most) + 5 * (256 - l.place)
+
+-- the titles of the parts so far arrive, and the limit is not reached
+abbrev pub invariant-explore_parts-loop-part : goal.invariant-explore_parts-loop-part
+invariant-explore_parts-loop-part l = record {
+  few : l.count < most_ways;
+  arrive : All (λ part. AllArrive l.plan part l.left l.set.most (IsIn l.set) l.cut) (take l.part-index l.part-items);
+}

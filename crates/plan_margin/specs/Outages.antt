@@ -1,0 +1,63 @@
+-- Outages of signalling points, and the titles that arrive while one lasts.
+use Rattle.std.specs.Prelude.{ℕ, ◌≡◌, ◌≢◌, ◌<◌, false, List, length, replicate, IsSomeAnd, slice_get}
+use Rattle.std.specs.List.{All, AllPairs}
+use Rattle.sccp_base.specs.declared.mark.Mark.{Mark}
+use Rattle.sccp_base.specs.declared.mark.Mark.TheVariants.{PointCode, Sccp, Subsystem}
+use Rattle.sccp_base.specs.Marks.{holds}
+use Rattle.plan_model.specs.declared.spot.Spot.{Spot}
+use Rattle.plan_model.specs.declared.hop.Hop.{Hop}
+use Rattle.plan_model.specs.declared.hop.Step.{Step}
+use Rattle.plan_model.specs.declared.hop.Step.TheVariants.{Sent, Ended, Blocked, NoRow, Overgrown}
+use Rattle.plan_model.specs.Network.{Network}
+use Rattle.plan_model.specs.Routes.{route}
+use Rattle.plan_model.specs.Verdicts.{last, HasSpot}
+use Rattle.plan_check.specs.Ranked.{Allows}
+
+-- the mark of a point, not of its SCCP or of one of its subsystems
+abbrev pub IsPointMark : Mark → Type 0
+IsPointMark (PointCode point) = Unit {0}
+IsPointMark (Sccp point) = ⊥
+IsPointMark (Subsystem point ssn) = ⊥
+
+-- the relay at which the titles of the cover come in is not lost
+abbrev pub SparesEntry : Network → ℕ → List Mark → Type 0
+SparesEntry plan number marks =
+    IsSomeAnd (slice_get plan.covers number) (λ cover. IsSomeAnd (slice_get plan.nodes cover.node)
+    (λ node. holds marks (PointCode node.pc) ≡ false))
+
+-- Points that are lost, each listed once, as marks that all relays hold. The length of the list is the number of lost points.
+pub record Outage (plan : Network) (number : ℕ) (marks : List Mark) : Type 0 where
+  pub points : All IsPointMark marks
+  pub once : AllPairs (λ a b. a ≢ b) marks
+  pub spared : SparesEntry plan number marks
+
+-- the hops of a title if all relays hold the same marks, at most fourteen
+abbrev pub route_in : Network → List Mark → Spot → List Hop
+route_in plan marks spot = route plan spot (replicate 14 marks)
+
+-- the last step of a route that arrives: it ends at a place that the cover allows
+abbrev pub IsEndAllowed : Network → ℕ → Step → Type 0
+IsEndAllowed plan number (Sent next target) = ⊥
+IsEndAllowed plan number (Ended pc ssn target) = Allows plan number pc ssn
+IsEndAllowed plan number (Blocked cause marks) = ⊥
+IsEndAllowed plan number (NoRow cause) = ⊥
+IsEndAllowed plan number Overgrown = ⊥
+
+-- within this number of hops the title's route ends at a place that the cover allows, while all relays hold these marks
+pub record ArrivesWithin (plan : Network) (number hops : ℕ) (marks : List Mark) (spot : Spot) : Type 0 where
+  pub ends : IsSomeAnd (last (route plan spot (replicate hops marks))) (IsEndAllowed plan number)
+
+-- the title arrives within fourteen hops
+abbrev pub Arrives : Network → ℕ → List Mark → Spot → Type 0
+Arrives plan number marks spot = ArrivesWithin plan number 14 marks spot
+
+-- every title of the cover arrives in every outage of fewer points than the count
+abbrev pub SurvivesBelow : Network → ℕ → ℕ → Type 0
+SurvivesBelow plan number count =
+    (spot : Spot) (marks : List Mark) → HasSpot plan number spot → Outage plan number marks → length marks < count
+    → Arrives plan number marks spot
+
+-- every title of the cover arrives in every outage
+abbrev pub SurvivesAll : Network → ℕ → Type 0
+SurvivesAll plan number =
+    (spot : Spot) (marks : List Mark) → HasSpot plan number spot → Outage plan number marks → Arrives plan number marks spot

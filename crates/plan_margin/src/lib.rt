@@ -1,0 +1,21 @@
+//! How many signalling points can be lost before a title of a cover is stopped (ITU-T Q.714 sections 2 and 5).
+//!
+//! An outage is a set of points that all relays hold prohibited. A title is stopped if it does not reach a place that its cover
+//! allows within fourteen hops. The search goes over classes of titles and sets of outages together, for no lost point, for one,
+//! for two and so on. The crates above may rely on two facts. A title that is shown is stopped by the shown points, and no fewer
+//! points stop any title of the cover. A cover that is said to survive does survive.
+#![tactic(auto)]
+
+mod finding;
+mod found;
+mod laws;
+mod margin;
+mod outage_set;
+mod search;
+mod stop;
+mod turn;
+
+pub use finding::find_margin;
+pub use laws::margins_are_one;
+pub use margin::Margin;
+pub use stop::Stop;

@@ -1,0 +1,406 @@
+//! The search for a title that an outage stops.
+ghost use Rattle.std.specs.Prelude.{ℕ, ◌≡◌, ◌+◌, ◌-◌, ◌≤◌, ◌<◌, false, true, length, IfOk, Some};
+ghost use Rattle.plan_classes.specs.Titles.{Titles, IsClass, IsLongest};
+ghost use Rattle.plan_classes.specs.declared.leads.Image.TheVariants.{Next, Ends};
+ghost use Rattle.plan_classes.specs.Classes.{Decided, HasImage, class_row, class_targets};
+ghost use Rattle.plan_classes.specs.Leading.{ImageIsExact};
+ghost use Rattle.plan_margin.specs.declared.found.Found.TheVariants.{Stopped as StoppedFound};
+ghost use Rattle.plan_margin.specs.Searching.{MayExplore, IsOutageSet, IsFound, IsFoundIf, IsWithinLimit, most_ways, PassesOver, TakesIn};
+ghost use Rattle.plan_margin.specs.Searching.{IsTurn};
+ghost use Rattle.plan_margin.specs.Searching.{IsInWith, IsTurnBy, point_of_target};
+ghost use Rattle.plan_margin.specs.declared.turn.Turn.TheVariants.{Either};
+
+use crate::found::{Found, joined};
+use crate::outage_set::OutageSet;
+use crate::turn::Turn;
+use plan_check::allows;
+use plan_classes::{Class, Image, carry_back, class_row, decided, image_by, parts, sample};
+use plan_model::{Node, Plan};
+use plan_rules::{Row, Target};
+use sccp_base::{Digits, Mark, OutOfMemory, PointCode};
+use std::alloc::Global;
+
+/// The number of classes at which the search gives up.
+const LIMIT: u32 = 1_048_576;
+
+/// Looks for a title of a class that does not arrive in an outage of the set, if its route may have `left` more hops. `count` is
+/// the number of classes that the search has met.
+#[cycle(search)]
+pub(crate) fn explore(
+    alloc: Global,
+    plan: &Plan,
+    class: &Class,
+    left: u8,
+    set: &OutageSet,
+    count: &mut u32,
+) -> Result<Found, OutOfMemory>
+    requires left { left ≤ 14 }
+    requires may { MayExplore plan.now class.now }
+    requires set { IsOutageSet set.now }
+    requires few { count.old < most_ways }
+    ensures found { IfOk result (IsFound plan.now class.now left set.now) }
+    ensures limit { IfOk result (λ found. IsWithinLimit found count.new) }
+{
+    if left == 0 {
+        return stopped(alloc, set, sample(class));
+    }
+    *count += 1;
+    if *count == LIMIT {
+        return Ok(Found::Wide);
+    }
+    if decided(plan, class) {
+        explore_targets(alloc, plan, class, left, set, count)
+    } else {
+        explore_parts(alloc, plan, class, left, set, count)
+    }
+}
+
+/// The title with these digits, and the points that are lost in each outage of the set.
+fn stopped(alloc: Global, set: &OutageSet, digits: Digits) -> Result<Found, OutOfMemory>
+    ensures { IfOk result (λ found. found ≡ StoppedFound digits set.now.lost) }
+{
+    Ok(Found::Stopped {
+        digits,
+        lost: set.lost.try_clone(alloc)?,
+    })
+}
+
+/// Looks for a stopped title among the parts of a class.
+#[cycle(search)]
+fn explore_parts(
+    alloc: Global,
+    plan: &Plan,
+    class: &Class,
+    left: u8,
+    set: &OutageSet,
+    count: &mut u32,
+) -> Result<Found, OutOfMemory>
+    requires left { left ≤ 14 }
+    requires may { MayExplore plan.now class.now }
+    requires more { 0 < class.now.most }
+    requires set { IsOutageSet set.now }
+    requires few { count.old < most_ways }
+    ensures found { IfOk result (IsFound plan.now class.now left set.now) }
+    ensures limit { IfOk result (λ found. IsWithinLimit found count.new) }
+{
+    let mut cut = false;
+    let parts = parts(alloc, class)?;
+    for part in parts.as_slice() {
+        match explore(alloc, plan, part, left, set, count)? {
+            Found::Through { cut: other } => cut = cut | other,
+            found => return Ok(found),
+        }
+    }
+    Ok(Found::Through { cut })
+}
+
+/// Looks for a stopped title among those of a decided class.
+#[cycle(search)]
+fn explore_targets(
+    alloc: Global,
+    plan: &Plan,
+    class: &Class,
+    left: u8,
+    set: &OutageSet,
+    count: &mut u32,
+) -> Result<Found, OutOfMemory>
+    requires some { 0 < left }
+    requires left { left ≤ 14 }
+    requires may { MayExplore plan.now class.now }
+    requires class { IsClass class.now }
+    requires decided { Decided plan.now class.now }
+    requires set { IsOutageSet set.now }
+    requires few { count.old < most_ways }
+    ensures found { IfOk result (IsFound plan.now class.now left set.now) }
+    ensures limit { IfOk result (λ found. IsWithinLimit found count.new) }
+{
+    match class_row(plan, class) {
+        Some(row) => follow_row(alloc, plan, class, row, 0, left, set, count),
+        None => stopped(alloc, set, sample(class)),
+    }
+}
+
+/// What the set says of the target at a place of the class's row.
+fn turn_at(plan: &Plan, class: &Class, row: &Row, place: u8, set: &OutageSet) -> Turn
+    requires node { class.now.node < length plan.now.nodes }
+    requires row { class_row plan.now class.now ≡ Some row.now }
+    ensures turn { IsTurn plan.now class.now place set.now result }
+    ensures few { length row.now.targets ≤ 8 }
+{
+    let node = &plan.nodes().as_slice()[usize::from(class.node())];
+    match row.targets().get(usize::from(place)) {
+        None => Turn::Past,
+        Some(target) => turn_of(node, target, set),
+    }
+}
+
+/// What the set says of a target of the node.
+fn turn_of(node: &Node, target: &Target, set: &OutageSet) -> Turn
+    ensures { IsTurnBy (point_of_target node.now target.now) set.now result }
+{
+    match target {
+        Target::Relay { pc, .. } => turn_by(*pc, set),
+        Target::Final { pc, .. } => {
+            if *pc == node.pc {
+                Turn::Taken
+            } else {
+                turn_by(*pc, set)
+            }
+        }
+    }
+}
+
+/// What the set says of a target that is closed if this point is lost.
+fn turn_by(point: PointCode, set: &OutageSet) -> Turn
+    ensures { IsTurnBy (Some point) set.now result }
+{
+    if set.lost.holds(Mark::PointCode(point)) {
+        Turn::Lost
+    } else if set.up.holds(Mark::PointCode(point)) {
+        Turn::Taken
+    } else {
+        Turn::Either(point)
+    }
+}
+
+/// Looks for a stopped title of a decided class, if the targets before a place of its row are closed.
+#[cycle(search)]
+fn follow_row(
+    alloc: Global,
+    plan: &Plan,
+    class: &Class,
+    row: &Row,
+    place: u8,
+    left: u8,
+    set: &OutageSet,
+    count: &mut u32,
+) -> Result<Found, OutOfMemory>
+    requires some { 0 < left }
+    requires left { left ≤ 14 }
+    requires may { MayExplore plan.now class.now }
+    requires class { IsClass class.now }
+    requires decided { Decided plan.now class.now }
+    requires row { class_row plan.now class.now ≡ Some row.now }
+    requires passes { PassesOver plan.now class.now place set.now }
+    requires set { IsOutageSet set.now }
+    requires few { count.old < most_ways }
+    ensures found { IfOk result (IsFound plan.now class.now left set.now) }
+    ensures limit { IfOk result (λ found. IsWithinLimit found count.new) }
+{
+    match turn_at(plan, class, row, place, set) {
+        Turn::Past => stopped(alloc, set, sample(class)),
+        Turn::Lost => follow_row(alloc, plan, class, row, place + 1, left, set, count),
+        Turn::Taken => follow_target(alloc, plan, class, row, place, left, set, count),
+        Turn::Either(point) => follow_either(
+            alloc, plan, class, row, place, left, point, set, count,
+        ),
+    }
+}
+
+/// Looks for a stopped title, first if the point of the target at a place is not lost, then if it is.
+#[cycle(search)]
+fn follow_either(
+    alloc: Global,
+    plan: &Plan,
+    class: &Class,
+    row: &Row,
+    place: u8,
+    left: u8,
+    point: PointCode,
+    set: &OutageSet,
+    count: &mut u32,
+) -> Result<Found, OutOfMemory>
+    requires some { 0 < left }
+    requires left { left ≤ 14 }
+    requires may { MayExplore plan.now class.now }
+    requires class { IsClass class.now }
+    requires decided { Decided plan.now class.now }
+    requires row { class_row plan.now class.now ≡ Some row.now }
+    requires short { length row.now.targets ≤ 8 }
+    requires passes { PassesOver plan.now class.now place set.now }
+    requires turn { IsTurn plan.now class.now place set.now (Either point) }
+    requires set { IsOutageSet set.now }
+    requires few { count.old < most_ways }
+    ensures found { IfOk result (IsFound plan.now class.now left set.now) }
+    ensures limit { IfOk result (λ found. IsWithinLimit found count.new) }
+{
+    match follow_up(alloc, plan, class, row, place, left, point, set, count)? {
+        Found::Through { cut } => {
+            let found = follow_lost(alloc, plan, class, row, place, left, point, set, count)?;
+            Ok(joined(cut, found))
+        }
+        found => Ok(found),
+    }
+}
+
+/// Looks for a stopped title in the outages of the set in which the target's point is not lost.
+#[cycle(search)]
+fn follow_up(
+    alloc: Global,
+    plan: &Plan,
+    class: &Class,
+    row: &Row,
+    place: u8,
+    left: u8,
+    point: PointCode,
+    set: &OutageSet,
+    count: &mut u32,
+) -> Result<Found, OutOfMemory>
+    requires some { 0 < left }
+    requires left { left ≤ 14 }
+    requires may { MayExplore plan.now class.now }
+    requires class { IsClass class.now }
+    requires decided { Decided plan.now class.now }
+    requires row { class_row plan.now class.now ≡ Some row.now }
+    requires passes { PassesOver plan.now class.now place set.now }
+    requires turn { IsTurn plan.now class.now place set.now (Either point) }
+    requires set { IsOutageSet set.now }
+    requires few { count.old < most_ways }
+    ensures found { IfOk result (IsFoundIf plan.now class.now left set.now.most (IsInWith set.now point false)) }
+    ensures limit { IfOk result (λ found. IsWithinLimit found count.new) }
+{
+    let with_up = set.with_up(alloc, point)?;
+    let found = follow_target(alloc, plan, class, row, place, left, &with_up, count);
+    drop(with_up);
+    found
+}
+
+/// Looks for a stopped title in the outages of the set in which the target's point is lost. If as many points are lost already
+/// as may be, the search is cut.
+#[cycle(search)]
+fn follow_lost(
+    alloc: Global,
+    plan: &Plan,
+    class: &Class,
+    row: &Row,
+    place: u8,
+    left: u8,
+    point: PointCode,
+    set: &OutageSet,
+    count: &mut u32,
+) -> Result<Found, OutOfMemory>
+    requires some { 0 < left }
+    requires left { left ≤ 14 }
+    requires may { MayExplore plan.now class.now }
+    requires class { IsClass class.now }
+    requires decided { Decided plan.now class.now }
+    requires row { class_row plan.now class.now ≡ Some row.now }
+    requires short { length row.now.targets ≤ 8 }
+    requires passes { PassesOver plan.now class.now place set.now }
+    requires turn { IsTurn plan.now class.now place set.now (Either point) }
+    requires set { IsOutageSet set.now }
+    requires few { count.old < most_ways }
+    ensures found { IfOk result (IsFoundIf plan.now class.now left set.now.most (IsInWith set.now point true)) }
+    ensures limit { IfOk result (λ found. IsWithinLimit found count.new) }
+{
+    if set.lost.marks().len() == usize::from(set.most) {
+        return Ok(Found::Through { cut: true });
+    }
+    let with_lost = set.with_lost(alloc, point)?;
+    let found = follow_row(alloc, plan, class, row, place + 1, left, &with_lost, count);
+    drop(with_lost);
+    found
+}
+
+/// Looks for a stopped title if each title takes the target at a place.
+#[cycle(search)]
+fn follow_target(
+    alloc: Global,
+    plan: &Plan,
+    class: &Class,
+    row: &Row,
+    place: u8,
+    left: u8,
+    set: &OutageSet,
+    count: &mut u32,
+) -> Result<Found, OutOfMemory>
+    requires some { 0 < left }
+    requires left { left ≤ 14 }
+    requires may { MayExplore plan.now class.now }
+    requires class { IsClass class.now }
+    requires decided { Decided plan.now class.now }
+    requires row { class_row plan.now class.now ≡ Some row.now }
+    requires place { place < length row.now.targets }
+    requires takes { TakesIn plan.now class.now place set.now }
+    requires set { IsOutageSet set.now }
+    requires few { count.old < most_ways }
+    ensures found { IfOk result (IsFound plan.now class.now left set.now) }
+    ensures limit { IfOk result (λ found. IsWithinLimit found count.new) }
+{
+    match image_by(plan, class, row, place) {
+        Image::Next(next) => {
+            let found = explore(alloc, plan, &next, left - 1, set, count)?;
+            Ok(carried(plan, class, &next, place, left, set, found))
+        }
+        Image::Ends { pc, ssn } => end_at(alloc, plan, class, place, left, pc, ssn, set),
+        Image::NotEquipped => stopped(alloc, set, sample(class)),
+        Image::TooLong => stopped(alloc, set, longest(class)),
+    }
+}
+
+/// What was found of the next class, said of the class that the target makes it of.
+fn carried(
+    plan: &Plan,
+    class: &Class,
+    next: &Class,
+    place: u8,
+    left: u8,
+    set: &OutageSet,
+    found: Found,
+) -> Found
+    requires some { 0 < left }
+    requires node { class.now.node < length plan.now.nodes }
+    requires class { IsClass class.now }
+    requires decided { Decided plan.now class.now }
+    requires image { HasImage plan.now class.now place (Next next.now) }
+    requires exact { ImageIsExact plan.now class.now place (Next next.now) }
+    requires cover { next.now.cover ≡ class.now.cover }
+    requires takes { TakesIn plan.now class.now place set.now }
+    requires found { IsFound plan.now next.now (left - 1) set.now found }
+    ensures found { IsFound plan.now class.now left set.now result }
+    ensures limit { (count : ℕ) → IsWithinLimit found count → IsWithinLimit result count }
+{
+    match found {
+        Found::Stopped { digits, lost } => Found::Stopped {
+            digits: carry_back(plan, class, place, &digits),
+            lost,
+        },
+        Found::Through { cut } => Found::Through { cut },
+        Found::Wide => Found::Wide,
+    }
+}
+
+/// What is found if the target ends all titles of a class at one place.
+fn end_at(
+    alloc: Global,
+    plan: &Plan,
+    class: &Class,
+    place: u8,
+    left: u8,
+    pc: PointCode,
+    ssn: u8,
+    set: &OutageSet,
+) -> Result<Found, OutOfMemory>
+    requires some { 0 < left }
+    requires may { MayExplore plan.now class.now }
+    requires class { IsClass class.now }
+    requires decided { Decided plan.now class.now }
+    requires exact { ImageIsExact plan.now class.now place (Ends pc ssn) }
+    requires takes { TakesIn plan.now class.now place set.now }
+    requires set { IsOutageSet set.now }
+    ensures found { IfOk result (IsFound plan.now class.now left set.now) }
+    ensures limit { (count : ℕ) → count < most_ways → IfOk result (λ found. IsWithinLimit found count) }
+{
+    if allows(plan, class.cover(), pc, ssn) {
+        Ok(Found::Through { cut: false })
+    } else {
+        stopped(alloc, set, sample(class))
+    }
+}
+
+/// The longest title of a class that has only zeros after the known digits.
+fn longest(class: &Class) -> Digits
+    ensures { IsLongest class.now result }
+{
+    class.known().with_zeros(class.most())
+}

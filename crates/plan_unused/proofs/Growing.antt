@@ -1,0 +1,182 @@
+-- classes that are put at a hop
+use Rattle.std.specs.Prelude.{ℕ, ◌≡◌, ◌+◌, ◌<◌, ◌≤◌, ◌⊎◌, Bool, true, false, List, [], ◌∷◌, ◌++◌, length, take, get_or, Option, Some, None}
+use Rattle.std.specs.Prelude.{is_some, if◌then◌else◌, refl}
+use Rattle.std.specs.List.{All, Contains}
+use Rattle.std.specs.Ordering.{is_eq}
+use Rattle.std.proofs.Common.{sym, ◌∙◌, ap, subst, inl, inr, ⊎_elim, arith, append_assoc}
+use Rattle.std.proofs.lemmas.List.{append-nil}
+use Rattle.std.proofs.lemmas.List.Elements.{All-nil, All-append, All-weaker, All-more, Contains-append_left, Contains-push}
+use Rattle.plan_model.specs.Network.{Network}
+use Rattle.plan_classes.specs.Titles.{Titles, parts_of}
+use Rattle.plan_classes.specs.Classes.{Decided}
+use Rattle.plan_classes.proofs.Ordered.{same_class}
+use Rattle.plan_check.specs.Ranking.{rank_in, class_cmp}
+use Rattle.plan_check.proofs.Orders.{own_class}
+use Rattle.plan_unused.specs.Meets.{Meets}
+use Rattle.plan_unused.specs.Walks.{IsRankedBy, AreRanks, IsPut, Grows}
+
+-- one more class has a rank
+abbrev pub Puts : List (Titles × ℕ) → List (Titles × ℕ) → Titles → ℕ → Type 0
+Puts before after c depth = (d : Titles) → rank_in after d ≡ (if is_eq (class_cmp c d) then Some depth else rank_in before d)
+
+puts_own : (before after : List (Titles × ℕ)) (c : Titles) (depth : ℕ) → Puts before after c depth → rank_in after c ≡ Some depth
+puts_own before after c depth puts =
+    puts c ∙ ap (λ (b : Bool). if b then Some depth else rank_in before c) (own_class c)
+
+-- a rank of the new table is the new one, or an old one
+puts_case : (before after : List (Titles × ℕ)) (c d : Titles) (depth r : ℕ) → Puts before after c depth → rank_in after d ≡ Some r
+    → ((c ≡ d) × (depth ≡ r)) ⊎ (rank_in before d ≡ Some r)
+puts_case before after c d depth r puts e =
+    elim (is_eq (class_cmp c d)) as (λ b. is_eq (class_cmp c d) ≡ b → (if b then Some depth else rank_in before d) ≡ Some r
+    → ((c ≡ d) × (depth ≡ r)) ⊎ (rank_in before d ≡ Some r)) [
+      | true ↦ λ same k. inl (same_class c d same, cc)
+      | false ↦ λ other k. inr k
+    ] refl (sym (puts d) ∙ e)
+
+-- an old rank stays, unless it is that of the class, which then has the new one
+puts_kept : (before after : List (Titles × ℕ)) (c d : Titles) (depth r : ℕ) → Puts before after c depth
+    → ((s : ℕ) → rank_in before c ≡ Some s → s ≡ depth) → rank_in before d ≡ Some r → rank_in after d ≡ Some r
+puts_kept before after c d depth r puts own e =
+    puts d ∙ elim (is_eq (class_cmp c d)) as (λ b. is_eq (class_cmp c d) ≡ b → (if b then Some depth else rank_in before d) ≡ Some r) [
+      | true ↦ λ same. ap Some (sym (own r (ap (rank_in before) (same_class c d same) ∙ e)))
+      | false ↦ λ other. e
+    ] refl
+
+pub ranked_more : (before after : List (Titles × ℕ)) (c : Titles) (depth : ℕ)
+    → ((d : Titles) (r : ℕ) → rank_in before d ≡ Some r → rank_in after d ≡ Some r) → IsRankedBy before c depth → IsRankedBy after c depth
+ranked_more before after c depth kept h = (h.0, kept c h.0 h.1, h.2)
+
+put_more : (plan : Network) (depth : ℕ) (before after : List (Titles × ℕ)) (here there more : List Titles) (c : Titles)
+    → ((d : Titles) (r : ℕ) → rank_in before d ≡ Some r → rank_in after d ≡ Some r) → there ≡ here ++ more
+    → IsPut plan depth before here c → IsPut plan depth after there c
+put_more plan depth before after here there more c kept same (inl h) =
+    inl (h.0, subst (λ xs. Contains xs c) (sym same) (Contains-append_left here more c h.1))
+put_more plan depth before after here there more c kept same (inr h) =
+    inr (
+      h.0,
+      All-weaker (λ part. IsRankedBy before part depth) (λ part. IsRankedBy after part depth)
+          (λ part p. ranked_more before after part depth kept p) (parts_of c) h.1,
+    )
+
+pub grows_none : (plan : Network) (depth : ℕ) (met : List (Titles × ℕ)) (here : List Titles) → Grows plan depth met here met here
+grows_none plan depth met here =
+    record {
+      more = [];
+      stops = sym (append-nil here);
+      each = All-nil (λ c. Decided plan c × (rank_in met c ≡ Some depth));
+      kept = λ c r e. e;
+      added = λ c r e. inl e;
+    }
+
+pub grows_on : (plan : Network) (depth : ℕ) (a b c : List (Titles × ℕ)) (x y z : List Titles) → Grows plan depth a x b y
+    → Grows plan depth b y c z → Grows plan depth a x c z
+grows_on plan depth a b c x y z g h =
+    record {
+      more = g.more ++ h.more;
+      stops = h.stops ∙ (ap (λ (xs : List Titles). xs ++ h.more) g.stops ∙ append_assoc x g.more h.more);
+      each = All-append (λ d. Decided plan d × (rank_in c d ≡ Some depth)) g.more h.more
+          (All-weaker (λ d. Decided plan d × (rank_in b d ≡ Some depth)) (λ d. Decided plan d × (rank_in c d ≡ Some depth))
+          (λ d p. (p.0, h.kept d depth p.1)) g.more g.each) h.each;
+      kept = λ d r e. h.kept d r (g.kept d r e);
+      added = λ d r e. ⊎_elim
+          (λ (was : rank_in b d ≡ Some r). ⊎_elim
+          (λ (old : rank_in a d ≡ Some r). inl old)
+          (λ (new : (r ≡ depth) × Meets plan depth d × IsPut plan depth b y d).
+          inr (new.0, new.1, put_more plan depth b c y z h.more d h.kept h.stops new.2))
+          (g.added d r was))
+          (λ (new : (r ≡ depth) × Meets plan depth d × IsPut plan depth c z d). inr new)
+          (h.added d r e);
+    }
+
+-- the ranks of the larger table are met as they say
+pub ranks_grown : (plan : Network) (depth : ℕ) (a b : List (Titles × ℕ)) (x y : List Titles) → Grows plan depth a x b y
+    → AreRanks plan depth a
+    → AreRanks plan depth b
+ranks_grown plan depth a b x y g ranks c r e =
+    ⊎_elim
+    (λ (old : rank_in a c ≡ Some r). ranks c r old)
+    (λ (new : (r ≡ depth) × Meets plan depth c × IsPut plan depth b y c).
+    (omega (arith, new.0), subst (λ n. Meets plan n c) (sym new.0) new.1))
+    (g.added c r e)
+
+-- a class that had a rank has one up to this depth
+pub was_ranked : (plan : Network) (depth : ℕ) (met : List (Titles × ℕ)) (c : Titles) (o : Option ℕ) → AreRanks plan depth met
+    → o ≡ rank_in met c → true ≡ is_some o → IsRankedBy met c depth
+was_ranked plan depth met c None ranks e some = absurd (cc)
+was_ranked plan depth met c (Some r) ranks e some = (r, sym e, (ranks c r (sym e)).0)
+
+absent : (met : List (Titles × ℕ)) (c : Titles) (r : ℕ) → rank_in met c ≡ None → rank_in met c ≡ Some r → ⊥
+absent met c r none e = let clash : None ≡ Some r = sym none ∙ e in absurd (cc)
+
+-- a decided class was put
+pub whole_grows : (plan : Network) (depth : ℕ) (a b : List (Titles × ℕ)) (x y : List Titles) (c : Titles) → rank_in a c ≡ None
+    → Decided plan c → Meets plan depth c → y ≡ x ++ c ∷ [] → Puts a b c depth → Grows plan depth a x b y
+whole_grows plan depth a b x y c fresh decided meets same puts =
+    record {
+      more = c ∷ [];
+      stops = same;
+      each = λ k d lt. let e : 0 ≡ k = omega (arith, lt) in
+          subst (λ n. Decided plan (get_or (c ∷ []) n d) × (rank_in b (get_or (c ∷ []) n d) ≡ Some depth)) e
+          (decided, puts_own a b c depth puts);
+      kept = λ d r e. puts_kept a b c d depth r puts (λ s h. absurd (absent a c s fresh h)) e;
+      added = λ d r e. ⊎_elim
+          (λ (new : (c ≡ d) × (depth ≡ r)). inr (
+            sym new.1,
+            subst (Meets plan depth) new.0 meets,
+            subst (IsPut plan depth b y) new.0 (inl (decided, subst (λ xs. Contains xs c) (sym same) (Contains-push x c))),
+          ))
+          (λ (old : rank_in a d ≡ Some r). inl old)
+          (puts_case a b c d depth r puts e);
+    }
+
+-- the parts of an undecided class were put, and then the class has its rank
+pub parts_grow : (plan : Network) (depth : ℕ) (a b e : List (Titles × ℕ)) (x y : List Titles) (c : Titles) → rank_in a c ≡ None
+    → (Decided plan c → ⊥) → Meets plan depth c → Grows plan depth a x b y → All (λ part. IsRankedBy b part depth) (parts_of c)
+    → Puts b e c depth → Grows plan depth a x e y
+parts_grow plan depth a b e x y c fresh undecided meets g parts puts =
+    record {
+      more = g.more;
+      stops = g.stops;
+      each = All-weaker (λ d. Decided plan d × (rank_in b d ≡ Some depth)) (λ d. Decided plan d × (rank_in e d ≡ Some depth))
+          (λ d p. (p.0, stays d depth p.1)) g.more g.each;
+      kept = λ d r h. stays d r (g.kept d r h);
+      added = λ d r h. ⊎_elim
+          (λ (new : (c ≡ d) × (depth ≡ r)). inr (
+            sym new.1,
+            subst (Meets plan depth) new.0 meets,
+            subst (IsPut plan depth e y) new.0 (inr (undecided, ranked)),
+          ))
+          (λ (was : rank_in b d ≡ Some r). ⊎_elim
+          (λ (old : rank_in a d ≡ Some r). inl old)
+          (λ (put : (r ≡ depth) × Meets plan depth d × IsPut plan depth b y d).
+          inr (put.0, put.1, put_more plan depth b e y y [] d stays (sym (append-nil y)) put.2))
+          (g.added d r was))
+          (puts_case b e c d depth r puts h);
+    }
+  where
+    own : (s : ℕ) → rank_in b c ≡ Some s → s ≡ depth
+    own s h = ⊎_elim
+        (λ (old : rank_in a c ≡ Some s). absurd (absent a c s fresh old))
+        (λ (new : (s ≡ depth) × Meets plan depth c × IsPut plan depth b y c). new.0)
+        (g.added c s h)
+
+    stays : (d : Titles) (r : ℕ) → rank_in b d ≡ Some r → rank_in e d ≡ Some r
+    stays d r h = puts_kept b e c d depth r puts own h
+
+    ranked : All (λ part. IsRankedBy e part depth) (parts_of c)
+    ranked = All-weaker (λ part. IsRankedBy b part depth) (λ part. IsRankedBy e part depth)
+        (λ part p. ranked_more b e part depth stays p) (parts_of c) parts
+
+pub put_ranked : (before after : List (Titles × ℕ)) (c : Titles) (depth : ℕ) → Puts before after c depth → IsRankedBy after c depth
+put_ranked before after c depth puts = (depth, puts_own before after c depth puts, omega arith)
+
+-- one more part has a rank
+pub parts_ranked : (before after : List (Titles × ℕ)) (ps : List Titles) (i : ℕ) (p : Titles) (depth : ℕ) → i < length ps
+    → p ≡ get_or ps i p
+    → ((d : Titles) (r : ℕ) → rank_in before d ≡ Some r → rank_in after d ≡ Some r) → IsRankedBy after p depth
+    → All (λ part. IsRankedBy before part depth) (take i ps) → All (λ part. IsRankedBy after part depth) (take (i + 1) ps)
+parts_ranked before after ps i p depth lt at kept here so_far =
+    All-more (λ part. IsRankedBy after part depth) ps i p lt
+    (All-weaker (λ part. IsRankedBy before part depth) (λ part. IsRankedBy after part depth)
+    (λ part h. ranked_more before after part depth kept h) (take i ps) so_far)
+    (subst (λ part. IsRankedBy after part depth) at here)

@@ -1,0 +1,97 @@
+//! Classes that are met at a hop.
+ghost use Rattle.std.specs.Prelude.{◌≡◌, ◌<◌, ℕ, None, Some, Err, if◌then◌else◌, OnOk};
+ghost use Rattle.std.specs.Ordering.{is_eq};
+ghost use Rattle.plan_model.specs.Limits.{most_classes};
+ghost use Rattle.plan_classes.specs.Titles.{Titles};
+ghost use Rattle.plan_classes.specs.Classes.{Decided};
+ghost use Rattle.plan_check.specs.Ranking.{rank_in, class_cmp};
+ghost use Rattle.plan_unused.specs.declared.halt.Halt.TheVariants as halts;
+ghost use Rattle.plan_unused.specs.Meets.{Meets, MeetsAtLeast};
+ghost use Rattle.plan_unused.specs.Walks.{IsRankedBy, AreRanks, Grows, MayEnter};
+
+use crate::halt::Halt;
+use crate::open_hop::OpenHop;
+use plan_check::RanksFault;
+use plan_classes::{Class, decided, parts};
+use plan_model::Plan;
+use std::alloc::Global;
+
+/// Puts a class at a hop: itself among the stops if it is decided, and otherwise its parts. A class that was met before is not put
+/// again.
+#[cycle(enter)]
+pub(crate) fn enter(
+    alloc: Global,
+    plan: &Plan,
+    class: &Class,
+    depth: u8,
+    hop: &mut OpenHop,
+) -> Result<(), Halt>
+    requires may { MayEnter plan.now depth class.now }
+    requires ranks { AreRanks plan.now depth hop.old.met }
+    ensures grows { OnOk result (Grows plan.now depth hop.old.met hop.old.stops hop.new.met hop.new.stops) }
+    ensures ranked { OnOk result (IsRankedBy hop.new.met class.now depth) }
+    ensures wide { result ≡ Err halts.Wide → MeetsAtLeast plan.now most_classes }
+{
+    if hop.met.get(class).is_some() {
+        return Ok(());
+    }
+    if decided(plan, class) {
+        enter_whole(plan, class, depth, hop)
+    } else {
+        enter_parts(alloc, plan, class, depth, hop)
+    }
+}
+
+/// Puts a decided class that was not met before.
+fn enter_whole(plan: &Plan, class: &Class, depth: u8, hop: &mut OpenHop) -> Result<(), Halt>
+    requires fresh { rank_in hop.old.met class.now ≡ None }
+    requires decided { Decided plan.now class.now }
+    requires may { MayEnter plan.now depth class.now }
+    requires ranks { AreRanks plan.now depth hop.old.met }
+    ensures grows { OnOk result (Grows plan.now depth hop.old.met hop.old.stops hop.new.met hop.new.stops) }
+    ensures ranked { OnOk result (IsRankedBy hop.new.met class.now depth) }
+    ensures wide { result ≡ Err halts.Wide → MeetsAtLeast plan.now most_classes }
+{
+    hop.stops.push(*class)?;
+    rank(plan, class, depth, hop)
+}
+
+/// Puts the parts of an undecided class that was not met before.
+#[cycle(enter)]
+fn enter_parts(
+    alloc: Global,
+    plan: &Plan,
+    class: &Class,
+    depth: u8,
+    hop: &mut OpenHop,
+) -> Result<(), Halt>
+    requires fresh { rank_in hop.old.met class.now ≡ None }
+    requires undecided { Decided plan.now class.now → ⊥ }
+    requires more { 0 < class.now.most }
+    requires may { MayEnter plan.now depth class.now }
+    requires ranks { AreRanks plan.now depth hop.old.met }
+    ensures grows { OnOk result (Grows plan.now depth hop.old.met hop.old.stops hop.new.met hop.new.stops) }
+    ensures ranked { OnOk result (IsRankedBy hop.new.met class.now depth) }
+    ensures wide { result ≡ Err halts.Wide → MeetsAtLeast plan.now most_classes }
+{
+    let parts = parts(alloc, class)?;
+    for part in parts.as_slice() {
+        enter(alloc, plan, part, depth, hop)?;
+    }
+    rank(plan, class, depth, hop)
+}
+
+/// Gives a class its rank.
+fn rank(plan: &Plan, class: &Class, depth: u8, hop: &mut OpenHop) -> Result<(), Halt>
+    requires ranks { AreRanks plan.now depth hop.old.met }
+    ensures puts { OnOk result ((c : Titles) → rank_in hop.new.met c
+        ≡ (if is_eq (class_cmp class.now c) then Some depth else rank_in hop.old.met c)) }
+    ensures stops { hop.new.stops ≡ hop.old.stops }
+    ensures wide { result ≡ Err halts.Wide → MeetsAtLeast plan.now most_classes }
+{
+    match hop.met.put(*class, depth) {
+        Ok(()) => Ok(()),
+        Err(RanksFault::Full) => Err(Halt::Wide),
+        Err(RanksFault::OutOfMemory) => Err(Halt::OutOfMemory),
+    }
+}

@@ -1,0 +1,208 @@
+//! What the titles of a class use, and where they are sent on to.
+ghost use Rattle.std.specs.Prelude.{◌≡◌, ◌+◌, ◌<◌, ℕ, None, Some, Err, IsTrue, IsSome, length, OnOk};
+ghost use Rattle.plan_model.specs.Limits.{most_classes};
+ghost use Rattle.plan_classes.specs.Titles.{Titles};
+ghost use Rattle.plan_classes.specs.Classes.{class_row, Reaches};
+ghost use Rattle.plan_unused.specs.declared.halt.Halt.TheVariants as halts;
+ghost use Rattle.plan_unused.specs.Uses.{HasRow};
+ghost use Rattle.plan_unused.specs.Fitting.{HasFitting};
+ghost use Rattle.plan_unused.specs.Meets.{MeetsAtLeast};
+ghost use Rattle.plan_unused.specs.Walks.{has_relay, gap_in, IsSeen, IsMore, IsRankedBy, AreRanks, Grows, MayLook, IsFollowed, IsSettled};
+
+use crate::entering::enter;
+use crate::fitting::fitting_by;
+use crate::halt::Halt;
+use crate::open_hop::OpenHop;
+use crate::rows::class_node;
+use crate::seen::Seen;
+use crate::survey::{RowPlace, TargetPlace};
+use plan_classes::{Class, reaches_by, sample};
+use plan_model::Plan;
+use plan_rules::Row;
+use sccp_base::OutOfMemory;
+use std::alloc::Global;
+
+/// The last hop at which a title is translated, counted from 0.
+const LAST_HOP: u8 = 13;
+
+/// Notes what the titles of a stop use, and puts what they are sent on as at the next hop, if there is one.
+pub(crate) fn look(
+    alloc: Global,
+    plan: &Plan,
+    class: &Class,
+    depth: u8,
+    hop: &mut OpenHop,
+    seen: &mut Seen,
+) -> Result<(), Halt>
+    requires may { MayLook plan.now depth class.now }
+    requires ranks { AreRanks plan.now (depth + 1) hop.old.met }
+    requires seen { IsSeen plan.now seen.old }
+    ensures grows { OnOk result (Grows plan.now (depth + 1) hop.old.met hop.old.stops hop.new.met hop.new.stops) }
+    ensures seen { OnOk result (IsSeen plan.now seen.new) }
+    ensures more { OnOk result (IsMore seen.old seen.new) }
+    ensures settled { OnOk result (IsSettled plan.now seen.new hop.new.met class.now depth) }
+    ensures wide { result ≡ Err halts.Wide → MeetsAtLeast plan.now most_classes }
+{
+    let node = class_node(plan, class);
+    match node
+        .table
+        .find(class.selector(), class.ssn(), &sample(class))
+    {
+        Some(place) => {
+            let row = RowPlace {
+                node: class.node(),
+                row: place as u16,
+            };
+            look_row(
+                alloc,
+                plan,
+                class,
+                row,
+                node.table.row(place),
+                depth,
+                hop,
+                seen,
+            )
+        }
+        None => Ok(note_gap(plan, class, seen)?),
+    }
+}
+
+/// Notes a relay, and a title of a class without a row there.
+fn note_gap(plan: &Plan, class: &Class, seen: &mut Seen) -> Result<(), OutOfMemory>
+    requires may { (depth : ℕ) × MayLook plan.now depth class.now }
+    requires row { class_row plan.now class.now ≡ None }
+    requires seen { IsSeen plan.now seen.old }
+    ensures seen { OnOk result (IsSeen plan.now seen.new) }
+    ensures more { OnOk result (IsMore seen.old seen.new) }
+    ensures relay { OnOk result (IsTrue (has_relay seen.new class.now.node)) }
+    ensures gap { OnOk result (IsSome (gap_in seen.new class.now.cover)) }
+{
+    seen.note_relay(plan, class.node())?;
+    seen.note_gap(plan, class.cover(), class.spot_of(&sample(class)))
+}
+
+/// As `look`, if the class has a row.
+fn look_row(
+    alloc: Global,
+    plan: &Plan,
+    class: &Class,
+    place: RowPlace,
+    row: &Row,
+    depth: u8,
+    hop: &mut OpenHop,
+    seen: &mut Seen,
+) -> Result<(), Halt>
+    requires may { MayLook plan.now depth class.now }
+    requires node { place.node ≡ class.now.node }
+    requires row { class_row plan.now class.now ≡ Some row.now }
+    requires at { HasRow plan.now class.now.node place.row row.now }
+    requires ranks { AreRanks plan.now (depth + 1) hop.old.met }
+    requires seen { IsSeen plan.now seen.old }
+    ensures grows { OnOk result (Grows plan.now (depth + 1) hop.old.met hop.old.stops hop.new.met hop.new.stops) }
+    ensures seen { OnOk result (IsSeen plan.now seen.new) }
+    ensures more { OnOk result (IsMore seen.old seen.new) }
+    ensures settled { OnOk result (IsSettled plan.now seen.new hop.new.met class.now depth) }
+    ensures wide { result ≡ Err halts.Wide → MeetsAtLeast plan.now most_classes }
+{
+    seen.note_relay(plan, place.node)?;
+    seen.note_row(plan, place)?;
+    look_targets(alloc, plan, class, place, row, depth, hop, seen)
+}
+
+/// Notes which targets of the class's row its titles take, and puts what they are sent on as.
+fn look_targets(
+    alloc: Global,
+    plan: &Plan,
+    class: &Class,
+    place: RowPlace,
+    row: &Row,
+    depth: u8,
+    hop: &mut OpenHop,
+    seen: &mut Seen,
+) -> Result<(), Halt>
+    requires may { MayLook plan.now depth class.now }
+    requires node { place.node ≡ class.now.node }
+    requires row { class_row plan.now class.now ≡ Some row.now }
+    requires at { HasRow plan.now class.now.node place.row row.now }
+    requires ranks { AreRanks plan.now (depth + 1) hop.old.met }
+    requires seen { IsSeen plan.now seen.old }
+    ensures grows { OnOk result (Grows plan.now (depth + 1) hop.old.met hop.old.stops hop.new.met hop.new.stops) }
+    ensures seen { OnOk result (IsSeen plan.now seen.new) }
+    ensures more { OnOk result (IsMore seen.old seen.new) }
+    ensures followed { OnOk result ((t : ℕ) → IsFollowed plan.now seen.new hop.new.met class.now depth place.row t) }
+    ensures wide { result ≡ Err halts.Wide → MeetsAtLeast plan.now most_classes }
+{
+    for target in 0..row.target_count() {
+        look_target(alloc, plan, class, place, row, target, depth, hop, seen)?;
+    }
+    Ok(())
+}
+
+/// As `look_targets`, of one target.
+fn look_target(
+    alloc: Global,
+    plan: &Plan,
+    class: &Class,
+    place: RowPlace,
+    row: &Row,
+    target: u8,
+    depth: u8,
+    hop: &mut OpenHop,
+    seen: &mut Seen,
+) -> Result<(), Halt>
+    requires may { MayLook plan.now depth class.now }
+    requires node { place.node ≡ class.now.node }
+    requires row { class_row plan.now class.now ≡ Some row.now }
+    requires at { HasRow plan.now class.now.node place.row row.now }
+    requires target { target < length row.now.targets }
+    requires ranks { AreRanks plan.now (depth + 1) hop.old.met }
+    requires seen { IsSeen plan.now seen.old }
+    ensures grows { OnOk result (Grows plan.now (depth + 1) hop.old.met hop.old.stops hop.new.met hop.new.stops) }
+    ensures seen { OnOk result (IsSeen plan.now seen.new) }
+    ensures more { OnOk result (IsMore seen.old seen.new) }
+    ensures followed { OnOk result (IsFollowed plan.now seen.new hop.new.met class.now depth place.row target) }
+    ensures wide { result ≡ Err halts.Wide → MeetsAtLeast plan.now most_classes }
+{
+    if !reaches_by(plan, class, row, target) {
+        return Ok(());
+    }
+    seen.note_target(
+        plan,
+        TargetPlace {
+            node: place.node,
+            row: place.row,
+            target,
+        },
+    )?;
+    follow(alloc, plan, class, row, target, depth, hop)
+}
+
+/// Puts what the titles of a class are sent on as under a reached target, unless this is the last hop.
+fn follow(
+    alloc: Global,
+    plan: &Plan,
+    class: &Class,
+    row: &Row,
+    target: u8,
+    depth: u8,
+    hop: &mut OpenHop,
+) -> Result<(), Halt>
+    requires may { MayLook plan.now depth class.now }
+    requires row { class_row plan.now class.now ≡ Some row.now }
+    requires target { target < length row.now.targets }
+    requires reached { Reaches plan.now class.now target }
+    requires ranks { AreRanks plan.now (depth + 1) hop.old.met }
+    ensures grows { OnOk result (Grows plan.now (depth + 1) hop.old.met hop.old.stops hop.new.met hop.new.stops) }
+    ensures onward { OnOk result (depth < 13 → (next : Titles) → HasFitting plan.now class.now target next
+        → IsRankedBy hop.new.met next (depth + 1)) }
+    ensures wide { result ≡ Err halts.Wide → MeetsAtLeast plan.now most_classes }
+{
+    if depth >= LAST_HOP {
+        return Ok(());
+    }
+    match fitting_by(plan, class, row, target) {
+        Some(next) => enter(alloc, plan, &next, depth + 1, hop),
+        None => Ok(()),
+    }
+}

@@ -1,0 +1,137 @@
+//! The command that gives a verdict on each cover of a plan by itself.
+ghost use Rattle.std.specs.Prelude.{◌≡◌, ◌+◌, ◌<◌, [], ◌∷◌, ℕ, Bool, Option, IfOk};
+ghost use Rattle.plan_model.specs.Network.{IsPlan, network};
+ghost use Rattle.plan_verify.specs.Lawful.{IsLawful, plan_of};
+ghost use Rattle.sccp_io.specs.Files.{Contents};
+ghost use Rattle.sccp_report.specs.Covers.{cover_text};
+ghost use Rattle.sccp_tool.specs.Commands.{texts};
+ghost use Rattle.sccp_tool.specs.Covers.{covers_words, covers_work, GivesNext, GivesTally};
+ghost use Rattle.sccp_tool.specs.Parsed.{task_in};
+ghost use Rattle.sccp_tool.specs.Tallies.{total};
+ghost use Rattle.sccp_work.specs.Ending.{Works};
+ghost use Rattle.sccp_work.specs.Moment.{moment};
+ghost use Rattle.sccp_work.specs.Writing.{Writes};
+
+use crate::command::Command;
+use crate::tally::Tally;
+use plan_model::{Cover, Node, Plan};
+use plan_verify::Verdict;
+use sccp_base::List;
+use sccp_io::{Files, Sink};
+use sccp_report::cover_text;
+use sccp_work::{Status, Stop, plan_of, print_last, put_all, with_plan};
+use std::alloc::Global;
+use trace_text::is_file_name;
+
+/// The command of the word `PLAN`, or none if the words have another shape.
+#[tactic(auto, unfolding(crate::specs::Covers::covers_words))]
+pub fn covers_words(words: &[String]) -> Option<Command<'_>>
+    ensures { task_in result ≡ covers_words (texts words.now) }
+{
+    match words {
+        [name] => {
+            if is_file_name(name.as_bytes()) {
+                Some(Command::Covers(name.as_str()))
+            } else {
+                None
+            }
+        }
+        _ => None,
+    }
+}
+
+/// Prints the verdict on each cover of the plan of a file by itself, and what they come to.
+pub fn covers<F: Files, K: Sink>(
+    alloc: Global,
+    name: &str,
+    files: &mut F,
+    out: &mut K,
+) -> Result<Status, Stop>
+    ensures { Works (covers_work name.now) result
+        (moment F.contents F.sound F.faults K.taken K.faults files.old out.old)
+        (moment F.contents F.sound F.faults K.taken K.faults files.new out.new) }
+{
+    let plan = with_plan(alloc, name, files, out)?;
+    let tally = judge_covers(alloc, plan, out)?;
+    let line = tally.line(alloc)?;
+    print_last(out, line.as_slice(), tally.status())
+}
+
+/// The relays of a plan, and what the verdicts on its covers come to so far.
+#[derive(Drop)]
+struct Judging {
+    nodes: List<Node>,
+    tally: Tally,
+}
+
+/// Prints the verdict on each cover of a plan by itself. No file is read, so the clause speaks of any files.
+fn judge_covers<K: Sink>(alloc: Global, plan: Plan, out: &mut K) -> Result<Tally, Stop>
+    ensures gives { (contents : Option Contents) (sound : Bool) (faults : ℕ) → GivesTally plan result
+        (record { contents = contents; sound = sound; read_faults = faults; taken = K.taken out.old; write_faults = K.faults out.old })
+        (record { contents = contents; sound = sound; read_faults = faults; taken = K.taken out.new; write_faults = K.faults out.new }) }
+    ensures few { IfOk result (λ tally. total tally < 65535) }
+{
+    let (nodes, covers) = plan.into_parts();
+    let mut judging = Judging {
+        nodes,
+        tally: Tally::NONE,
+    };
+    let mut number: u16 = 0;
+    for cover in covers.into_vec() {
+        judging = judge_cover(alloc, judging, cover, number, out)?;
+        number += 1;
+    }
+    let Judging { nodes, tally } = judging;
+    drop(nodes);
+    Ok(tally)
+}
+
+/// Prints the verdict on the cover of this number by itself, and counts it. The relays go into the plan with it alone, and are
+/// given back.
+fn judge_cover<K: Sink>(
+    alloc: Global,
+    judging: Judging,
+    cover: Cover,
+    number: u16,
+    out: &mut K,
+) -> Result<Judging, Stop>
+    requires plan { IsPlan (network judging.nodes (cover ∷ [])) }
+    requires few { total judging.tally < 65535 }
+    ensures gives { (contents : Option Contents) (sound : Bool) (faults : ℕ) → GivesNext judging.nodes number cover judging.tally result
+        (record { contents = contents; sound = sound; read_faults = faults; taken = K.taken out.old; write_faults = K.faults out.old })
+        (record { contents = contents; sound = sound; read_faults = faults; taken = K.taken out.new; write_faults = K.faults out.new }) }
+    ensures nodes { IfOk result (λ next. next.nodes ≡ judging.nodes) }
+    ensures one_more { IfOk result (λ next. total next.tally ≡ total judging.tally + 1) }
+{
+    let Judging { nodes, tally } = judging;
+    let plan = Plan::alone(alloc, nodes, cover)?;
+    let verdict = plan_verify::verify(alloc, plan)?;
+    match print_verdict(alloc, number, &verdict, out) {
+        Ok(()) => {
+            let tally = tally.counted(&verdict);
+            let (nodes, covers) = verdict.into_plan().into_parts();
+            drop(covers);
+            Ok(Judging { nodes, tally })
+        }
+        Err(stop) => {
+            drop(verdict);
+            Err(stop)
+        }
+    }
+}
+
+/// Prints the verdict on the plan with the cover of this number alone.
+fn print_verdict<K: Sink>(
+    alloc: Global,
+    number: u16,
+    verdict: &Verdict,
+    out: &mut K,
+) -> Result<(), Stop>
+    requires plan { IsPlan (plan_of verdict.now) }
+    requires lawful { IsLawful (plan_of verdict.now) verdict.now }
+    ensures { Writes (cover_text number (plan_of verdict.now) verdict.now) result (K.taken out.old) (K.taken out.new) (K.faults out.old)
+        (K.faults out.new) }
+{
+    let text = cover_text(alloc, number, plan_of(verdict), verdict)?;
+    put_all(out, text.as_slice())
+}

@@ -1,0 +1,11 @@
+-- Lemmas and worked examples.
+mod Worked
+mod Keys
+mod Lists
+mod Repeats
+mod Runs
+mod Apart
+mod Chains
+mod Stories
+mod Come
+mod Steps

@@ -1,0 +1,6 @@
+-- The definitions of this crate, one file a subject.
+pub mod Chunks
+pub mod UserMessages
+pub mod Gathering
+pub mod Runs
+pub mod Captures

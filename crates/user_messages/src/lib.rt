@@ -1,0 +1,19 @@
+//! The user messages of SCTP associations, put together from DATA chunks in the order of a capture (RFC 9260, sections
+//! 3.3.1 and 6.9).
+#![tactic(auto)]
+
+mod chunks;
+mod fragment;
+mod given;
+mod key;
+mod laws;
+mod place;
+mod run;
+
+pub use given::Given;
+pub use key::Key;
+pub use laws::{
+    messages_are_whole, no_chunk_is_given_twice, repeats_are_found, repeats_arrived_before,
+    whole_messages_are_given,
+};
+pub use place::Place;
