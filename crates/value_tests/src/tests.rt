@@ -8,6 +8,7 @@ mod plans;
 mod replay_lines;
 mod segments;
 mod surveys;
+mod sent_ways;
 mod titles;
 mod traces;
 mod values;
