@@ -3,6 +3,7 @@ pub mod Arriving
 pub mod Closing
 pub mod Counting
 pub mod Following
+pub mod Margins
 pub mod Passing
 pub mod Sets
 pub mod Starting

@@ -8,6 +8,7 @@
 
 mod finding;
 mod found;
+mod laws;
 mod margin;
 mod outage_set;
 mod search;
@@ -15,5 +16,6 @@ mod stop;
 mod turn;
 
 pub use finding::find_margin;
+pub use laws::margins_are_one;
 pub use margin::Margin;
 pub use stop::Stop;

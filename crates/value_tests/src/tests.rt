@@ -1,7 +1,9 @@
 //! Values that no command hands the libraries.
+mod captures;
 mod checks;
 mod lookups;
 mod messages;
+mod packets;
 mod plans;
 mod replay_lines;
 mod segments;
