@@ -1,8 +1,7 @@
 -- What the comparing of two plans ends with.
-use Rattle.std.proofs.Common.{◌≡◌, ◌⊎◌, ◌≤◌, ℕ, List, ◌++◌, length, Option, Some, None, Bool, true, false, Result, Ok, Err, IfOk, IfSome}
+use Rattle.std.proofs.Common.{◌≡◌, ◌⊎◌, ◌≤◌, ℕ, List, ◌++◌, length, Option, Some, Bool, true, false, Result, Ok, Err, IfOk}
 use Rattle.std.proofs.Common.{refl, sym, ◌∙◌, ap, subst, inl, inr}
 use Rattle.std.specs.Prelude.{if◌then◌else◌, is_err}
-use Rattle.std.specs.Io.KnownBytes.{append_known}
 use Rattle.std.proofs.lemmas.Bool.{false≢true}
 use Rattle.plan_check.specs.Verified.{Verified}
 use Rattle.plan_model.proofs.SameNodes.{same_nodes_told}
@@ -37,7 +36,6 @@ use Rattle.sccp_work.specs.Writing.{Writes}
 use Rattle.sccp_work.specs.declared.status.Status.{Status}
 use Rattle.sccp_work.specs.declared.status.Status.TheVariants.{Done, Refused, Usage, BadPlan, TooWide, TooLong, OtherNodes}
 use Rattle.sccp_work.specs.declared.stop.Stop.{Stop}
-use Rattle.sccp_work.specs.declared.stop.Stop.TheVariants.{Answered, Read, Write, Memory}
 use Rattle.sccp_tool.proofs.Causes.{Causes}
 use Rattle.sccp_work.proofs.AcceptingLemmas.{Ends-answered, accepted_files}
 use Rattle.sccp_work.proofs.LimitLemmas.{FileEnds, Ends-within_limit, limit_files}

@@ -1,7 +1,7 @@
 -- How each cover is verified by itself, and what that ends with.
-use Rattle.std.proofs.Common.{◌≡◌, ◌<◌, ◌≤◌, ◌+◌, ◌⊎◌, ℕ, true, false, zero, suc, List, [], ◌∷◌, ◌++◌, length, drop, Option, Some, Result, Ok, Err}
+use Rattle.std.proofs.Common.{◌≡◌, ◌<◌, ◌≤◌, ◌+◌, ◌⊎◌, ℕ, true, false, zero, suc, List, [], ◌∷◌, ◌++◌, length, Option, Some, Result, Ok, Err}
 use Rattle.std.proofs.Common.{IfOk, refl, sym, ◌∙◌, ap, subst, inl, inr, ⊎_elim, arith, append_assoc, append-nil}
-use Rattle.std.specs.Prelude.{max, nat_lt, if◌then◌else◌, IsSomeAnd, slice_get, get_or}
+use Rattle.std.specs.Prelude.{max, nat_lt, if◌then◌else◌, slice_get, get_or}
 use Rattle.std.specs.Io.KnownBytes.{append_known}
 use Rattle.std.specs.List.{All, Any}
 use Rattle.std.proofs.lemmas.Bool.{cases_lt, ltb-true, ltb-false}
@@ -10,14 +10,10 @@ use Rattle.std.proofs.lemmas.Option.{slice_get-get_or, slice_get_read, slice_get
 use Rattle.plan_model.proofs.Alone.{bad_by_covers}
 use Rattle.plan_model.proofs.SafeWays.{safe_not_bad}
 use Rattle.plan_model.specs.Alone.{alone}
-use Rattle.plan_model.specs.Covered.{Covers as CoversSpot}
 use Rattle.plan_model.specs.Network.{Network, network}
-use Rattle.plan_model.specs.Routes.{route}
-use Rattle.plan_model.specs.Spots.{IsSpotOf, IsInRange}
+use Rattle.plan_model.specs.Spots.{IsInRange}
 use Rattle.plan_model.specs.Verdicts.{HasSpot, Bad}
 use Rattle.plan_model.specs.declared.cover.Cover.{Cover}
-use Rattle.plan_model.specs.declared.hop.Hop.{Hop}
-use Rattle.plan_model.specs.declared.kind.Kind.{Kind}
 use Rattle.plan_model.specs.declared.node.Node.{Node}
 use Rattle.plan_model.specs.declared.spot.Spot.{Spot}
 use Rattle.plan_verify.proofs.ByCover.{on_cover, accepted_by_covers}
@@ -30,7 +26,7 @@ use Rattle.plan_verify.specs.declared.witness.Witness.{Witness}
 use Rattle.sccp_base.specs.declared.mark.Mark.{Mark}
 use Rattle.sccp_io.specs.Files.{Contents}
 use Rattle.sccp_report.specs.Covers.{cover_text}
-use Rattle.sccp_tool.specs.Covers.{covers_on, each_cover, covers_work, HasWideCover, CoversCause, CoversSure, CoversTells, TellsCovers}
+use Rattle.sccp_tool.specs.Covers.{covers_on, each_cover, covers_work, HasWideCover, CoversCause, CoversSure, CoversTells}
 use Rattle.sccp_tool.specs.Covers.{blocks_text, GivesNext}
 use Rattle.sccp_tool.specs.Tallies.{none_yet, counted, tallied, tally_status, tally_line}
 use Rattle.sccp_tool.specs.Task.{Covers}

@@ -1,5 +1,5 @@
 -- What the call promises.
-use Rattle.std.specs.Prelude.{◌≡◌, ◌≢◌, ◌<◌, ◌-◌, ◌^◌, ℕ, Option, None, IsTrue, IfSome}
+use Rattle.std.specs.Prelude.{◌≡◌, ◌≢◌, ◌<◌, ◌-◌, ◌^◌, Option, None, IsTrue, IfSome}
 use Rattle.sccp_io.specs.Faults.{Rose}
 use Rattle.sccp_tool.specs.Run.{work_of, Cause, SureCause, TellsAnswer, TellsJourneys, HasNamedFiles, ExactlyWhere, ComesWhere}
 use Rattle.sccp_tool.specs.Run.{RefusedWhere}

@@ -1,4 +1,4 @@
-use Rattle.std.proofs.Common.{[], Err, refl, ◌∙◌}
+use Rattle.std.proofs.Common.{Err, refl, ◌∙◌}
 use Rattle.std.proofs.lemmas.Result.{err_from_is_err_and}
 use Rattle.plan_check.specs.Verified.{Verified}
 use Rattle.plan_model.specs.Network.{Network}

@@ -1,10 +1,9 @@
-use Rattle.std.proofs.Common.{◌≡◌, ◌+◌, [], ◌∷◌, sym, ◌∙◌, ap, subst, refl, Ok, Err}
+use Rattle.std.proofs.Common.{◌≡◌, ◌+◌, [], ◌∷◌, ◌∙◌, ap, subst, refl}
 use Rattle.std.proofs.lemmas.Result.{err_from_is_err_and}
-use Rattle.plan_model.specs.Network.{IsPlan, Network, network}
+use Rattle.plan_model.specs.Network.{Network, network}
 use Rattle.plan_verify.specs.Lawful.{IsLawful, plan_of}
 use Rattle.sccp_report.specs.Covers.{cover_text}
 use Rattle.sccp_tool.specs.Covers.{covers_on}
-use Rattle.sccp_tool.specs.Tallies.{counted}
 use Rattle.sccp_work.specs.Ending.{Works}
 use Rattle.sccp_work.specs.Moment.{Moment}
 use Rattle.sccp_work.proofs.WorkLemmas.{Works-memory}

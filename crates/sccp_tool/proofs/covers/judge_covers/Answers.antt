@@ -1,4 +1,4 @@
-use Rattle.std.proofs.Common.{◌≡◌, ◌+◌, ◌∷◌, ◌++◌, [], ℕ, Bool, List, Option, Some, Ok, Err, length, drop, refl, sym, ◌∙◌, ap, subst, length-append, arith}
+use Rattle.std.proofs.Common.{◌≡◌, ◌+◌, ◌∷◌, ◌++◌, [], List, Some, Ok, Err, length, drop, refl, sym, ◌∙◌, ap, subst, length-append, arith}
 use Rattle.std.specs.Prelude.{slice_get}
 use Rattle.std.proofs.lemmas.Iterator.Adapters.{YieldsList-from_vec}
 use Rattle.std.proofs.lemmas.Iterator.Consumers.{YieldsList-turn}
@@ -9,7 +9,6 @@ use Rattle.plan_model.proofs.Alone.{alone_sound}
 use Rattle.plan_model.specs.Network.{IsPlan, network}
 use Rattle.plan_model.specs.declared.cover.Cover.{Cover}
 use Rattle.sccp_tool.specs.Covers.{GivesNext}
-use Rattle.sccp_tool.specs.declared.covers.Judging.{Judging}
 use Rattle.sccp_work.specs.Moment.{Moment}
 use Rattle.sccp_tool.proofs.CoversLemmas.{CoversLeft, next_left, stopped_left}
 use Rattle.sccp_tool.proofs.covers.judge_covers.Goals as goal
