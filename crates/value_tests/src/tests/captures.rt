@@ -1,4 +1,6 @@
 //! Capture files, fed in pieces.
+ghost use Rattle.std.specs.Prelude.{◌<◌};
+
 use capture_file::{FileFault, Held, Reader};
 use std::alloc::Global;
 use std::test::Fail;
