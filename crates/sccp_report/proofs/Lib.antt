@@ -4,6 +4,7 @@ pub mod DigitTexts
 pub mod HopLines
 pub mod InPlan
 pub mod InVerdict
+pub mod InSurvey
 pub mod InMixture
 pub mod Parted
 pub mod MarkTexts

@@ -9,8 +9,8 @@
 //! `hops_text` gives a line for each hop of a route: the title, what was held prohibited, and what the relay did with it
 //! (Q.714 section 2). `plan_fault_text` says why a text is no plan, and at which place. `verdict_text` gives the verdict
 //! on a plan and the route that shows it, `accepted_text` the one line that a plan is accepted, `cover_text` the verdict on
-//! one cover by itself. These texts are exactly those of `specs/Hops`, `specs/PlanFaults`, `specs/Verdicts` and
-//! `specs/Covers`. The text of a route's hops determines the hops
+//! one cover by itself, `survey_text` what no covered title of a plan uses. These texts are exactly those of `specs/Hops`,
+//! `specs/PlanFaults`, `specs/Verdicts`, `specs/Covers` and `specs/Surveys`. The text of a route's hops determines the hops
 //! (`text_tells_route`), and that of a point code the number (`text_tells_point_code`). `change_text` says whether relays
 //! may hold either of two plans, and shows the mixed route, exactly as in `specs/Changes`.
 //!
@@ -39,6 +39,7 @@ mod role;
 mod segment;
 mod sent;
 mod served;
+mod survey;
 mod text;
 mod values;
 mod verdict;
@@ -54,6 +55,7 @@ pub use plan_fault::plan_fault_text;
 pub use report::message_text;
 pub use role::{Due, Role, role_of};
 pub use served::{put_served, served_text};
+pub use survey::survey_text;
 pub use text::Text;
 pub use values::put_point_code;
 pub use verdict::{accepted_text, verdict_text};

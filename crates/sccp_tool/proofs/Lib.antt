@@ -12,4 +12,5 @@ mod RunLemmas
 mod SendOnLemmas
 mod ShowHexLemmas
 mod ShowLemmas
+mod UnusedLemmas
 mod VerifyLemmas

@@ -18,4 +18,5 @@ pub mod Starts
 pub mod Tallies
 pub mod Task
 pub mod Texts
+pub mod Unused
 pub mod Verify

@@ -29,3 +29,5 @@ pub data Task : Type 0 where
   SendOn : List ℕ → Incoming → Task
   -- verifies each cover of the plan of the file of this name by itself
   Covers : List ℕ → Task
+  -- lists what no covered title of the plan of the file of this name can use
+  Unused : List ℕ → Task

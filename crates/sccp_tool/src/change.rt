@@ -11,6 +11,7 @@ ghost use Rattle.sccp_tool.specs.Parsed.{task_in};
 ghost use Rattle.sccp_work.specs.Plans.{bad_plan};
 ghost use Rattle.sccp_work.specs.Writing.{Writes};
 
+use crate::answer::Answer;
 use crate::command::Command;
 use plan_change::{Change, ChangeFault};
 use plan_check::Accepted;
@@ -140,13 +141,6 @@ fn bad_plan_after(alloc: Global, word: &[u8], fault: &PlanFault) -> Result<Octet
 {
     let text = bad_plan(alloc, fault)?;
     after_word(alloc, word, text.as_slice())
-}
-
-/// The answer on two plans, and its text.
-#[derive(Drop)]
-struct Answer {
-    status: Status,
-    text: Octets,
 }
 
 /// The answer on two accepted plans.

@@ -15,6 +15,7 @@ use crate::send_on::{Incoming, send_on_words};
 use crate::show::show_words;
 use crate::show_hex::show_hex_words;
 use crate::start::Start;
+use crate::unused::unused_words;
 use crate::verify::verify_words;
 use sccp_base::{Octets, OutOfMemory};
 use sccp_replay::Workers;
@@ -47,6 +48,8 @@ pub enum Command<'a> {
     SendOn(&'a str, Incoming),
     /// To verify each cover of the plan of the file of this name by itself.
     Covers(&'a str),
+    /// To list what no covered title of the plan of the file of this name can use.
+    Unused(&'a str),
 }
 
 /// What the words ask for, or none if they have none of the shapes.
@@ -106,6 +109,8 @@ fn further_command_of<'a>(
         send_on_words(alloc, words)
     } else if name == "covers" {
         Ok(covers_words(words))
+    } else if name == "unused" {
+        Ok(unused_words(words))
     } else {
         Ok(None)
     }
