@@ -6,6 +6,7 @@ pub mod InPlan
 pub mod InVerdict
 pub mod InSurvey
 pub mod InMixture
+pub mod InMargin
 pub mod Parted
 pub mod MarkTexts
 pub mod SpotTexts

@@ -9,6 +9,7 @@ pub mod PlanFaults
 pub mod Verdicts
 pub mod Covers
 pub mod Surveys
+pub mod Margins
 pub mod Changes
 pub mod Told
 pub mod Roles
