@@ -2,13 +2,13 @@ use Rattle.std.proofs.Common.{sym, ◌∙◌, ap, subst, refl, Ok, Err}
 use Rattle.std.proofs.lemmas.Result.{err_from_is_err_and}
 use Rattle.plan_model.specs.Network.{Network}
 use Rattle.plan_text.specs.PlanText.{plan_of}
-use Rattle.sccp_tool.specs.Change.{read_on_plan}
+use Rattle.sccp_work.specs.AcceptedPlan.{read_on_plan}
 use Rattle.sccp_work.specs.Ending.{Works}
 use Rattle.sccp_work.specs.Moment.{Moment, moment}
 use Rattle.sccp_work.specs.declared.stop.Stop.TheVariants.{Memory}
-use Rattle.sccp_tool.proofs.ChangeLemmas.{Works-accepted, Works-unaccepted}
+use Rattle.sccp_work.proofs.AcceptedPlanLemmas.{Works-accepted, Works-unaccepted}
 use Rattle.sccp_work.proofs.WorkLemmas.{Works-memory}
-use Rattle.sccp_tool.proofs.change.with_accepted.Goals as goal
+use Rattle.sccp_work.proofs.accepted_plan.with_accepted.Goals as goal
 
 pub returns-in_err-accepted-in-Ok : goal.returns-in_err-accepted-in-Ok
 returns-in_err-accepted-in-Ok g c =
