@@ -6,6 +6,7 @@ mod CoversLemmas
 mod CutsLemmas
 mod ImportLemmas
 mod LoadLemmas
+mod MarginLemmas
 mod ReplayLemmas
 mod RouteLemmas
 mod RunLemmas

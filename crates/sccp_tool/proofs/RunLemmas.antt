@@ -7,6 +7,7 @@ use Rattle.sccp_work.specs.Moment.{Moment}
 use Rattle.sccp_tool.specs.Run.{work_of, Cause, SureCause, TellsAnswer, TellsJourneys, HasNamedFiles, UsageCause, ExactlyWhere, ComesWhere}
 use Rattle.sccp_tool.specs.Run.{RefusedWhere}
 use Rattle.sccp_tool.specs.Task.{Task, ShowHex, Show, Verify, Route, Replay, Load, Cuts, Import, Change, Connect, SendOn, Covers, Unused}
+use Rattle.sccp_tool.specs.Task.{Margin}
 use Rattle.sccp_work.specs.Verdict.{IsOnVerdict}
 use Rattle.sccp_work.specs.Work.{Work, Ends, HasFiles}
 use Rattle.sccp_work.specs.declared.status.Status.{Status}
@@ -19,6 +20,7 @@ use Rattle.sccp_tool.proofs.ChangeLemmas.{change_causes}
 use Rattle.sccp_tool.proofs.ConnectLemmas.{connect_causes}
 use Rattle.sccp_tool.proofs.CoversLemmas.{covers_causes}
 use Rattle.sccp_tool.proofs.LoadLemmas.{load_causes}
+use Rattle.sccp_tool.proofs.MarginLemmas.{margin_causes}
 use Rattle.sccp_tool.proofs.ReplayLemmas.{replay_causes}
 use Rattle.sccp_tool.proofs.RouteLemmas.{route_causes}
 use Rattle.sccp_tool.proofs.SendOnLemmas.{send_on_causes}
@@ -59,6 +61,7 @@ causes (Some (Connect name calling)) = connect_causes name calling
 causes (Some (SendOn name incoming)) = send_on_causes name incoming
 causes (Some (Covers name)) = covers_causes name
 causes (Some (Unused name)) = unused_causes name
+causes (Some (Margin name losses)) = margin_causes name losses
 
 if_some : {C : Type 0} (o : Option C) (P : C → Type 0) → ((c : C) → o ≡ Some c → P c) → IfSome o P
 if_some None P f = tt

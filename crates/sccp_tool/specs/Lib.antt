@@ -5,6 +5,8 @@ pub mod Connect
 pub mod Covers
 pub mod Import
 pub mod Load
+pub mod Margin
+pub mod MarginTallies
 pub mod Parsed
 pub mod Promise
 pub mod Replay

@@ -31,3 +31,5 @@ pub data Task : Type 0 where
   Covers : List ℕ → Task
   -- lists what no covered title of the plan of the file of this name can use
   Unused : List ℕ → Task
+  -- says how many points can be lost before a title of a cover is stopped, up to this number, of the plan of the file of this name
+  Margin : List ℕ → ℕ → Task

@@ -9,6 +9,8 @@ use crate::covers::covers_words;
 use crate::cuts::cuts_words;
 use crate::import::import_words;
 use crate::load::load_words;
+use crate::losses::Losses;
+use crate::margin::margin_words;
 use crate::replay::replay_words;
 use crate::route::route_words;
 use crate::send_on::{Incoming, send_on_words};
@@ -50,6 +52,8 @@ pub enum Command<'a> {
     Covers(&'a str),
     /// To list what no covered title of the plan of the file of this name can use.
     Unused(&'a str),
+    /// To say how many points can be lost before a title of a cover is stopped, of the plan of the file of this name.
+    Margin(&'a str, Losses),
 }
 
 /// What the words ask for, or none if they have none of the shapes.
@@ -111,6 +115,8 @@ fn further_command_of<'a>(
         Ok(covers_words(words))
     } else if name == "unused" {
         Ok(unused_words(words))
+    } else if name == "margin" {
+        Ok(margin_words(words))
     } else {
         Ok(None)
     }

@@ -6,6 +6,7 @@
 //! A plan of relays is verified, as a whole or each cover by itself, and a title is followed through it (Q.714 section 2). What no
 //! covered title uses is listed. A trace of traffic and failures is replayed over it (Q.714 sections 2 to 5). A connection is made over it and released (Q.714 section 3). What leaves a relay
 //! is printed, a long message in segments (Q.714 section 4.1). Of two plans it is said whether relays may hold either.
+//! Of each cover it is said how many points can be lost before one of its titles is stopped.
 //!
 //! A load is made from a number, and what becomes of its messages is counted.
 //!
@@ -22,6 +23,9 @@ mod covers;
 mod cuts;
 mod import;
 mod load;
+mod losses;
+mod margin;
+mod margin_tally;
 mod program;
 mod replay;
 mod route;

@@ -14,6 +14,7 @@ use crate::covers::covers;
 use crate::cuts::cuts;
 use crate::import::import;
 use crate::load::load;
+use crate::margin::margin;
 use crate::route::route;
 use crate::send_on::send_on;
 use crate::show::show;
@@ -121,6 +122,7 @@ fn obey<R: Threads + Wait + Sync, G: Gate + Sync, F: Files, K: Sink>(
         Command::SendOn(name, incoming) => send_on(alloc, name, incoming, files, out),
         Command::Covers(name) => covers(alloc, name, files, out),
         Command::Unused(name) => unused(alloc, name, files, out),
+        Command::Margin(name, losses) => margin(alloc, name, losses, files, out),
     }
 }
 
