@@ -1,16 +1,16 @@
 -- The command that says how many points can be lost before a title of a cover is stopped.
 use Rattle.std.specs.Prelude.{◌≡◌, ◌⊎◌, ℕ, zero, suc, ◌+◌, ◌<◌, ◌≤◌, List, [], ◌∷◌, ◌++◌, length, Option, Some, None, IfSome}
-use Rattle.std.specs.Prelude.{option_and_then, option_map, Result, Ok, Err}
+use Rattle.std.specs.Prelude.{option_and_then, option_map, Result, Ok, Err, slice_get}
 use Rattle.std.specs.Io.KnownBytes.{append_known}
 use Rattle.plan_margin.specs.Margins.{IsMargin, IsStop}
 use Rattle.plan_margin.specs.Outages.{SurvivesBelow}
 use Rattle.plan_margin.specs.declared.margin.Margin.{Margin as Measure}
-use Rattle.plan_margin.specs.declared.margin.Margin.TheVariants.{TooWide as WideMargin}
+use Rattle.plan_margin.specs.declared.margin.Margin.TheVariants.{Stopped as StoppedBy, TooWide as WideMargin}
 use Rattle.plan_margin.specs.declared.stop.Stop.{Stop as StoppedTitle}
 use Rattle.plan_model.specs.Network.{Network}
 use Rattle.sccp_base.specs.Text.{below, decimal_of}
 use Rattle.sccp_io.specs.Files.{Contents}
-use Rattle.sccp_report.specs.Margins.{margin_text}
+use Rattle.sccp_report.specs.Margins.{margin_text, points_lost}
 use Rattle.sccp_tool.specs.MarginTallies.{none_yet, counted, tallied, margin_status, margin_line}
 use Rattle.sccp_tool.specs.Task.{Task, Margin}
 use Rattle.sccp_tool.specs.declared.margin_tally.MarginTally.{MarginTally}
@@ -71,13 +71,16 @@ abbrev pub AllSurviveBelow : Network → ℕ → Type 0
 AllSurviveBelow plan count = (number : ℕ) → number < length plan.covers → SurvivesBelow plan number count
 
 -- Of an accepted plan the text is that of a lawful margin of each cover, with the last line, and the answer is that of all margins.
--- Fewer points than the number in the last line stop no title of any cover.
+-- A title that is shown is stopped by the points that its hops hold, and fewer points than the number before it stop no title of its
+-- cover. Fewer points than the number in the last line stop no title of any cover.
 pub record TellsMargins (plan : Network) (losses : ℕ) (given : Status) (text : List ℕ) : Type 0 where
   pub margins : List Measure
   pub each : length margins ≡ length plan.covers
   pub lawful : AreMargins plan losses 0 margins
   pub status : given ≡ margin_status (tallied none_yet margins)
   pub whole : text ≡ margins_text plan losses 0 margins ++ margin_line losses (tallied none_yet margins)
+  pub shown : (number : ℕ) (stop : StoppedTitle) → slice_get margins number ≡ Some (StoppedBy stop)
+      → SurvivesBelow plan number (points_lost stop.markings) × IsStop plan number (points_lost stop.markings) stop
   pub least : IfSome (tallied none_yet margins).least (AllSurviveBelow plan)
   pub survive : given ≡ Done → AllSurviveBelow plan (losses + 1)
 
