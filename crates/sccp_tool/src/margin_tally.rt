@@ -42,7 +42,8 @@ impl MarginTally {
                 wide: self.wide + 1,
                 ..self
             },
-            Margin::Survives | Margin::SurvivesAny => self,
+            Margin::Survives => self,
+            Margin::SurvivesAny => self,
         }
     }
 
