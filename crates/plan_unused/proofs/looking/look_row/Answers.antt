@@ -1,6 +1,6 @@
 use Rattle.std.proofs.Common.{ℕ, sym, subst}
 use Rattle.plan_unused.specs.Uses.{UsesRelay, UsesRow}
-use Rattle.plan_unused.specs.Walks.{IsMore, IsFollowed, IsSettled, has_relay, has_row}
+use Rattle.plan_unused.specs.Walks.{IsMore, IsFollowed, IsSettled}
 use Rattle.plan_unused.proofs.Noting.{uses_relay, uses_row, on_ok, ok_both}
 use Rattle.plan_unused.proofs.Settling.{more_on, settled_row}
 use Rattle.plan_unused.proofs.looking.look_row.Goals as goal
