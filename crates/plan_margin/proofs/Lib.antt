@@ -1,6 +1,7 @@
 -- Lemmas of this crate, one file a subject.
 pub mod Arriving
 pub mod Closing
+pub mod Counted
 pub mod Counting
 pub mod Following
 pub mod Margins
