@@ -4,7 +4,7 @@ use Rattle.std.specs.Prelude.{length, Option, Some, None, IsSomeAnd, IfSome, sli
 use Rattle.std.specs.List.{list_any}
 use Rattle.std.specs.Option.{unwrap_or, option_and_then}
 use Rattle.std.proofs.Common.{sym, ◌∙◌, ap, subst, inl, inr, ⊎_elim, arith, length-append}
-use Rattle.std.proofs.lemmas.Bool.{ltb-false, le-ltb, ltb-true}
+use Rattle.std.proofs.lemmas.Bool.{ltb-false, le-ltb}
 use Rattle.std.proofs.lemmas.Option.{slice_get_cases}
 use Rattle.sccp_base.specs.Selector.{Numbers}
 use Rattle.sccp_base.specs.declared.mark.Mark.{Mark}
@@ -13,14 +13,13 @@ use Rattle.plan_rules.specs.declared.target.Target.{Target}
 use Rattle.plan_rules.specs.declared.target.Target.TheVariants.{Relay, Final}
 use Rattle.plan_model.specs.declared.node.Node.{Node}
 use Rattle.plan_model.specs.declared.spot.Spot.{Spot}
-use Rattle.plan_model.specs.declared.hop.Step.{Step}
-use Rattle.plan_model.specs.declared.hop.Step.TheVariants.{Sent, Ended, Blocked, NoRow, Overgrown}
+use Rattle.plan_model.specs.declared.hop.Step.TheVariants.{Sent, Ended, NoRow, Overgrown}
 use Rattle.plan_model.specs.Network.{Network, IsPlan, LeadsOn}
-use Rattle.plan_model.specs.Steps.{row_for, row_of, first_open, led, rewritten, passed, taken, step_by, step_at, step}
+use Rattle.plan_model.specs.Steps.{row_for, first_open, led, rewritten, passed, taken, step_by, step_at, step}
 use Rattle.plan_classes.specs.Titles.{Titles, IsClass, IsMember, HasTitle, spot_of}
 use Rattle.plan_classes.specs.Classes.{sample_of, Decided, class_row, class_targets, IsReached, Reaches}
 use Rattle.plan_classes.specs.Leading.{brought}
-use Rattle.plan_classes.proofs.Images.{sample_member, member_row, rewritten_known, rewritten_member}
+use Rattle.plan_classes.proofs.Images.{sample_member, rewritten_known, rewritten_member}
 use Rattle.plan_classes.proofs.Taking.{row_targets, target_leads, target_strips, brought_at, grown}
 use Rattle.plan_classes.proofs.Openings.{first_open-at}
 use Rattle.plan_unused.specs.Fitting.{at_most_32, fitting, HasFitting, IsSentOnAs}

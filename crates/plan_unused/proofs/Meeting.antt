@@ -1,14 +1,12 @@
 -- the titles of the classes that are met
-use Rattle.std.specs.Prelude.{ℕ, ◌≡◌, ◌+◌, ◌-◌, ◌<◌, ◌≤◌, List, [], ◌∷◌, ◌++◌, length, get_or, Option, Some, IsSomeAnd, slice_get, refl}
-use Rattle.std.specs.List.{All, Contains}
+use Rattle.std.specs.Prelude.{ℕ, ◌≡◌, ◌+◌, ◌<◌, ◌≤◌, List, [], ◌∷◌, ◌++◌, length, get_or, Some, slice_get, refl}
+use Rattle.std.specs.List.{Contains}
 use Rattle.std.proofs.Common.{sym, ◌∙◌, ap, subst, ⊎_elim, arith, length-append}
 use Rattle.std.proofs.lemmas.Bool.{cases_lt}
 use Rattle.std.proofs.lemmas.List.Elements.{All-contains}
 use Rattle.sccp_base.specs.declared.mark.Mark.{Mark}
-use Rattle.plan_model.specs.declared.node.Node.{Node}
 use Rattle.plan_model.specs.declared.cover.Cover.{Cover}
 use Rattle.plan_model.specs.declared.spot.Spot.{Spot}
-use Rattle.plan_model.specs.declared.hop.Step.{Step}
 use Rattle.plan_model.specs.declared.hop.Step.TheVariants.{Sent}
 use Rattle.plan_model.specs.Network.{Network, IsPlan, IsCover}
 use Rattle.plan_model.specs.Covered.{Covers}
@@ -24,7 +22,6 @@ use Rattle.plan_classes.proofs.Deciding.{one_decided}
 use Rattle.plan_classes.proofs.Starting.{start_exact}
 use Rattle.plan_classes.proofs.Taking.{opens_takes}
 use Rattle.plan_unused.specs.Met.{IsMet}
-use Rattle.plan_unused.specs.Fitting.{HasFitting}
 use Rattle.plan_unused.specs.Meets.{Meets}
 use Rattle.plan_unused.specs.Meets.Meets.{Start, Part, Onward}
 use Rattle.plan_unused.proofs.Sending.{does, met_from}

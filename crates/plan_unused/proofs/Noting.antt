@@ -1,10 +1,9 @@
 -- what is noted of the titles of a class
-use Rattle.std.specs.Prelude.{ℕ, ◌≡◌, ◌<◌, ◌⊎◌, Bool, true, false, cond, IsTrue, IsSome, List, Option, Some, None, Result, Ok, Err, OnOk}
-use Rattle.std.specs.Prelude.{slice_get, refl}
+use Rattle.std.specs.Prelude.{ℕ, ◌≡◌, ◌⊎◌, true, false, cond, IsTrue, List, Some, None, Result, Ok, Err, OnOk}
+use Rattle.std.specs.Prelude.{refl}
 use Rattle.std.specs.Ordering.{nat_cmp, ordering_then, is_eq}
 use Rattle.std.specs.declared.cmp.Ordering.{Ordering}
 use Rattle.std.specs.declared.cmp.Ordering.TheVariants.{Less, Equal, Greater}
-use Rattle.std.specs.Cmp.{IsTotalOrder, then_total, on_total, nat_cmp_total}
 use Rattle.std.specs.BTreeMap as map
 use Rattle.std.specs.BTreeMap.{BTreeMap}
 use Rattle.std.specs.BTreeSet as sorted
@@ -15,7 +14,7 @@ use Rattle.std.proofs.lemmas.Map.Lookups.{CmpEqualImpliesEq, exact_unsigned}
 use Rattle.plan_rules.specs.Rule.{Rule}
 use Rattle.plan_model.specs.declared.spot.Spot.{Spot}
 use Rattle.plan_model.specs.Network.{Network}
-use Rattle.plan_classes.specs.Titles.{Titles, IsClass, IsMember, spot_of}
+use Rattle.plan_classes.specs.Titles.{Titles, IsClass, spot_of}
 use Rattle.plan_classes.specs.Classes.{sample_of, Reaches, class_row}
 use Rattle.plan_classes.proofs.Images.{sample_member}
 use Rattle.plan_unused.specs.declared.survey.RowPlace.{RowPlace}
@@ -23,7 +22,6 @@ use Rattle.plan_unused.specs.declared.survey.TargetPlace.{TargetPlace}
 use Rattle.plan_unused.specs.declared.seen.Seen.{Seen}
 use Rattle.plan_unused.specs.Met.{IsMet}
 use Rattle.plan_unused.specs.Uses.{HasRow, CountsFor, UsesRelay, UsesRow, UsesTarget, HasGap}
-use Rattle.plan_unused.specs.Meets.{Meets}
 use Rattle.plan_unused.specs.Walks.{row_cmp, target_cmp, IsSeen, IsMore, MayLook}
 use Rattle.plan_unused.proofs.Meeting.{meets_class, titles_met}
 

@@ -1,5 +1,5 @@
 -- routes and the spots that titles get to
-use Rattle.std.specs.Prelude.{ℕ, ◌≡◌, ◌+◌, ◌<◌, ◌≤◌, List, [], ◌∷◌, ◌++◌, length, take, get_or, Option, Some, None, IsSomeAnd, refl}
+use Rattle.std.specs.Prelude.{ℕ, ◌≡◌, ◌<◌, ◌≤◌, List, [], ◌∷◌, ◌++◌, length, take, get_or, Option, Some, None, IsSomeAnd, refl}
 use Rattle.std.specs.List.{Any}
 use Rattle.std.proofs.Common.{zero, suc, sym, ◌∙◌, ap, subst, ⊎_elim, arith, length-append, length-take-le}
 use Rattle.std.proofs.lemmas.Bool.{cases_lt}
@@ -12,7 +12,7 @@ use Rattle.plan_model.specs.Covered.{Covered, IsAllowed}
 use Rattle.plan_model.specs.Next.{next_of}
 use Rattle.plan_model.specs.Steps.{step}
 use Rattle.plan_model.specs.Routes.{route, onward}
-use Rattle.plan_model.specs.Verdicts.{last, MayEnd, Safe, HasSpot}
+use Rattle.plan_model.specs.Verdicts.{MayEnd, Safe, HasSpot}
 use Rattle.plan_model.proofs.Ways.{Sends, Sends-take, last-Sends, MayEnd-sent, hop_at}
 use Rattle.plan_model.proofs.SafeWays.{covered_by}
 use Rattle.plan_unused.specs.Met.{IsMet}

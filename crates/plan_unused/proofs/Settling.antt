@@ -1,5 +1,5 @@
 -- stops that were looked at, and the walk from hop to hop
-use Rattle.std.specs.Prelude.{ℕ, ◌≡◌, ◌≢◌, ◌+◌, ◌<◌, ◌≤◌, ◌⊎◌, IsTrue, IsSome, List, [], ◌∷◌, ◌++◌, length, take, get_or, sum_by, Option}
+use Rattle.std.specs.Prelude.{ℕ, ◌≡◌, ◌+◌, ◌<◌, ◌≤◌, ◌⊎◌, IsTrue, IsSome, List, [], ◌∷◌, ◌++◌, length, take, get_or, Option}
 use Rattle.std.specs.Prelude.{Some, None}
 use Rattle.std.specs.Prelude.{IsSomeAnd, slice_get, refl}
 use Rattle.std.specs.List.{All, Contains}
@@ -25,7 +25,6 @@ use Rattle.plan_classes.proofs.Openings.{first_open-at}
 use Rattle.plan_classes.proofs.Taking.{row_targets}
 use Rattle.plan_check.specs.Ranking.{rank_in}
 use Rattle.plan_unused.specs.declared.survey.RowPlace.{RowPlace}
-use Rattle.plan_unused.specs.declared.survey.TargetPlace.{TargetPlace}
 use Rattle.plan_unused.specs.declared.seen.Seen.{Seen}
 use Rattle.plan_unused.specs.Uses.{HasRow}
 use Rattle.plan_unused.specs.Fitting.{fitting, HasFitting}

@@ -1,31 +1,22 @@
 -- the walk covers what every title uses
-use Rattle.std.specs.Prelude.{ℕ, ◌≡◌, ◌+◌, ◌<◌, ◌≤◌, ◌⊎◌, true, IsTrue, IsSome, List, [], ◌∷◌, length, take, get_or, Option, Some, None}
+use Rattle.std.specs.Prelude.{ℕ, ◌≡◌, ◌+◌, ◌<◌, ◌≤◌, ◌⊎◌, IsTrue, IsSome, List, [], ◌∷◌, length, take, Option, Some}
 use Rattle.std.specs.Prelude.{IsSomeAnd, slice_get, refl}
-use Rattle.std.specs.List.{All, Any, AllPairs, Contains}
+use Rattle.std.specs.List.{All, Contains}
 use Rattle.std.specs.Option.{option_map_or}
-use Rattle.std.proofs.Common.{zero, suc, sym, ◌∙◌, ap, subst, inl, inr, ⊎_elim, arith, length-take-le}
-use Rattle.std.proofs.lemmas.Bool.{cases_lt}
-use Rattle.std.proofs.lemmas.Option.{slice_get-get_or, slice_get_within, get_or_from_slice_get}
-use Rattle.std.proofs.lemmas.List.Elements.{All-contains}
-use Rattle.sccp_base.proofs.Among.{All-among, Among-slice_get}
+use Rattle.std.proofs.Common.{zero, suc, sym, ◌∙◌, ap, subst, ⊎_elim, arith, length-take-le}
 use Rattle.sccp_base.specs.declared.mark.Mark.{Mark}
 use Rattle.plan_rules.specs.Rule.{Rule}
-use Rattle.plan_rules.specs.declared.target.Target.{Target}
-use Rattle.plan_rules.specs.Tables.{IsTable, SameTitles}
-use Rattle.plan_model.specs.declared.node.Node.{Node}
 use Rattle.plan_model.specs.declared.cover.Cover.{Cover}
 use Rattle.plan_model.specs.declared.spot.Spot.{Spot}
 use Rattle.plan_model.specs.declared.hop.Step.TheVariants.{Sent}
 use Rattle.plan_model.specs.Network.{Network, IsPlan}
 use Rattle.plan_model.specs.RowFor.{row_of}
 use Rattle.plan_model.specs.Covered.{Covers}
-use Rattle.plan_model.specs.Next.{next_of}
 use Rattle.plan_model.specs.Steps.{step}
-use Rattle.plan_model.specs.Verdicts.{HasSpot}
 use Rattle.plan_model.proofs.Cutting.{sent_is}
 use Rattle.plan_model.proofs.Spots.{cover_at}
 use Rattle.plan_model.proofs.Ways.{Sends}
-use Rattle.plan_classes.specs.Titles.{Titles, IsClass, IsMember, IsPart, HasTitle, spot_of, parts_of}
+use Rattle.plan_classes.specs.Titles.{Titles, IsClass, IsPart, HasTitle, parts_of}
 use Rattle.plan_classes.specs.Classes.{start_of, sample_of, Decided, class_row, IsReached, Reaches}
 use Rattle.plan_classes.proofs.Images.{sample_member}
 use Rattle.plan_classes.proofs.Parting.{splits_parts}
@@ -35,8 +26,8 @@ use Rattle.plan_unused.specs.declared.survey.RowPlace.{RowPlace}
 use Rattle.plan_unused.specs.declared.survey.TargetPlace.{TargetPlace}
 use Rattle.plan_unused.specs.declared.seen.Seen.{Seen}
 use Rattle.plan_unused.specs.Met.{IsMet}
-use Rattle.plan_unused.specs.Uses.{HasRow, CountsFor, TakesTarget, UsesRelay, UsesRow, UsesTarget, HasGap}
-use Rattle.plan_unused.specs.Walks.{row_at, target_at, has_relay, has_row, has_target, gap_in, IsWhole, IsRankedBy, AreRanks, IsSettled}
+use Rattle.plan_unused.specs.Uses.{HasRow, TakesTarget, UsesRelay, UsesRow, UsesTarget, HasGap}
+use Rattle.plan_unused.specs.Walks.{row_at, target_at, has_relay, has_row, has_target, gap_in, IsWhole, IsRankedBy, IsSettled}
 use Rattle.plan_unused.specs.Walks.{IsWalk}
 use Rattle.plan_unused.proofs.Sending.{does, hop_sends}
 use Rattle.plan_unused.proofs.Fits.{some_is, sent_by, IsSentBy}

@@ -1,13 +1,12 @@
 -- The titles that a relay target makes of those of a class, without those that get too many digits.
 use Rattle.std.specs.Prelude.{ℕ, ◌≡◌, ◌+◌, ◌-◌, ◌⊎◌, min, nat_lt, if◌then◌else◌, List, length, Option, Some, None, IsSomeAnd, slice_get}
 use Rattle.std.specs.Option.{unwrap_or}
-use Rattle.sccp_base.specs.Selector.{Numbers}
 use Rattle.plan_rules.specs.declared.target.Target.{Target}
 use Rattle.plan_rules.specs.declared.target.Target.TheVariants.{Relay, Final}
 use Rattle.plan_model.specs.declared.hop.Step.TheVariants.{Sent, Overgrown}
 use Rattle.plan_model.specs.Network.{Network, node_of}
 use Rattle.plan_model.specs.Steps.{rewritten}
-use Rattle.plan_classes.specs.Titles.{Titles, IsMember, spot_of, titles}
+use Rattle.plan_classes.specs.Titles.{Titles, IsMember, spot_of}
 use Rattle.plan_classes.specs.Classes.{class_targets}
 use Rattle.plan_classes.specs.Leading.{brought}
 

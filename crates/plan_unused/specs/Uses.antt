@@ -1,9 +1,8 @@
 -- The relays, rows and targets that covered titles use, and titles without a row.
-use Rattle.std.specs.Prelude.{ℕ, ◌≡◌, List, [], Option, Some, None, IsSomeAnd, slice_get}
+use Rattle.std.specs.Prelude.{ℕ, ◌≡◌, List, [], Some, None, IsSomeAnd, slice_get}
 use Rattle.std.specs.Option.{option_map_or}
 use Rattle.plan_rules.specs.Rule.{Rule}
 use Rattle.plan_rules.specs.declared.target.Target.{Target}
-use Rattle.plan_model.specs.declared.node.Node.{Node}
 use Rattle.plan_model.specs.declared.spot.Spot.{Spot}
 use Rattle.plan_model.specs.Network.{Network}
 use Rattle.plan_model.specs.RowFor.{row_of}

@@ -1,5 +1,5 @@
 -- What the walk from hop to hop keeps.
-use Rattle.std.specs.Prelude.{ℕ, ◌≡◌, ◌+◌, ◌<◌, ◌≤◌, ◌⊎◌, ◌↔◌, Bool, IsTrue, IsSome, List, ◌++◌, length, Option, Some, None, slice_get}
+use Rattle.std.specs.Prelude.{ℕ, ◌≡◌, ◌+◌, ◌<◌, ◌≤◌, ◌⊎◌, Bool, IsTrue, IsSome, List, ◌++◌, length, Option, Some, None, slice_get}
 use Rattle.std.specs.List.{All, Contains}
 use Rattle.std.specs.Ordering.{nat_cmp, ordering_then}
 use Rattle.std.specs.declared.cmp.Ordering.{Ordering}
@@ -15,6 +15,7 @@ use Rattle.plan_check.specs.Ranking.{rank_in}
 use Rattle.plan_unused.specs.declared.survey.RowPlace.{RowPlace}
 use Rattle.plan_unused.specs.declared.survey.TargetPlace.{TargetPlace}
 use Rattle.plan_unused.specs.declared.seen.Seen.{Seen}
+use Rattle.plan_unused.specs.declared.stop.Stop.{Stop}
 use Rattle.plan_unused.specs.Uses.{HasRow, UsesRelay, UsesRow, UsesTarget, HasGap}
 use Rattle.plan_unused.specs.Fitting.{HasFitting}
 use Rattle.plan_unused.specs.Meets.{Meets}
@@ -101,6 +102,13 @@ pub record MayLook (plan : Network) (depth : ℕ) (c : Titles) : Type 0 where
   pub decided : Decided plan c
   pub meets : Meets plan depth c
   pub few : depth < 14
+
+-- the walk may look at the stop's class, and the row at the stop's place counts for it
+pub record IsStop (plan : Network) (stop : Stop) : Type 0 where
+  pub may : MayLook plan stop.depth stop.class.now
+  pub node : stop.place.node ≡ stop.class.now.node
+  pub row : class_row plan stop.class.now ≡ Some stop.row.now
+  pub at : HasRow plan stop.class.now.node stop.place.row stop.row.now
 
 -- the target was noted if it is reached, and what it makes of the class has a rank unless this is the last hop
 pub record IsFollowed (plan : Network) (seen : Seen) (met : List (Titles × ℕ)) (c : Titles) (depth row target : ℕ) : Type 0 where

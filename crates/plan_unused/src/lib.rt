@@ -15,6 +15,7 @@ mod looking;
 mod open_hop;
 mod rows;
 mod seen;
+mod stop;
 mod survey;
 mod walking;
 

@@ -1,13 +1,13 @@
 //! What the titles of a class use, and where they are sent on to.
-ghost use Rattle.std.specs.Prelude.{◌≡◌, ◌+◌, ◌<◌, ℕ, None, Some, Err, IsTrue, IsSome, length, OnOk};
+ghost use Rattle.std.specs.Prelude.{◌≡◌, ◌+◌, ◌<◌, ℕ, None, Err, IsTrue, IsSome, length, OnOk};
 ghost use Rattle.plan_model.specs.Limits.{most_classes};
 ghost use Rattle.plan_classes.specs.Titles.{Titles};
 ghost use Rattle.plan_classes.specs.Classes.{class_row, Reaches};
 ghost use Rattle.plan_unused.specs.declared.halt.Halt.TheVariants as halts;
-ghost use Rattle.plan_unused.specs.Uses.{HasRow};
 ghost use Rattle.plan_unused.specs.Fitting.{HasFitting};
 ghost use Rattle.plan_unused.specs.Meets.{MeetsAtLeast};
-ghost use Rattle.plan_unused.specs.Walks.{has_relay, gap_in, IsSeen, IsMore, IsRankedBy, AreRanks, Grows, MayLook, IsFollowed, IsSettled};
+ghost use Rattle.plan_unused.specs.Walks.{has_relay, gap_in, IsSeen, IsMore, IsRankedBy, AreRanks, Grows, MayLook};
+ghost use Rattle.plan_unused.specs.Walks.{IsStop, IsFollowed, IsSettled};
 
 use crate::entering::enter;
 use crate::fitting::fitting_by;
@@ -15,10 +15,10 @@ use crate::halt::Halt;
 use crate::open_hop::OpenHop;
 use crate::rows::class_node;
 use crate::seen::Seen;
+use crate::stop::Stop;
 use crate::survey::{RowPlace, TargetPlace};
 use plan_classes::{Class, reaches_by, sample};
 use plan_model::Plan;
-use plan_rules::Row;
 use sccp_base::OutOfMemory;
 use std::alloc::Global;
 
@@ -49,20 +49,16 @@ pub(crate) fn look(
         .find(class.selector(), class.ssn(), &sample(class))
     {
         Some(place) => {
-            let row = RowPlace {
-                node: class.node(),
-                row: place as u16,
-            };
-            look_row(
-                alloc,
-                plan,
+            let stop = Stop {
                 class,
-                row,
-                node.table.row(place),
+                row: node.table.row(place),
+                place: RowPlace {
+                    node: class.node(),
+                    row: place as u16,
+                },
                 depth,
-                hop,
-                seen,
-            )
+            };
+            look_row(alloc, plan, &stop, hop, seen)
         }
         None => Ok(note_gap(plan, class, seen)?),
     }
@@ -82,59 +78,48 @@ fn note_gap(plan: &Plan, class: &Class, seen: &mut Seen) -> Result<(), OutOfMemo
     seen.note_gap(plan, class.cover(), class.spot_of(&sample(class)))
 }
 
-/// As `look`, if the class has a row.
+/// As `look`, of a class with a row.
 fn look_row(
     alloc: Global,
     plan: &Plan,
-    class: &Class,
-    place: RowPlace,
-    row: &Row,
-    depth: u8,
+    stop: &Stop<'_>,
     hop: &mut OpenHop,
     seen: &mut Seen,
 ) -> Result<(), Halt>
-    requires may { MayLook plan.now depth class.now }
-    requires node { place.node ≡ class.now.node }
-    requires row { class_row plan.now class.now ≡ Some row.now }
-    requires at { HasRow plan.now class.now.node place.row row.now }
-    requires ranks { AreRanks plan.now (depth + 1) hop.old.met }
+    requires stop { IsStop plan.now stop.now }
+    requires ranks { AreRanks plan.now (stop.now.depth + 1) hop.old.met }
     requires seen { IsSeen plan.now seen.old }
-    ensures grows { OnOk result (Grows plan.now (depth + 1) hop.old.met hop.old.stops hop.new.met hop.new.stops) }
+    ensures grows { OnOk result (Grows plan.now (stop.now.depth + 1) hop.old.met hop.old.stops hop.new.met hop.new.stops) }
     ensures seen { OnOk result (IsSeen plan.now seen.new) }
     ensures more { OnOk result (IsMore seen.old seen.new) }
-    ensures settled { OnOk result (IsSettled plan.now seen.new hop.new.met class.now depth) }
+    ensures settled { OnOk result (IsSettled plan.now seen.new hop.new.met stop.now.class.now stop.now.depth) }
     ensures wide { result ≡ Err halts.Wide → MeetsAtLeast plan.now most_classes }
 {
-    seen.note_relay(plan, place.node)?;
-    seen.note_row(plan, place)?;
-    look_targets(alloc, plan, class, place, row, depth, hop, seen)
+    seen.note_relay(plan, stop.place.node)?;
+    seen.note_row(plan, stop.place)?;
+    look_targets(alloc, plan, stop, hop, seen)
 }
 
-/// Notes which targets of the class's row its titles take, and puts what they are sent on as.
+/// Notes which targets of a stop's row its titles take, and puts what they are sent on as.
 fn look_targets(
     alloc: Global,
     plan: &Plan,
-    class: &Class,
-    place: RowPlace,
-    row: &Row,
-    depth: u8,
+    stop: &Stop<'_>,
     hop: &mut OpenHop,
     seen: &mut Seen,
 ) -> Result<(), Halt>
-    requires may { MayLook plan.now depth class.now }
-    requires node { place.node ≡ class.now.node }
-    requires row { class_row plan.now class.now ≡ Some row.now }
-    requires at { HasRow plan.now class.now.node place.row row.now }
-    requires ranks { AreRanks plan.now (depth + 1) hop.old.met }
+    requires stop { IsStop plan.now stop.now }
+    requires ranks { AreRanks plan.now (stop.now.depth + 1) hop.old.met }
     requires seen { IsSeen plan.now seen.old }
-    ensures grows { OnOk result (Grows plan.now (depth + 1) hop.old.met hop.old.stops hop.new.met hop.new.stops) }
+    ensures grows { OnOk result (Grows plan.now (stop.now.depth + 1) hop.old.met hop.old.stops hop.new.met hop.new.stops) }
     ensures seen { OnOk result (IsSeen plan.now seen.new) }
     ensures more { OnOk result (IsMore seen.old seen.new) }
-    ensures followed { OnOk result ((t : ℕ) → IsFollowed plan.now seen.new hop.new.met class.now depth place.row t) }
+    ensures followed { OnOk result ((t : ℕ)
+        → IsFollowed plan.now seen.new hop.new.met stop.now.class.now stop.now.depth stop.now.place.row t) }
     ensures wide { result ≡ Err halts.Wide → MeetsAtLeast plan.now most_classes }
 {
-    for target in 0..row.target_count() {
-        look_target(alloc, plan, class, place, row, target, depth, hop, seen)?;
+    for target in 0..stop.row.target_count() {
+        look_target(alloc, plan, stop, target, hop, seen)?;
     }
     Ok(())
 }
@@ -143,66 +128,57 @@ fn look_targets(
 fn look_target(
     alloc: Global,
     plan: &Plan,
-    class: &Class,
-    place: RowPlace,
-    row: &Row,
+    stop: &Stop<'_>,
     target: u8,
-    depth: u8,
     hop: &mut OpenHop,
     seen: &mut Seen,
 ) -> Result<(), Halt>
-    requires may { MayLook plan.now depth class.now }
-    requires node { place.node ≡ class.now.node }
-    requires row { class_row plan.now class.now ≡ Some row.now }
-    requires at { HasRow plan.now class.now.node place.row row.now }
-    requires target { target < length row.now.targets }
-    requires ranks { AreRanks plan.now (depth + 1) hop.old.met }
+    requires stop { IsStop plan.now stop.now }
+    requires target { target < length stop.now.row.now.targets }
+    requires ranks { AreRanks plan.now (stop.now.depth + 1) hop.old.met }
     requires seen { IsSeen plan.now seen.old }
-    ensures grows { OnOk result (Grows plan.now (depth + 1) hop.old.met hop.old.stops hop.new.met hop.new.stops) }
+    ensures grows { OnOk result (Grows plan.now (stop.now.depth + 1) hop.old.met hop.old.stops hop.new.met hop.new.stops) }
     ensures seen { OnOk result (IsSeen plan.now seen.new) }
     ensures more { OnOk result (IsMore seen.old seen.new) }
-    ensures followed { OnOk result (IsFollowed plan.now seen.new hop.new.met class.now depth place.row target) }
+    ensures followed { OnOk result (IsFollowed plan.now seen.new hop.new.met stop.now.class.now stop.now.depth stop.now.place.row target) }
     ensures wide { result ≡ Err halts.Wide → MeetsAtLeast plan.now most_classes }
 {
-    if !reaches_by(plan, class, row, target) {
+    if !reaches_by(plan, stop.class, stop.row, target) {
         return Ok(());
     }
     seen.note_target(
         plan,
         TargetPlace {
-            node: place.node,
-            row: place.row,
+            node: stop.place.node,
+            row: stop.place.row,
             target,
         },
     )?;
-    follow(alloc, plan, class, row, target, depth, hop)
+    follow(alloc, plan, stop, target, hop)
 }
 
-/// Puts what the titles of a class are sent on as under a reached target, unless this is the last hop.
+/// Puts what the titles of a stop are sent on as under a reached target, unless this is the last hop.
 fn follow(
     alloc: Global,
     plan: &Plan,
-    class: &Class,
-    row: &Row,
+    stop: &Stop<'_>,
     target: u8,
-    depth: u8,
     hop: &mut OpenHop,
 ) -> Result<(), Halt>
-    requires may { MayLook plan.now depth class.now }
-    requires row { class_row plan.now class.now ≡ Some row.now }
-    requires target { target < length row.now.targets }
-    requires reached { Reaches plan.now class.now target }
-    requires ranks { AreRanks plan.now (depth + 1) hop.old.met }
-    ensures grows { OnOk result (Grows plan.now (depth + 1) hop.old.met hop.old.stops hop.new.met hop.new.stops) }
-    ensures onward { OnOk result (depth < 13 → (next : Titles) → HasFitting plan.now class.now target next
-        → IsRankedBy hop.new.met next (depth + 1)) }
+    requires stop { IsStop plan.now stop.now }
+    requires target { target < length stop.now.row.now.targets }
+    requires reached { Reaches plan.now stop.now.class.now target }
+    requires ranks { AreRanks plan.now (stop.now.depth + 1) hop.old.met }
+    ensures grows { OnOk result (Grows plan.now (stop.now.depth + 1) hop.old.met hop.old.stops hop.new.met hop.new.stops) }
+    ensures onward { OnOk result (stop.now.depth < 13 → (next : Titles) → HasFitting plan.now stop.now.class.now target next
+        → IsRankedBy hop.new.met next (stop.now.depth + 1)) }
     ensures wide { result ≡ Err halts.Wide → MeetsAtLeast plan.now most_classes }
 {
-    if depth >= LAST_HOP {
+    if stop.depth >= LAST_HOP {
         return Ok(());
     }
-    match fitting_by(plan, class, row, target) {
-        Some(next) => enter(alloc, plan, &next, depth + 1, hop),
+    match fitting_by(plan, stop.class, stop.row, target) {
+        Some(next) => enter(alloc, plan, &next, stop.depth + 1, hop),
         None => Ok(()),
     }
 }

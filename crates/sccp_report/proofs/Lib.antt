@@ -4,7 +4,9 @@ pub mod DigitTexts
 pub mod HopLines
 pub mod InPlan
 pub mod InVerdict
+pub mod InSurvey
 pub mod InMixture
+pub mod InMargin
 pub mod Parted
 pub mod MarkTexts
 pub mod SpotTexts

@@ -8,6 +8,8 @@ pub mod Hops
 pub mod PlanFaults
 pub mod Verdicts
 pub mod Covers
+pub mod Surveys
+pub mod Margins
 pub mod Changes
 pub mod Told
 pub mod Roles

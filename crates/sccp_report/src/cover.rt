@@ -14,7 +14,7 @@ use std::alloc::Global;
 
 /// Appends which cover a verdict is on.
 #[tactic(auto, unfolding(crate::specs::Covers::cover_words))]
-fn put_cover(text: &mut Text, number: u16) -> Result<(), OutOfMemory>
+pub fn put_cover(text: &mut Text, number: u16) -> Result<(), OutOfMemory>
     ensures { OnOk result (text.new ≡ text.old ++ cover_words number) }
 {
     text.put_numbered(b"cover ", u32::from(number))?;

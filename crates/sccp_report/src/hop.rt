@@ -11,9 +11,9 @@ use plan_model::{Hop, Plan, Spot, Step};
 use sccp_base::{List, Marking, Octets, OutOfMemory};
 use std::alloc::Global;
 
-// A title at a node.
+/// Appends a title at a node.
 #[tactic(auto, unfolding(crate::specs::Hops::spot_text))]
-fn put_spot(text: &mut Text, plan: &Plan, spot: &Spot) -> Result<(), OutOfMemory>
+pub fn put_spot(text: &mut Text, plan: &Plan, spot: &Spot) -> Result<(), OutOfMemory>
     requires { spot.now.node < length plan.now.nodes }
     ensures { OnOk result (text.new ≡ text.old ++ spot_text plan.now spot.now) }
 {
@@ -34,9 +34,9 @@ fn put_target(text: &mut Text, place: u8) -> Result<(), OutOfMemory>
     text.put_numbered(b" target ", u32::from(place))
 }
 
-// What happens to a title at a node.
+/// Appends what happens to a title at a node.
 #[tactic(auto, unfolding(crate::specs::Hops::step_text))]
-fn put_step(text: &mut Text, plan: &Plan, step: &Step) -> Result<(), OutOfMemory>
+pub fn put_step(text: &mut Text, plan: &Plan, step: &Step) -> Result<(), OutOfMemory>
     requires { StaysIn plan.now step.now }
     ensures { OnOk result (text.new ≡ text.old ++ step_text plan.now step.now) }
 {

@@ -9,9 +9,10 @@
 //! `hops_text` gives a line for each hop of a route: the title, what was held prohibited, and what the relay did with it
 //! (Q.714 section 2). `plan_fault_text` says why a text is no plan, and at which place. `verdict_text` gives the verdict
 //! on a plan and the route that shows it, `accepted_text` the one line that a plan is accepted, `cover_text` the verdict on
-//! one cover by itself. These texts are exactly those of `specs/Hops`, `specs/PlanFaults`, `specs/Verdicts` and
-//! `specs/Covers`. The text of a route's hops determines the hops
-//! (`text_tells_route`), and that of a point code the number (`text_tells_point_code`). `change_text` says whether relays
+//! one cover by itself. `survey_text` lists what no covered title of a plan uses. `margin_text` says how many points can be lost
+//! before a title of a cover is stopped, and shows a stopped title. These texts are exactly those of `specs/Hops`,
+//! `specs/PlanFaults`, `specs/Verdicts`, `specs/Covers`, `specs/Surveys` and `specs/Margins`. The text of a route's hops determines
+//! the hops (`text_tells_route`), and that of a point code the number (`text_tells_point_code`). `change_text` says whether relays
 //! may hold either of two plans, and shows the mixed route, exactly as in `specs/Changes`.
 //!
 //! `role_of` says what a line of a trace is to a replay (`specs/Roles`). `served_text` gives the text of a message that
@@ -29,6 +30,7 @@ mod fault;
 mod fields;
 mod hop;
 mod laws;
+mod margin;
 mod mark;
 mod message;
 mod message_parts;
@@ -39,6 +41,7 @@ mod role;
 mod segment;
 mod sent;
 mod served;
+mod survey;
 mod text;
 mod values;
 mod verdict;
@@ -50,10 +53,12 @@ pub use event::{event_text, put_event};
 pub use fields::put_cause;
 pub use hop::hops_text;
 pub use laws::{text_tells_point_code, text_tells_route};
+pub use margin::{margin_text, points_lost};
 pub use plan_fault::plan_fault_text;
 pub use report::message_text;
 pub use role::{Due, Role, role_of};
 pub use served::{put_served, served_text};
+pub use survey::survey_text;
 pub use text::Text;
 pub use values::put_point_code;
 pub use verdict::{accepted_text, verdict_text};

@@ -103,7 +103,7 @@ stopped_left plan number cover covers tally stop first now after left gives = le
 -- ---- the last line
 
 -- the answer of two numbers
-by_status : (P : Status → Type 0) (r w : ℕ) → (0 < r → P Refused) → (r ≡ 0 → 0 < w → P TooWide) → (r ≡ 0 → w ≡ 0 → P Done)
+pub by_status : (P : Status → Type 0) (r w : ℕ) → (0 < r → P Refused) → (r ≡ 0 → 0 < w → P TooWide) → (r ≡ 0 → w ≡ 0 → P Done)
     → P (if nat_lt 0 r then Refused else (if nat_lt 0 w then TooWide else Done))
 by_status P r w refuses wide done =
     elim (nat_lt 0 r) as (λ x. nat_lt 0 r ≡ x → P (if x then Refused else (if nat_lt 0 w then TooWide else Done))) [

@@ -6,10 +6,12 @@ mod CoversLemmas
 mod CutsLemmas
 mod ImportLemmas
 mod LoadLemmas
+mod MarginLemmas
 mod ReplayLemmas
 mod RouteLemmas
 mod RunLemmas
 mod SendOnLemmas
 mod ShowHexLemmas
 mod ShowLemmas
+mod UnusedLemmas
 mod VerifyLemmas

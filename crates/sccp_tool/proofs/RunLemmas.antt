@@ -6,7 +6,8 @@ use Rattle.sccp_work.specs.Ending.{IsCut, Answers, Outcome}
 use Rattle.sccp_work.specs.Moment.{Moment}
 use Rattle.sccp_tool.specs.Run.{work_of, Cause, SureCause, TellsAnswer, TellsJourneys, HasNamedFiles, UsageCause, ExactlyWhere, ComesWhere}
 use Rattle.sccp_tool.specs.Run.{RefusedWhere}
-use Rattle.sccp_tool.specs.Task.{Task, ShowHex, Show, Verify, Route, Replay, Load, Cuts, Import, Change, Connect, SendOn, Covers}
+use Rattle.sccp_tool.specs.Task.{Task, ShowHex, Show, Verify, Route, Replay, Load, Cuts, Import, Change, Connect, SendOn, Covers, Unused}
+use Rattle.sccp_tool.specs.Task.{Margin}
 use Rattle.sccp_work.specs.Verdict.{IsOnVerdict}
 use Rattle.sccp_work.specs.Work.{Work, Ends, HasFiles}
 use Rattle.sccp_work.specs.declared.status.Status.{Status}
@@ -19,11 +20,13 @@ use Rattle.sccp_tool.proofs.ChangeLemmas.{change_causes}
 use Rattle.sccp_tool.proofs.ConnectLemmas.{connect_causes}
 use Rattle.sccp_tool.proofs.CoversLemmas.{covers_causes}
 use Rattle.sccp_tool.proofs.LoadLemmas.{load_causes}
+use Rattle.sccp_tool.proofs.MarginLemmas.{margin_causes}
 use Rattle.sccp_tool.proofs.ReplayLemmas.{replay_causes}
 use Rattle.sccp_tool.proofs.RouteLemmas.{route_causes}
 use Rattle.sccp_tool.proofs.SendOnLemmas.{send_on_causes}
 use Rattle.sccp_tool.proofs.ShowHexLemmas.{show_hex_causes}
 use Rattle.sccp_tool.proofs.ShowLemmas.{show_causes}
+use Rattle.sccp_tool.proofs.UnusedLemmas.{unused_causes}
 use Rattle.sccp_tool.proofs.VerifyLemmas.{verify_causes}
 
 -- ---- the causes of the answers, task by task
@@ -57,6 +60,8 @@ causes (Some (Change old new)) = change_causes old new
 causes (Some (Connect name calling)) = connect_causes name calling
 causes (Some (SendOn name incoming)) = send_on_causes name incoming
 causes (Some (Covers name)) = covers_causes name
+causes (Some (Unused name)) = unused_causes name
+causes (Some (Margin name losses)) = margin_causes name losses
 
 if_some : {C : Type 0} (o : Option C) (P : C → Type 0) → ((c : C) → o ≡ Some c → P c) → IfSome o P
 if_some None P f = tt

@@ -1,11 +1,8 @@
 -- The command that says whether relays may hold either of two plans.
-use Rattle.std.specs.Prelude.{◌≡◌, ◌⊎◌, ℕ, List, [], ◌∷◌, ◌++◌, Option, None, Result, Ok, Err, if◌then◌else◌, codes, option_and_then}
-use Rattle.std.specs.Prelude.{option_map}
+use Rattle.std.specs.Prelude.{◌≡◌, ◌⊎◌, ℕ, List, [], ◌∷◌, Option, None, if◌then◌else◌, codes, option_and_then, option_map}
 use Rattle.std.specs.Io.KnownBytes.{append_known}
-use Rattle.plan_check.specs.Verified.{Verified}
 use Rattle.plan_model.specs.Limits.{most_classes}
 use Rattle.plan_model.specs.declared.kind.Kind.{Kind}
-use Rattle.plan_model.specs.declared.plan_fault.PlanFault.{PlanFault}
 use Rattle.plan_model.specs.declared.spot.Spot.{Spot}
 use Rattle.plan_model.specs.Network.{Network}
 use Rattle.plan_model.specs.SameNodes.{SameNodes, same_nodes}
@@ -16,27 +13,19 @@ use Rattle.plan_change.specs.declared.answer.Change.{Change}
 use Rattle.plan_change.specs.declared.answer.Change.TheVariants as changes
 use Rattle.plan_change.specs.declared.mixed_hop.MixedHop.{MixedHop}
 use Rattle.plan_change.specs.declared.turn.Turn.{Turn}
-use Rattle.plan_text.specs.PlanText.{plan_of}
-use Rattle.plan_verify.specs.Lawful.{IsLawful}
-use Rattle.plan_verify.specs.declared.verdict.Verdict.TheVariants as verdicts
-use Rattle.plan_verify.specs.declared.witness.Witness.{Witness}
 use Rattle.sccp_io.specs.Files.{Contents}
 use Rattle.sccp_report.specs.Changes.{change_text}
-use Rattle.sccp_report.specs.Verdicts.{accepted_line, verdict_text}
 use Rattle.trace_text.specs.Forms.{file_name}
-use Rattle.sccp_work.specs.Accepting.{if_accepted}
-use Rattle.sccp_work.specs.Ending.{Works}
-use Rattle.sccp_work.specs.Limit.{within_limit, HasLongFile}
-use Rattle.sccp_work.specs.Moment.{Moment}
-use Rattle.sccp_work.specs.Plans.{bad_plan, HasPlan, HasBadPlan}
+use Rattle.sccp_work.specs.AcceptedPlan.{with_accepted, IsSurelySafe, TellsPlan}
+use Rattle.sccp_work.specs.Limit.{HasLongFile}
+use Rattle.sccp_work.specs.Plans.{HasPlan, HasBadPlan}
 use Rattle.sccp_tool.specs.Task.{Task, Change as asked}
 use Rattle.sccp_tool.specs.Texts.{other_nodes}
 use Rattle.sccp_work.specs.Verdict.{IsSafe, IsBad, IsWide, IsOnVerdict}
 use Rattle.sccp_work.specs.Questions.{IsCompared}
-use Rattle.sccp_work.specs.Work.{Work, print, mix, answered}
+use Rattle.sccp_work.specs.Work.{Work, mix, answered}
 use Rattle.sccp_work.specs.declared.status.Status.{Status}
 use Rattle.sccp_work.specs.declared.status.Status.TheVariants.{Done, Refused, BadPlan, TooWide, TooLong, OtherNodes}
-use Rattle.sccp_work.specs.declared.stop.Stop.{Stop}
 
 unfoldable pub change_of : List ℕ → List ℕ → Option Task
 change_of old new = option_and_then (λ name. option_map (asked name) (file_name new)) (file_name old)
@@ -53,15 +42,6 @@ old_word = codes "old "
 unfoldable pub new_word : List ℕ
 new_word = codes "new "
 
--- of an accepted plan its line is printed, and the work goes on
-abbrev pub read_on_plan : List ℕ → (Network → Work) → Result Network PlanFault → Work
-read_on_plan word next (Ok plan) = if_accepted word plan (λ accepted. print (word ++ accepted_line accepted.bound) (next plan))
-read_on_plan word next (Err fault) = answered (BadPlan, word ++ bad_plan fault)
-
--- the plan of a file, if it is accepted; its text is after this word
-abbrev pub with_accepted : List ℕ → List ℕ → (Network → Work) → Work
-with_accepted word name next = within_limit name (λ octets. read_on_plan word next (plan_of octets))
-
 abbrev pub change_status : Change → Status
 change_status (changes.Kept bound spot turns) = Done
 change_status (changes.Broken old_cover new_cover spot turns hops kind) = Refused
@@ -77,14 +57,6 @@ change_work old new = with_accepted old_word old (λ p. with_accepted new_word n
 
 -- ---- what the code gives while the work is done
 
--- Whatever the work that needs the plan of a file goes on with: from an accepted plan it goes on, and otherwise it has ended
--- or stopped.
-abbrev pub GivesAcceptedOf : List ℕ → List ℕ → Result Verified Stop → Moment → Moment → Type 0
-GivesAcceptedOf word name (Ok accepted) first now =
-    (next : Network → Work) (result : Result Status Stop) (after : Moment) → Works (next accepted.plan) result now after
-    → Works (with_accepted word name next) result first after
-GivesAcceptedOf word name (Err stop) first now = (next : Network → Work) → Works (with_accepted word name next) (Err stop) first now
-
 -- the answer on two plans and its text, as the work has them
 abbrev pub IsAnswered : Network → Network → Status → List ℕ → Type 0
 IsAnswered old new status text =
@@ -92,16 +64,6 @@ IsAnswered old new status text =
     ⊎ ((change : Change) × IsCompared old new change × (status ≡ change_status change) × (text ≡ change_text old new change))
 
 -- what the text says
-
--- Of a plan: a lawful verdict that is not Accepted is the answer, and its text follows the word. Or the plan is accepted for
--- the bound that its line gives, and the text goes on with what follows.
-pub data TellsPlan (word : List ℕ) (plan : Network) (next : Status → List ℕ → Type 0) (given : Status) (text : List ℕ) : Type 0 where
-  is_refused : (same : Network) (witness : Witness) → IsLawful plan (verdicts.Refused same witness) → given ≡ Refused
-      → text ≡ word ++ verdict_text plan (verdicts.Refused same witness) → TellsPlan word plan next given text
-  is_wide : (same : Network) → IsLawful plan (verdicts.TooWide same) → given ≡ TooWide
-      → text ≡ word ++ verdict_text plan (verdicts.TooWide same) → TellsPlan word plan next given text
-  is_accepted : (accepted : Verified) (rest : List ℕ) → IsLawful plan (verdicts.Accepted accepted)
-      → text ≡ (word ++ accepted_line accepted.bound) ++ rest → next given rest → TellsPlan word plan next given text
 
 -- of two accepted plans: they have other nodes, or the text is of a lawful answer on their mixture
 pub data TellsMixture (old new : Network) (given : Status) (text : List ℕ) : Type 0 where
@@ -121,10 +83,6 @@ ChangeTells contents old new given taken taken' =
     IsOnVerdict given → (text : List ℕ) × (taken' ≡ append_known taken text) × TellsChange contents old new given text
 
 -- ---- the causes
-
--- a safe plan is accepted for sure if it reaches fewer than 262,144 classes
-abbrev pub IsSurelySafe : Network → Type 0
-IsSurelySafe plan = IsSafe plan × (IsWide plan → ⊥)
 
 -- Three facts on two plans, a definition each. Every mixed route of a title that both cover ends well within some bound up
 -- to 14; or a bad one is there; or they reach too many classes together.

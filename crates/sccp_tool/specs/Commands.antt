@@ -9,11 +9,13 @@ use Rattle.sccp_tool.specs.Import.{import_words}
 use Rattle.sccp_tool.specs.Change.{change_words}
 use Rattle.sccp_tool.specs.Connect.{connect_words}
 use Rattle.sccp_tool.specs.Load.{load_words}
+use Rattle.sccp_tool.specs.Margin.{margin_words}
 use Rattle.sccp_tool.specs.Route.{route_words}
 use Rattle.sccp_tool.specs.SendOn.{send_on_words}
 use Rattle.sccp_tool.specs.Show.{show_words}
 use Rattle.sccp_tool.specs.ShowHex.{show_hex_words}
 use Rattle.sccp_tool.specs.Task.{Task}
+use Rattle.sccp_tool.specs.Unused.{unused_words}
 use Rattle.sccp_tool.specs.Verify.{verify_words}
 
 -- the commands after the first six
@@ -25,6 +27,8 @@ further_command_of name words =
     else if bytes_eq name (codes "connect") then connect_words words
     else if bytes_eq name (codes "send-on") then send_on_words words
     else if bytes_eq name (codes "covers") then covers_words words
+    else if bytes_eq name (codes "unused") then unused_words words
+    else if bytes_eq name (codes "margin") then margin_words words
     else None
 
 -- the commands by their names

@@ -5,6 +5,8 @@ pub mod Connect
 pub mod Covers
 pub mod Import
 pub mod Load
+pub mod Margin
+pub mod MarginTallies
 pub mod Parsed
 pub mod Promise
 pub mod Replay
@@ -18,4 +20,5 @@ pub mod Starts
 pub mod Tallies
 pub mod Task
 pub mod Texts
+pub mod Unused
 pub mod Verify

@@ -4,7 +4,7 @@ use Rattle.sccp_tool.specs.Task.{Task}
 use Rattle.sccp_tool.specs.Task as spec
 use Rattle.sccp_tool.specs.declared.command.Command.{Command}
 use Rattle.sccp_tool.specs.declared.command.Command.TheVariants.{ShowHex, Show, Verify, Route, Replay, Load, Cuts, Import, Change, Connect}
-use Rattle.sccp_tool.specs.declared.command.Command.TheVariants.{SendOn, Covers}
+use Rattle.sccp_tool.specs.declared.command.Command.TheVariants.{SendOn, Covers, Unused, Margin}
 
 abbrev pub task_in : Option Command → Option Task
 task_in None = None
@@ -20,3 +20,5 @@ task_in (Some (Change old new)) = Some (spec.Change old.now new.now)
 task_in (Some (Connect name calling)) = Some (spec.Connect name.now calling)
 task_in (Some (SendOn name incoming)) = Some (spec.SendOn name.now incoming)
 task_in (Some (Covers name)) = Some (spec.Covers name.now)
+task_in (Some (Unused name)) = Some (spec.Unused name.now)
+task_in (Some (Margin name losses)) = Some (spec.Margin name.now losses.count)

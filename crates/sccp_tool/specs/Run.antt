@@ -12,15 +12,18 @@ use Rattle.sccp_tool.specs.Import.{import_work, ImportCause, ImportTells}
 use Rattle.sccp_work.specs.Limit.{IsThere}
 use Rattle.sccp_work.specs.Plans.{TextCause}
 use Rattle.sccp_tool.specs.Load.{load_work, LoadCause}
+use Rattle.sccp_tool.specs.Margin.{margin_work, MarginCause, MarginSure, MarginTells}
 use Rattle.sccp_replay.specs.Replay.{replay_work}
 use Rattle.sccp_replay.specs.ReplayEnds.{ReplayCause, ReplaySure, ReplayTells, LaterPlansThere}
 use Rattle.sccp_tool.specs.Route.{route_work}
 use Rattle.sccp_tool.specs.SendOn.{send_on_work}
 use Rattle.sccp_tool.specs.Show.{show_work, ShowCause}
 use Rattle.sccp_tool.specs.ShowHex.{show_hex_work, ShowHexCause}
-use Rattle.sccp_tool.specs.Task.{Task, ShowHex, Show, Verify, Route, Replay, Load, Cuts, Import, Change, Connect, SendOn, Covers}
+use Rattle.sccp_tool.specs.Task.{Task, ShowHex, Show, Verify, Route, Replay, Load, Cuts, Import, Change, Connect, SendOn, Covers, Unused}
+use Rattle.sccp_tool.specs.Task.{Margin}
 use Rattle.sccp_tool.specs.Texts.{usage}
 use Rattle.sccp_replay.specs.Trace.{lines_in}
+use Rattle.sccp_tool.specs.Unused.{unused_work, UnusedCause, UnusedSure, UnusedTells}
 use Rattle.sccp_tool.specs.Verify.{verify_work, VerifyCause, VerifySure, VerifyTells}
 use Rattle.sccp_work.specs.Work.{Work, answered}
 use Rattle.sccp_work.specs.declared.status.Status.{Status}
@@ -40,6 +43,8 @@ work_of (Some (Change old new)) = change_work old new
 work_of (Some (Connect name calling)) = connect_work name calling
 work_of (Some (SendOn name incoming)) = send_on_work name incoming
 work_of (Some (Covers name)) = covers_work name
+work_of (Some (Unused name)) = unused_work name
+work_of (Some (Margin name losses)) = margin_work name losses
 
 -- words of no shape
 abbrev pub UsageCause : Status → Type 0
@@ -61,6 +66,8 @@ Cause c (Some (Change old new)) answer = ChangeCause (Some c) old new answer
 Cause c (Some (Connect name calling)) answer = VerifyCause (Some c) name answer
 Cause c (Some (SendOn name incoming)) answer = TextCause (Some c) name answer
 Cause c (Some (Covers name)) answer = CoversCause (Some c) name answer
+Cause c (Some (Unused name)) answer = UnusedCause (Some c) name answer
+Cause c (Some (Margin name losses)) answer = MarginCause (Some c) name losses answer
 
 -- if this holds, the answer is given, but for a fault or want of memory before it
 abbrev pub SureCause : Contents → Option Task → Status → Type 0
@@ -69,10 +76,13 @@ SureCause c (Some (Replay plan trace workers)) answer = ReplaySure c plan trace 
 SureCause c (Some (Change old new)) answer = ChangeSure (Some c) old new answer
 SureCause c (Some (Connect name calling)) answer = VerifySure (Some c) name answer
 SureCause c (Some (Covers name)) answer = CoversSure (Some c) name answer
+SureCause c (Some (Unused name)) answer = UnusedSure (Some c) name answer
+SureCause c (Some (Margin name losses)) answer = MarginSure (Some c) name losses answer
 SureCause c task answer = Cause c task answer
 
 -- What the sink took gives the verdict on a plan, on each of its covers by itself, or those on two plans and the answer on their
--- mixture. Of DATA messages it is a trace without a faulty line.
+-- mixture. Or it gives what no covered title of a plan uses, or the margins of its covers. Of DATA messages it is a trace without
+-- a faulty line.
 abbrev pub TellsAnswer : Contents → Option Task → Status → Option (List ℕ) → Option (List ℕ) → Type 0
 TellsAnswer c (Some (Verify name)) given taken taken' = VerifyTells (Some c) name given taken taken'
 TellsAnswer c (Some (Replay plan trace workers)) given taken taken' = ReplayTells c plan given taken taken'
@@ -80,6 +90,8 @@ TellsAnswer c (Some (Change old new)) given taken taken' = ChangeTells (Some c) 
 TellsAnswer c (Some (Connect name calling)) given taken taken' = ReplayTells c name given taken taken'
 TellsAnswer c (Some (Import plan file)) given taken taken' = ImportTells (Some c) plan file given taken taken'
 TellsAnswer c (Some (Covers name)) given taken taken' = CoversTells (Some c) name given taken taken'
+TellsAnswer c (Some (Unused name)) given taken taken' = UnusedTells (Some c) name given taken taken'
+TellsAnswer c (Some (Margin name losses)) given taken taken' = MarginTells (Some c) name losses given taken taken'
 TellsAnswer c task given taken taken' = Unit {0}
 
 -- what the sink took of a replay gives the bound of the first plan and, of each message that was routed, its whole journey
@@ -99,6 +111,8 @@ HasNamedFiles c (Some (Change old new)) = IsThere c old × IsThere c new
 HasNamedFiles c (Some (Connect name calling)) = IsThere c name
 HasNamedFiles c (Some (SendOn name incoming)) = IsThere c name
 HasNamedFiles c (Some (Covers name)) = IsThere c name
+HasNamedFiles c (Some (Unused name)) = IsThere c name
+HasNamedFiles c (Some (Margin name losses)) = IsThere c name
 HasNamedFiles c task = Unit {0}
 
 -- this answer is given exactly if the cause holds, but for a fault or want of memory before it

@@ -29,3 +29,7 @@ pub data Task : Type 0 where
   SendOn : List ℕ → Incoming → Task
   -- verifies each cover of the plan of the file of this name by itself
   Covers : List ℕ → Task
+  -- lists what no covered title of the plan of the file of this name can use
+  Unused : List ℕ → Task
+  -- says how many points can be lost before a title of a cover is stopped, up to this number, of the plan of the file of this name
+  Margin : List ℕ → ℕ → Task

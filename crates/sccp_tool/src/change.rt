@@ -1,27 +1,19 @@
 //! The command that says whether relays may hold either of two plans.
-ghost use Rattle.std.specs.Prelude.{◌≡◌, ◌++◌, false, IfOk, OnOk};
-ghost use Rattle.plan_text.specs.Faults.{is_memory};
-ghost use Rattle.sccp_report.specs.Verdicts.{accepted_line};
-ghost use Rattle.sccp_tool.specs.Change.{change_of, change_words, change_work, change_status, old_word, new_word, GivesAcceptedOf};
-ghost use Rattle.sccp_tool.specs.Change.{IsAnswered};
+ghost use Rattle.std.specs.Prelude.{◌≡◌, IfOk};
+ghost use Rattle.sccp_tool.specs.Change.{change_of, change_words, change_work, change_status, old_word, new_word, IsAnswered};
 ghost use Rattle.sccp_tool.specs.Commands.{texts};
 ghost use Rattle.sccp_work.specs.Ending.{Works};
 ghost use Rattle.sccp_work.specs.Moment.{moment};
 ghost use Rattle.sccp_tool.specs.Parsed.{task_in};
-ghost use Rattle.sccp_work.specs.Plans.{bad_plan};
-ghost use Rattle.sccp_work.specs.Writing.{Writes};
 
+use crate::answer::Answer;
 use crate::command::Command;
 use plan_change::{Change, ChangeFault};
 use plan_check::Accepted;
-use plan_model::PlanFault;
 use sccp_base::{Octets, OutOfMemory};
 use sccp_io::{Files, Sink};
-use sccp_report::{accepted_text, change_text};
-use sccp_work::{
-    Opened, Status, Stop, after_word, bad_plan, early, if_accepted, print_last, put_all,
-    within_limit,
-};
+use sccp_report::change_text;
+use sccp_work::{Status, Stop, print_last, with_accepted};
 use std::alloc::Global;
 use trace_text::is_file_name;
 
@@ -84,69 +76,6 @@ pub fn change<F: Files, K: Sink>(
             Err(stop)
         }
     }
-}
-
-/// The plan of a file, if it is accepted, which a line after this word reports. Any other outcome is printed after the word,
-/// and is the answer of the command.
-fn with_accepted<F: Files, K: Sink>(
-    alloc: Global,
-    word: &[u8],
-    name: &str,
-    files: &mut F,
-    out: &mut K,
-) -> Result<Accepted, Stop>
-    ensures { GivesAcceptedOf word.now name.now result
-        (moment F.contents F.sound F.faults K.taken K.faults files.old out.old)
-        (moment F.contents F.sound F.faults K.taken K.faults files.new out.new) }
-{
-    let text = within_limit(alloc, Opened::First, name, files, out)?;
-    match plan_text::read(alloc, &text) {
-        Ok(plan) => {
-            let accepted = if_accepted(alloc, word, plan, out)?;
-            match put_accepted(alloc, word, &accepted, out) {
-                Ok(()) => Ok(accepted),
-                Err(stop) => {
-                    drop(accepted);
-                    Err(stop)
-                }
-            }
-        }
-        Err(fault) => {
-            let line = bad_plan_after(alloc, word, &fault)?;
-            Err(early(print_last(out, line.as_slice(), Status::BadPlan)))
-        }
-    }
-}
-
-/// Writes the line of an accepted plan, after a word.
-fn put_accepted<K: Sink>(
-    alloc: Global,
-    word: &[u8],
-    accepted: &Accepted,
-    out: &mut K,
-) -> Result<(), Stop>
-    ensures { Writes (word.now ++ accepted_line accepted.now.bound) result (K.taken out.old) (K.taken out.new) (K.faults out.old)
-        (K.faults out.new) }
-{
-    let line = accepted_text(alloc, accepted)?;
-    let line = after_word(alloc, word, line.as_slice())?;
-    put_all(out, line.as_slice())
-}
-
-/// The line on a text that is no plan, after a word. Want of memory has no line.
-fn bad_plan_after(alloc: Global, word: &[u8], fault: &PlanFault) -> Result<Octets, OutOfMemory>
-    ensures line { IfOk result (λ line. line ≡ word.now ++ bad_plan fault.now) }
-    ensures told { OnOk result (is_memory fault.now ≡ false) }
-{
-    let text = bad_plan(alloc, fault)?;
-    after_word(alloc, word, text.as_slice())
-}
-
-/// The answer on two plans, and its text.
-#[derive(Drop)]
-struct Answer {
-    status: Status,
-    text: Octets,
 }
 
 /// The answer on two accepted plans.

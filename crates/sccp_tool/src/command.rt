@@ -9,12 +9,15 @@ use crate::covers::covers_words;
 use crate::cuts::cuts_words;
 use crate::import::import_words;
 use crate::load::load_words;
+use crate::losses::Losses;
+use crate::margin::margin_words;
 use crate::replay::replay_words;
 use crate::route::route_words;
 use crate::send_on::{Incoming, send_on_words};
 use crate::show::show_words;
 use crate::show_hex::show_hex_words;
 use crate::start::Start;
+use crate::unused::unused_words;
 use crate::verify::verify_words;
 use sccp_base::{Octets, OutOfMemory};
 use sccp_replay::Workers;
@@ -47,6 +50,10 @@ pub enum Command<'a> {
     SendOn(&'a str, Incoming),
     /// To verify each cover of the plan of the file of this name by itself.
     Covers(&'a str),
+    /// To list what no covered title of the plan of the file of this name can use.
+    Unused(&'a str),
+    /// To say how many points can be lost before a title of a cover is stopped, of the plan of the file of this name.
+    Margin(&'a str, Losses),
 }
 
 /// What the words ask for, or none if they have none of the shapes.
@@ -106,6 +113,10 @@ fn further_command_of<'a>(
         send_on_words(alloc, words)
     } else if name == "covers" {
         Ok(covers_words(words))
+    } else if name == "unused" {
+        Ok(unused_words(words))
+    } else if name == "margin" {
+        Ok(margin_words(words))
     } else {
         Ok(None)
     }

@@ -1,15 +1,14 @@
 //! The command that gives a verdict on each cover of a plan by itself.
-ghost use Rattle.std.specs.Prelude.{◌≡◌, ◌+◌, ◌<◌, [], ◌∷◌, ℕ, Bool, Option, IfOk};
+ghost use Rattle.std.specs.Prelude.{◌≡◌, ◌+◌, ◌<◌, [], ◌∷◌, IfOk};
 ghost use Rattle.plan_model.specs.Network.{IsPlan, network};
 ghost use Rattle.plan_verify.specs.Lawful.{IsLawful, plan_of};
-ghost use Rattle.sccp_io.specs.Files.{Contents};
 ghost use Rattle.sccp_report.specs.Covers.{cover_text};
 ghost use Rattle.sccp_tool.specs.Commands.{texts};
 ghost use Rattle.sccp_tool.specs.Covers.{covers_words, covers_work, GivesNext, GivesTally};
 ghost use Rattle.sccp_tool.specs.Parsed.{task_in};
 ghost use Rattle.sccp_tool.specs.Tallies.{total};
 ghost use Rattle.sccp_work.specs.Ending.{Works};
-ghost use Rattle.sccp_work.specs.Moment.{moment};
+ghost use Rattle.sccp_work.specs.Moment.{Moment, moment, with_sink};
 ghost use Rattle.sccp_work.specs.Writing.{Writes};
 
 use crate::command::Command;
@@ -64,11 +63,10 @@ struct Judging {
     tally: Tally,
 }
 
-/// Prints the verdict on each cover of a plan by itself. No file is read, so the clause speaks of any files.
+/// Prints the verdict on each cover of a plan by itself. No file is read, so the clause holds whatever the files show.
 fn judge_covers<K: Sink>(alloc: Global, plan: Plan, out: &mut K) -> Result<Tally, Stop>
-    ensures gives { (contents : Option Contents) (sound : Bool) (faults : ℕ) → GivesTally plan result
-        (record { contents = contents; sound = sound; read_faults = faults; taken = K.taken out.old; write_faults = K.faults out.old })
-        (record { contents = contents; sound = sound; read_faults = faults; taken = K.taken out.new; write_faults = K.faults out.new }) }
+    ensures gives { (any : Moment) → GivesTally plan result
+        (with_sink any K.taken K.faults out.old) (with_sink any K.taken K.faults out.new) }
     ensures few { IfOk result (λ tally. total tally < 65535) }
 {
     let (nodes, covers) = plan.into_parts();
@@ -97,9 +95,8 @@ fn judge_cover<K: Sink>(
 ) -> Result<Judging, Stop>
     requires plan { IsPlan (network judging.nodes (cover ∷ [])) }
     requires few { total judging.tally < 65535 }
-    ensures gives { (contents : Option Contents) (sound : Bool) (faults : ℕ) → GivesNext judging.nodes number cover judging.tally result
-        (record { contents = contents; sound = sound; read_faults = faults; taken = K.taken out.old; write_faults = K.faults out.old })
-        (record { contents = contents; sound = sound; read_faults = faults; taken = K.taken out.new; write_faults = K.faults out.new }) }
+    ensures gives { (any : Moment) → GivesNext judging.nodes number cover judging.tally result
+        (with_sink any K.taken K.faults out.old) (with_sink any K.taken K.faults out.new) }
     ensures nodes { IfOk result (λ next. next.nodes ≡ judging.nodes) }
     ensures one_more { IfOk result (λ next. total next.tally ≡ total judging.tally + 1) }
 {

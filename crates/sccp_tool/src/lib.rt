@@ -3,9 +3,10 @@
 //! SCCP messages (ITU-T Q.713) are shown, given as a word of hexadecimal digits or in a file with one a line. Each cut of one
 //! is shown, and captured ones become a trace (RFC 4666).
 //!
-//! A plan of relays is verified, as a whole or each cover by itself, and a title is followed through it (Q.714 section 2). A trace of traffic and failures is
-//! replayed over it (Q.714 sections 2 to 5). A connection is made over it and released (Q.714 section 3). What leaves a relay
+//! A plan of relays is verified, as a whole or each cover by itself, and a title is followed through it (Q.714 section 2). What no
+//! covered title uses is listed. A trace of traffic and failures is replayed over it (Q.714 sections 2 to 5). A connection is made over it and released (Q.714 section 3). What leaves a relay
 //! is printed, a long message in segments (Q.714 section 4.1). Of two plans it is said whether relays may hold either.
+//! Of each cover it is said how many points can be lost before one of its titles is stopped.
 //!
 //! A load is made from a number, and what becomes of its messages is counted.
 //!
@@ -14,6 +15,7 @@
 //! passes on the words.
 #![tactic(auto)]
 
+mod answer;
 mod change;
 mod command;
 mod connect;
@@ -21,6 +23,9 @@ mod covers;
 mod cuts;
 mod import;
 mod load;
+mod losses;
+mod margin;
+mod margin_tally;
 mod program;
 mod replay;
 mod route;
@@ -29,6 +34,7 @@ mod show;
 mod show_hex;
 mod start;
 mod tally;
+mod unused;
 mod verify;
 
 pub use program::{run, run_gated};

@@ -1,10 +1,10 @@
 //! The command that makes a plan and messages from a number, and counts what becomes of the messages.
-ghost use Rattle.std.specs.Prelude.{◌≡◌, ◌<◌, ◌^◌, ◌++◌, ℕ, Bool, Option, IfOk, OnOk};
-ghost use Rattle.sccp_io.specs.Files.{Contents};
+ghost use Rattle.std.specs.Prelude.{◌≡◌, ◌<◌, ◌^◌, ◌++◌, IfOk, OnOk};
 ghost use Rattle.sccp_tool.specs.Commands.{texts};
 ghost use Rattle.sccp_work.specs.Ending.{Works};
 ghost use Rattle.sccp_tool.specs.Load.{count_line, counts_text, load_of, load_words, load_work, number_to};
 ghost use Rattle.sccp_tool.specs.Parsed.{task_in};
+ghost use Rattle.sccp_work.specs.Moment.{Moment, with_sink};
 ghost use Rattle.sccp_work.specs.Writing.{Writes};
 
 use crate::command::Command;
@@ -58,7 +58,7 @@ fn number_to(word: &[u8], most: u32) -> Option<u32>
 }
 
 /// Makes the plan of a number, sends this number of messages over its relays if it is accepted, and prints the counts. They
-/// are the same for each number of workers. No file is read, so the clause speaks of any files.
+/// are the same for each number of workers. No file is read, so the clause holds whatever the files show.
 pub fn load<R: Threads + Sync, K: Sink>(
     rt: &R,
     alloc: Global,
@@ -67,9 +67,8 @@ pub fn load<R: Threads + Sync, K: Sink>(
     workers: &Workers,
     out: &mut K,
 ) -> Result<Status, Stop>
-    ensures { (contents : Option Contents) (sound : Bool) (faults : ℕ) → Works (load_work number size) result
-        (record { contents = contents; sound = sound; read_faults = faults; taken = K.taken out.old; write_faults = K.faults out.old })
-        (record { contents = contents; sound = sound; read_faults = faults; taken = K.taken out.new; write_faults = K.faults out.new }) }
+    ensures { (any : Moment) → Works (load_work number size) result
+        (with_sink any K.taken K.faults out.old) (with_sink any K.taken K.faults out.new) }
 {
     let plan = load_plan(alloc, number)?;
     let accepted = if_accepted(alloc, b"", plan, out)?;

@@ -14,10 +14,12 @@ use crate::covers::covers;
 use crate::cuts::cuts;
 use crate::import::import;
 use crate::load::load;
+use crate::margin::margin;
 use crate::route::route;
 use crate::send_on::send_on;
 use crate::show::show;
 use crate::show_hex::show_hex;
+use crate::unused::unused;
 use crate::verify::verify;
 use live_plan::{Gate, OpenGate};
 use sccp_base::OutOfMemory;
@@ -29,7 +31,7 @@ use std::sync::Wait;
 use std::thread::Threads;
 
 const USAGE: &[u8] =
-    b"usage: show-hex HEX | show FILE | verify PLAN | route PLAN NODE SELECTOR SSN DIGITS | replay PLAN TRACE WORKERS | load NUMBER SIZE WORKERS | cuts HEX | change OLD NEW | connect PLAN NODE FROM SELECTOR SSN DIGITS HEX | send-on PLAN NODE ORIGIN SIZE HEX | import PLAN FILE | covers PLAN\n";
+    b"usage: show-hex HEX | show FILE | verify PLAN | route PLAN NODE SELECTOR SSN DIGITS | replay PLAN TRACE WORKERS | load NUMBER SIZE WORKERS | cuts HEX | change OLD NEW | connect PLAN NODE FROM SELECTOR SSN DIGITS HEX | send-on PLAN NODE ORIGIN SIZE HEX | import PLAN FILE | covers PLAN | unused PLAN | margin PLAN LOSSES\n";
 
 const READ_FAULT: &[u8] = b"read fault\n";
 
@@ -119,6 +121,8 @@ fn obey<R: Threads + Wait + Sync, G: Gate + Sync, F: Files, K: Sink>(
         Command::Connect(name, calling) => connect(alloc, name, calling, files, out),
         Command::SendOn(name, incoming) => send_on(alloc, name, incoming, files, out),
         Command::Covers(name) => covers(alloc, name, files, out),
+        Command::Unused(name) => unused(alloc, name, files, out),
+        Command::Margin(name, losses) => margin(alloc, name, losses, files, out),
     }
 }
 

@@ -1,4 +1,5 @@
 -- The lemmas of this crate, one file a subject.
+pub mod AcceptedPlanLemmas
 pub mod AcceptingLemmas
 pub mod Finishing
 pub mod LimitLemmas

@@ -1,4 +1,5 @@
 -- The definitions of this crate, one file a subject.
+pub mod AcceptedPlan
 pub mod Accepting
 pub mod Ending
 pub mod Limit

@@ -2,8 +2,12 @@
 use Rattle.std.specs.Prelude.{ℕ}
 use Rattle.plan_change.specs.Changes.{IsLawfulChange}
 use Rattle.plan_change.specs.declared.answer.Change.{Change}
+use Rattle.plan_margin.specs.Margins.{IsMargin}
+use Rattle.plan_margin.specs.declared.margin.Margin.{Margin}
 use Rattle.plan_model.specs.Network.{Network, IsPlan}
 use Rattle.plan_model.specs.SameNodes.{SameNodes}
+use Rattle.plan_unused.specs.Surveys.{IsLawfulSurvey}
+use Rattle.plan_unused.specs.declared.survey.Survey.{Survey}
 use Rattle.plan_verify.specs.Lawful.{IsLawful}
 use Rattle.plan_verify.specs.declared.verdict.Verdict.{Verdict}
 
@@ -12,10 +16,16 @@ pub data Question : Type 0 where
   verdict_on : Network → Question
   -- may relays hold either of two plans?
   mixture_of : Network → Network → Question
+  -- what can no covered title use?
+  survey_of : Network → Question
+  -- how many points can be lost before a title of the cover of this number is stopped, if up to so many are asked for?
+  margin_of : Network → ℕ → ℕ → Question
 
 abbrev pub Reply : Question → Type 0
 Reply (verdict_on plan) = Verdict
 Reply (mixture_of old new) = Change
+Reply (survey_of plan) = Survey
+Reply (margin_of plan number losses) = Margin
 
 -- a plan, and a verdict that is true of it
 abbrev pub IsJudged : Network → Verdict → Type 0
@@ -25,7 +35,17 @@ IsJudged plan verdict = IsPlan plan × IsLawful plan verdict
 abbrev pub IsCompared : Network → Network → Change → Type 0
 IsCompared old new change = IsPlan old × IsPlan new × SameNodes old new × IsLawfulChange old new change
 
+-- a plan, and a survey that lists exactly what is unused
+abbrev pub IsSurveyed : Network → Survey → Type 0
+IsSurveyed plan survey = IsPlan plan × IsLawfulSurvey plan survey
+
+-- a plan, and a margin of one of its covers
+abbrev pub IsMeasured : Network → ℕ → ℕ → Margin → Type 0
+IsMeasured plan number losses margin = IsPlan plan × IsMargin plan number losses margin
+
 -- the reply is true
 abbrev pub IsTrueOf : (question : Question) → Reply question → Type 0
 IsTrueOf (verdict_on plan) verdict = IsJudged plan verdict
 IsTrueOf (mixture_of old new) change = IsCompared old new change
+IsTrueOf (survey_of plan) survey = IsSurveyed plan survey
+IsTrueOf (margin_of plan number losses) margin = IsMeasured plan number losses margin

@@ -1,10 +1,10 @@
 //! A plan that has to be accepted before a command goes on.
-ghost use Rattle.std.specs.Prelude.{◌≡◌, ◌++◌, ℕ, Bool, Option, IfOk};
+ghost use Rattle.std.specs.Prelude.{◌≡◌, ◌++◌, IfOk};
 ghost use Rattle.plan_model.specs.Network.{IsPlan};
 ghost use Rattle.plan_verify.specs.Lawful.{IsLawful, plan_of};
-ghost use Rattle.sccp_io.specs.Files.{Contents};
 ghost use Rattle.sccp_report.specs.Verdicts.{verdict_text};
 ghost use Rattle.sccp_work.specs.Accepting.{GivesAccepted};
+ghost use Rattle.sccp_work.specs.Moment.{Moment, with_sink};
 ghost use Rattle.sccp_work.specs.Verdict.{status_of};
 ghost use Rattle.sccp_work.specs.Writing.{Writes};
 
@@ -19,7 +19,7 @@ use sccp_io::Sink;
 use std::alloc::Global;
 
 /// The plan with its verdict, if it is accepted. Any other verdict is printed after the word, and is the answer of the
-/// command. No file is read, so the clause speaks of any files.
+/// command. No file is read, so the clause holds whatever the files show.
 pub fn if_accepted<K: Sink>(
     alloc: Global,
     word: &[u8],
@@ -27,9 +27,8 @@ pub fn if_accepted<K: Sink>(
     out: &mut K,
 ) -> Result<Accepted, Stop>
     requires { IsPlan plan }
-    ensures goes_on { (contents : Option Contents) (sound : Bool) (faults : ℕ) → GivesAccepted word.now plan result
-        (record { contents = contents; sound = sound; read_faults = faults; taken = K.taken out.old; write_faults = K.faults out.old })
-        (record { contents = contents; sound = sound; read_faults = faults; taken = K.taken out.new; write_faults = K.faults out.new }) }
+    ensures goes_on { (any : Moment) → GivesAccepted word.now plan result
+        (with_sink any K.taken K.faults out.old) (with_sink any K.taken K.faults out.new) }
     ensures same { IfOk result (λ accepted. accepted.plan ≡ plan) }
 {
     let verdict = plan_verify::verify(alloc, plan)?;

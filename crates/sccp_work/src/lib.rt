@@ -5,6 +5,7 @@
 //! goes on from what the call gave, or how it has ended. A file that a command needs whole has at most 1,048,576 octets.
 #![tactic(auto)]
 
+mod accepted_plan;
 mod accepting;
 mod limit;
 mod line_fault;
@@ -16,6 +17,7 @@ mod stop;
 mod verdict;
 mod writing;
 
+pub use accepted_plan::with_accepted;
 pub use accepting::if_accepted;
 pub use limit::within_limit;
 pub use line_fault::bad_line;

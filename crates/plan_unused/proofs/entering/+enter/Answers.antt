@@ -1,11 +1,11 @@
-use Rattle.std.proofs.Common.{◌≡◌, ◌∙◌, List, subst, sym, arith, rules, take_all, ℕ}
+use Rattle.std.proofs.Common.{◌∙◌, List, subst, sym, arith, rules, take_all}
 use Rattle.std.specs.List.{All}
-use Rattle.plan_classes.specs.Titles.{Titles, IsPart, parts_of}
+use Rattle.plan_classes.specs.Titles.{Titles, IsPart}
 use Rattle.plan_classes.proofs.Parting.{part_of}
 use Rattle.plan_unused.specs.Walks.{IsRankedBy, Grows}
 use Rattle.plan_unused.specs.Meets.Meets.{Part}
 use Rattle.plan_unused.proofs.Growing.{Puts, grows_none, grows_on, ranks_grown, was_ranked, parts_grow, put_ranked, parts_ranked}
-use Rattle.plan_unused.proofs.Meeting.{open_digits, part_at}
+use Rattle.plan_unused.proofs.Meeting.{part_at}
 use Rattle.plan_unused.proofs.Noting.{on_ok}
 use Rattle.plan_unused.proofs.entering.+enter.Goals as goal
 

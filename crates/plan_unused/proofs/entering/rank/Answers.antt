@@ -1,4 +1,4 @@
-use Rattle.std.proofs.Common.{◌≡◌, ◌≤◌, ◌∙◌, Err, ℕ, length, ap, arith}
+use Rattle.std.proofs.Common.{◌≤◌, ◌∙◌, Err, ℕ, length, ap, arith}
 use Rattle.plan_model.specs.Limits.{most_classes}
 use Rattle.plan_check.proofs.Listed.{listed}
 use Rattle.plan_unused.specs.Meets.{Meets}

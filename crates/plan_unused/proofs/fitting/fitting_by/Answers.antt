@@ -1,5 +1,4 @@
-use Rattle.std.proofs.Common.{ℕ, ◌≡◌, ◌∙◌, sym, ap, slice_get, Some, arith}
-use Rattle.plan_rules.specs.declared.target.Target.{Target}
+use Rattle.std.proofs.Common.{ℕ, ◌∙◌, sym, ap, slice_get}
 use Rattle.plan_classes.proofs.Taking.{row_target, target_leads}
 use Rattle.plan_unused.proofs.Fits.{fitting_node, not_past}
 use Rattle.plan_unused.proofs.fitting.fitting_by.Goals as goal

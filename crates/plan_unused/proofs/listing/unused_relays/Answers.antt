@@ -1,4 +1,4 @@
-use Rattle.std.proofs.Common.{ℕ, ◌≤◌, ◌+◌, List, sym, subst, arith}
+use Rattle.std.proofs.Common.{ℕ, List, sym, subst, arith}
 use Rattle.plan_unused.specs.Listed.{RelaysSoFar}
 use Rattle.plan_unused.proofs.InOrder.{relays_none, relays_all}
 use Rattle.plan_unused.proofs.listing.unused_relays.Goals as goal

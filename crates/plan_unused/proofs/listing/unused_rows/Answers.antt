@@ -1,4 +1,4 @@
-use Rattle.std.proofs.Common.{ℕ, ◌≤◌, List, sym, subst, arith}
+use Rattle.std.proofs.Common.{List, sym, subst, arith}
 use Rattle.plan_unused.specs.declared.survey.RowPlace.{RowPlace}
 use Rattle.plan_unused.specs.Listed.{RowsSoFar}
 use Rattle.plan_unused.proofs.InOrder.{rows_none, rows_all}

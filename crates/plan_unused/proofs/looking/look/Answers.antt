@@ -2,8 +2,8 @@ use Rattle.std.proofs.Common.{arith}
 use Rattle.plan_unused.proofs.Settling.{short_table}
 use Rattle.plan_unused.proofs.looking.look.Goals as goal
 
-pub overflow_cast-row : goal.overflow_cast-row
-overflow_cast-row c = record {
+pub overflow_cast-stop : goal.overflow_cast-stop
+overflow_cast-stop c = record {
   fits = omega (
     arith,
     short_table c.args.plan.now c.args.class.now.node c.class_node-node.result.now c.class_node-node.ensures.sound

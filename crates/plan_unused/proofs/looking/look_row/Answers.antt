@@ -1,19 +1,19 @@
 use Rattle.std.proofs.Common.{ℕ, sym, subst}
 use Rattle.plan_unused.specs.Uses.{UsesRelay, UsesRow}
-use Rattle.plan_unused.specs.Walks.{IsMore, IsFollowed, IsSettled, has_relay, has_row}
+use Rattle.plan_unused.specs.Walks.{IsMore, IsFollowed, IsSettled}
 use Rattle.plan_unused.proofs.Noting.{uses_relay, uses_row, on_ok, ok_both}
 use Rattle.plan_unused.proofs.Settling.{more_on, settled_row}
 use Rattle.plan_unused.proofs.looking.look_row.Goals as goal
 
 pub note_relay-requires-clause-uses : goal.note_relay-requires-clause-uses
 note_relay-requires-clause-uses c =
-    subst (λ (n : ℕ). UsesRelay c.args.plan.now n) (sym c.requires.node)
-    (uses_relay c.args.plan.now c.args.depth c.args.class.now c.requires.may)
+    subst (λ (n : ℕ). UsesRelay c.args.plan.now n) (sym c.requires.stop.node)
+    (uses_relay c.args.plan.now c.args.stop.now.depth c.args.stop.now.class.now c.requires.stop.may)
 
 pub note_row-requires-clause-uses : goal.note_row-requires-clause-uses
 note_row-requires-clause-uses c =
-    subst (λ (n : ℕ). UsesRow c.args.plan.now n c.args.place.row) (sym c.requires.node)
-    (uses_row c.args.plan.now c.args.depth c.args.class.now c.args.place.row c.args.row.now c.requires.may c.requires.row c.requires.at)
+    subst (λ (n : ℕ). UsesRow c.args.plan.now n c.args.stop.now.place.row) (sym c.requires.stop.node)
+    (uses_row c.args.plan.now c.args.stop.now.depth c.args.stop.now.class.now c.args.stop.now.place.row c.args.stop.now.row.now c.requires.stop.may c.requires.stop.row c.requires.stop.at)
 
 pub returns-clause-more : goal.returns-clause-more
 returns-clause-more c =
@@ -25,11 +25,11 @@ returns-clause-more c =
 pub returns-clause-settled : goal.returns-clause-settled
 returns-clause-settled c =
     ok_both c.look_targets.result (IsMore c.note_row.new.self c.look_targets.new.seen)
-    ((t : ℕ) → IsFollowed c.args.plan.now c.look_targets.new.seen c.look_targets.new.hop.met c.args.class.now c.args.depth c.args.place.row
+    ((t : ℕ) → IsFollowed c.args.plan.now c.look_targets.new.seen c.look_targets.new.hop.met c.args.stop.now.class.now c.args.stop.now.depth c.args.stop.now.place.row
     t)
-    (IsSettled c.args.plan.now c.look_targets.new.seen c.look_targets.new.hop.met c.args.class.now c.args.depth)
-    (λ more followed. settled_row c.args.plan.now c.look_targets.new.seen c.look_targets.new.hop.met c.args.class.now c.args.depth
-    c.args.place c.args.row.now c.requires.may.sound c.requires.node c.requires.row c.requires.at
-    (more.relays c.args.place.node (c.in_ok-note_row.ensures.more.relays c.args.place.node c.in_ok-note_relay.ensures.noted))
-    (more.rows c.args.place c.in_ok-note_row.ensures.noted) followed)
+    (IsSettled c.args.plan.now c.look_targets.new.seen c.look_targets.new.hop.met c.args.stop.now.class.now c.args.stop.now.depth)
+    (λ more followed. settled_row c.args.plan.now c.look_targets.new.seen c.look_targets.new.hop.met c.args.stop.now.class.now c.args.stop.now.depth
+    c.args.stop.now.place c.args.stop.now.row.now c.requires.stop.may.sound c.requires.stop.node c.requires.stop.row c.requires.stop.at
+    (more.relays c.args.stop.now.place.node (c.in_ok-note_row.ensures.more.relays c.args.stop.now.place.node c.in_ok-note_relay.ensures.noted))
+    (more.rows c.args.stop.now.place c.in_ok-note_row.ensures.noted) followed)
     c.look_targets.ensures.more c.look_targets.ensures.followed

@@ -1,9 +1,9 @@
-use Rattle.std.proofs.Common.{◌+◌, ◌≡◌, [], List, sym, subst, arith, take_all}
+use Rattle.std.proofs.Common.{◌+◌, [], List, sym, subst, take_all}
 use Rattle.std.specs.List.{All}
 use Rattle.plan_classes.specs.Titles.{Titles}
 use Rattle.plan_unused.specs.Walks.{IsSettled, IsWalk}
-use Rattle.plan_unused.proofs.Growing.{grows_none, grows_on, ranks_grown}
-use Rattle.plan_unused.proofs.Settling.{more_none, more_on, deeper_ranks, may_look, settled_next, walk_next}
+use Rattle.plan_unused.proofs.Growing.{grows_on, ranks_grown}
+use Rattle.plan_unused.proofs.Settling.{more_on, deeper_ranks, may_look, settled_next, walk_next}
 use Rattle.plan_unused.proofs.walking.next_hop.Goals as goal
 
 pub look-requires-clause-may : goal.look-requires-clause-may

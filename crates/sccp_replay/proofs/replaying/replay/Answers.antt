@@ -17,7 +17,7 @@ returns-in_err-accepted g c =
     c.if_accepted.new.out in
     let next : Network → Verified → Work = replayed_under c.args.plan.now c.args.trace.now c.args.workers.now.count in
     rw (p.1, p.2) (c.in_ok-first.ensures.plan (λ plan. if_accepted [] plan (next plan)) (Err c.in_err-accepted.field-0.0) m
-    (c.in_err-accepted.ensures.goes_on m.contents m.sound m.read_faults (next c.in_ok-first.first)))
+    (c.in_err-accepted.ensures.goes_on m (next c.in_ok-first.first)))
 
 pub returns : goal.returns
 unfolding replay_work
@@ -29,5 +29,5 @@ returns g c =
     let next : Network → Verified → Work = replayed_under c.args.plan.now c.args.trace.now c.args.workers.now.count in
     let accepted = c.in_ok-accepted.accepted in
     c.in_ok-first.ensures.plan (λ plan. if_accepted [] plan (next plan)) c.replay_accepted.result a
-    (c.in_ok-accepted.ensures.goes_on m.contents m.sound m.read_faults (next c.in_ok-first.first) c.replay_accepted.result a
+    (c.in_ok-accepted.ensures.goes_on m (next c.in_ok-first.first) c.replay_accepted.result a
     (subst (λ q. Works (next q accepted) c.replay_accepted.result m a) c.in_ok-accepted.ensures.same c.replay_accepted.ensures))

@@ -16,7 +16,7 @@ returns-in_err-accepted g c =
     c.if_accepted.new.out in
     let next : Network → Verified → Work = λ plan accepted. answered (Done, connect_text plan c.args.calling.now) in
     rw (p.1, p.2) (c.in_ok-plan.ensures.plan (connect_judged c.args.calling.now) (Err c.in_err-accepted.field-0.0) m
-    (c.in_err-accepted.ensures.goes_on m.contents m.sound m.read_faults (next c.in_ok-plan.plan)))
+    (c.in_err-accepted.ensures.goes_on m (next c.in_ok-plan.plan)))
 
 pub returns : goal.returns
 returns g c =
@@ -27,6 +27,6 @@ returns g c =
     let next : Network → Verified → Work = λ plan accepted. answered (Done, connect_text plan c.args.calling.now) in
     let told = c.connect_accepted.ensures in
     c.in_ok-plan.ensures.plan (connect_judged c.args.calling.now) c.connect_accepted.result a
-    (c.in_ok-accepted.ensures.goes_on m.contents m.sound m.read_faults (next c.in_ok-plan.plan) c.connect_accepted.result a
+    (c.in_ok-accepted.ensures.goes_on m (next c.in_ok-plan.plan) c.connect_accepted.result a
     (Works-connected c.in_ok-plan.plan c.into_plan.result c.args.calling.now c.connect_accepted.result m a
     (c.into_plan.ensures ∙ c.in_ok-accepted.ensures.same) told.text told.answer refl refl refl))

@@ -16,8 +16,7 @@ returns-in_err-line g c =
     c.judge_covers.new.out in
     let tally = c.in_ok-tally.tally in
     rw (p.1, p.2) (c.in_ok-plan.ensures.plan each_cover (Err Memory) m
-    (c.in_ok-tally.ensures.gives (g.F.Files.contents c.with_plan.new.files) (g.F.Files.sound c.with_plan.new.files)
-    (g.F.Files.faults c.with_plan.new.files) (Err Memory) m (Works-memory (answered (tally_status tally, tally_line tally)) m)))
+    (c.in_ok-tally.ensures.gives m (Err Memory) m (Works-memory (answered (tally_status tally, tally_line tally)) m)))
 
 pub returns : goal.returns
 returns g c =
@@ -27,7 +26,6 @@ returns g c =
     c.print_last.new.out in
     let tally = c.in_ok-tally.tally in
     c.in_ok-plan.ensures.plan each_cover c.print_last.result a
-    (c.in_ok-tally.ensures.gives (g.F.Files.contents c.with_plan.new.files) (g.F.Files.sound c.with_plan.new.files)
-    (g.F.Files.faults c.with_plan.new.files) c.print_last.result a
+    (c.in_ok-tally.ensures.gives m c.print_last.result a
     (Works-tally tally c.status.result c.as_slice.result.now c.print_last.result m a c.status.ensures
     (c.as_slice.ensures ∙ c.in_ok-line.ensures) c.print_last.ensures.text c.print_last.ensures.answer refl refl refl))

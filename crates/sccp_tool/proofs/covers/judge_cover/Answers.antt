@@ -5,7 +5,7 @@ use Rattle.plan_verify.specs.Lawful.{IsLawful, plan_of}
 use Rattle.sccp_report.specs.Covers.{cover_text}
 use Rattle.sccp_tool.specs.Covers.{covers_on}
 use Rattle.sccp_work.specs.Ending.{Works}
-use Rattle.sccp_work.specs.Moment.{Moment}
+use Rattle.sccp_work.specs.Moment.{Moment, with_sink}
 use Rattle.sccp_work.proofs.WorkLemmas.{Works-memory}
 use Rattle.sccp_tool.proofs.CoversLemmas.{AfterVerdict, verdict_told}
 use Rattle.sccp_tool.proofs.covers.judge_cover.Goals as goal
@@ -13,15 +13,9 @@ use Rattle.sccp_tool.proofs.covers.judge_cover.Goals as goal
 pub returns-in_err-verdict-clause-gives : goal.returns-in_err-verdict-clause-gives
 returns-in_err-verdict-clause-gives g c =
     let p = err_from_is_err_and c.from_residual-in_err-verdict.result c.from_residual-in_err-verdict.ensures.1 in
-    rw (p.1, p.2) (λ contents sound faults covers.
+    rw (p.1, p.2) (λ any covers.
     Works-memory (covers_on c.args.judging.nodes c.args.number (c.args.cover ∷ covers) c.args.judging.tally)
-    (record {
-      contents = contents;
-      sound = sound;
-      read_faults = faults;
-      taken = g.K.Sink.taken c.args.out.now;
-      write_faults = g.K.Sink.faults c.args.out.now;
-    }))
+    (with_sink any g.K.Sink.taken g.K.Sink.faults c.args.out.now))
 
 pub returns-in-Ok-clause-gives : goal.returns-in-Ok-clause-gives
 returns-in-Ok-clause-gives g c =
@@ -29,23 +23,9 @@ returns-in-Ok-clause-gives g c =
     let v = c.in_ok-verdict.verdict in
     let e = c.in_ok-verdict.ensures in
     let same : plan_of v ≡ one = e.same ∙ c.in_ok-plan.ensures in
-    λ contents sound faults.
-    let b : Moment =
-    record {
-      contents = contents;
-      sound = sound;
-      read_faults = faults;
-      taken = g.K.Sink.taken c.args.out.now;
-      write_faults = g.K.Sink.faults c.args.out.now;
-    } in
-    let m : Moment =
-    record {
-      contents = contents;
-      sound = sound;
-      read_faults = faults;
-      taken = g.K.Sink.taken c.print_verdict.new.out;
-      write_faults = g.K.Sink.faults c.print_verdict.new.out;
-    } in
+    λ any.
+    let b : Moment = with_sink any g.K.Sink.taken g.K.Sink.faults c.args.out.now in
+    let m : Moment = with_sink any g.K.Sink.taken g.K.Sink.faults c.print_verdict.new.out in
     λ covers result after w.
     subst (λ put. AfterVerdict c.args.judging.nodes c.args.number c.args.cover covers c.args.judging.tally v put b m) c.in-Ok.is
     (verdict_told c.args.judging.nodes c.args.number c.args.cover covers c.args.judging.tally v (cover_text c.args.number (plan_of v) v)

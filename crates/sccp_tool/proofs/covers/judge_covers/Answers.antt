@@ -9,7 +9,7 @@ use Rattle.plan_model.proofs.Alone.{alone_sound}
 use Rattle.plan_model.specs.Network.{IsPlan, network}
 use Rattle.plan_model.specs.declared.cover.Cover.{Cover}
 use Rattle.sccp_tool.specs.Covers.{GivesNext}
-use Rattle.sccp_work.specs.Moment.{Moment}
+use Rattle.sccp_work.specs.Moment.{Moment, with_sink}
 use Rattle.sccp_tool.proofs.CoversLemmas.{CoversLeft, next_left, stopped_left}
 use Rattle.sccp_tool.proofs.covers.judge_covers.Goals as goal
 
@@ -38,36 +38,15 @@ returns-in_err-judging-clause-gives g c =
     let rest : List Cover = drop (length c.loop-cover.yielded + 1) c.args.plan.covers in
     let more : drop (length c.loop-cover.yielded) c.args.plan.covers ≡ c.in-Some.cover ∷ rest =
     drop_more c.args.plan.covers (length c.loop-cover.yielded) c.in-Some.cover t.0 ∙ ap (λ cover. cover ∷ rest) (sym t.1) in
-    rw (p.1, p.2) (λ contents sound faults.
-    let first : Moment =
-    record {
-      contents = contents;
-      sound = sound;
-      read_faults = faults;
-      taken = g.K.Sink.taken c.args.out.now;
-      write_faults = g.K.Sink.faults c.args.out.now;
-    } in
-    let now : Moment =
-    record {
-      contents = contents;
-      sound = sound;
-      read_faults = faults;
-      taken = g.K.Sink.taken c.loop-cover.out;
-      write_faults = g.K.Sink.faults c.loop-cover.out;
-    } in
-    let after : Moment =
-    record {
-      contents = contents;
-      sound = sound;
-      read_faults = faults;
-      taken = g.K.Sink.taken c.judge_cover.new.out;
-      write_faults = g.K.Sink.faults c.judge_cover.new.out;
-    } in
+    rw (p.1, p.2) (λ any.
+    let first : Moment = with_sink any g.K.Sink.taken g.K.Sink.faults c.args.out.now in
+    let now : Moment = with_sink any g.K.Sink.taken g.K.Sink.faults c.loop-cover.out in
+    let after : Moment = with_sink any g.K.Sink.taken g.K.Sink.faults c.judge_cover.new.out in
     stopped_left c.args.plan c.loop-cover.number c.in-Some.cover rest c.loop-cover.judging.tally c.in_err-judging.field-0.0 first now after
     (subst (λ covers. CoversLeft c.args.plan c.loop-cover.number covers c.loop-cover.judging.tally first now) more
-    (c.loop-cover.invariant.left contents sound faults))
+    (c.loop-cover.invariant.left any))
     (subst (λ nodes. GivesNext nodes c.loop-cover.number c.in-Some.cover c.loop-cover.judging.tally
-    (Err c.in_err-judging.field-0.0) now after) c.loop-cover.invariant.nodes (c.in_err-judging.ensures.gives contents sound faults)))
+    (Err c.in_err-judging.field-0.0) now after) c.loop-cover.invariant.nodes (c.in_err-judging.ensures.gives any)))
 
 pub loop-cover-preserved : goal.loop-cover-preserved
 loop-cover-preserved g c =
@@ -85,36 +64,15 @@ loop-cover-preserved g c =
     let kept = c.loop-cover.invariant in
     let e = c.in_ok-judging.ensures in
     record {
-      left = rw count (λ contents sound faults.
-          let first : Moment =
-          record {
-            contents = contents;
-            sound = sound;
-            read_faults = faults;
-            taken = g.K.Sink.taken c.args.out.now;
-            write_faults = g.K.Sink.faults c.args.out.now;
-          } in
-          let now : Moment =
-          record {
-            contents = contents;
-            sound = sound;
-            read_faults = faults;
-            taken = g.K.Sink.taken c.loop-cover.out;
-            write_faults = g.K.Sink.faults c.loop-cover.out;
-          } in
-          let after : Moment =
-          record {
-            contents = contents;
-            sound = sound;
-            read_faults = faults;
-            taken = g.K.Sink.taken c.judge_cover.new.out;
-            write_faults = g.K.Sink.faults c.judge_cover.new.out;
-          } in
+      left = rw count (λ any.
+          let first : Moment = with_sink any g.K.Sink.taken g.K.Sink.faults c.args.out.now in
+          let now : Moment = with_sink any g.K.Sink.taken g.K.Sink.faults c.loop-cover.out in
+          let after : Moment = with_sink any g.K.Sink.taken g.K.Sink.faults c.judge_cover.new.out in
           next_left c.args.plan c.loop-cover.number c.in-Some.cover rest c.loop-cover.judging.tally c.in_ok-judging.judging first now after
           (subst (λ covers. CoversLeft c.args.plan c.loop-cover.number covers c.loop-cover.judging.tally first now) more
-          (kept.left contents sound faults))
+          (kept.left any))
           (subst (λ nodes. GivesNext nodes c.loop-cover.number c.in-Some.cover c.loop-cover.judging.tally (Ok c.in_ok-judging.judging) now
-          after) kept.nodes (e.gives contents sound faults)));
+          after) kept.nodes (e.gives any)));
       nodes = e.nodes ∙ kept.nodes;
       place = omega (arith, count, kept.place);
       count = omega (arith, count, kept.count, e.one_more);

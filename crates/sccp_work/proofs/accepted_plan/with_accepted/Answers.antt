@@ -2,13 +2,13 @@ use Rattle.std.proofs.Common.{sym, ◌∙◌, ap, subst, refl, Ok, Err}
 use Rattle.std.proofs.lemmas.Result.{err_from_is_err_and}
 use Rattle.plan_model.specs.Network.{Network}
 use Rattle.plan_text.specs.PlanText.{plan_of}
-use Rattle.sccp_tool.specs.Change.{read_on_plan}
+use Rattle.sccp_work.specs.AcceptedPlan.{read_on_plan}
 use Rattle.sccp_work.specs.Ending.{Works}
 use Rattle.sccp_work.specs.Moment.{Moment, moment}
 use Rattle.sccp_work.specs.declared.stop.Stop.TheVariants.{Memory}
-use Rattle.sccp_tool.proofs.ChangeLemmas.{Works-accepted, Works-unaccepted}
+use Rattle.sccp_work.proofs.AcceptedPlanLemmas.{Works-accepted, Works-unaccepted}
 use Rattle.sccp_work.proofs.WorkLemmas.{Works-memory}
-use Rattle.sccp_tool.proofs.change.with_accepted.Goals as goal
+use Rattle.sccp_work.proofs.accepted_plan.with_accepted.Goals as goal
 
 pub returns-in_err-accepted-in-Ok : goal.returns-in_err-accepted-in-Ok
 returns-in_err-accepted-in-Ok g c =
@@ -21,7 +21,7 @@ returns-in_err-accepted-in-Ok g c =
     rw (p.1, p.2) (λ next. c.in_ok-text.ensures.whole (λ octets. read_on_plan c.args.word.now next (plan_of octets))
     (Err c.in_err-accepted-in-Ok.field-0.0) n
     (Works-unaccepted c.args.word.now next c.in_ok-text.text.items c.in-Ok.plan c.in_err-accepted-in-Ok.field-0.0 m n is
-    (c.in_err-accepted-in-Ok.ensures.goes_on m.contents m.sound m.read_faults)))
+    (c.in_err-accepted-in-Ok.ensures.goes_on m)))
 
 pub returns-in-Ok-put_accepted : goal.returns-in-Ok-put_accepted
 returns-in-Ok-put_accepted g c =
@@ -36,7 +36,7 @@ returns-in-Ok-put_accepted g c =
     λ next result after w.
     c.in_ok-text.ensures.whole (λ octets. read_on_plan c.args.word.now next (plan_of octets)) result after
     (Works-accepted c.args.word.now next c.in_ok-text.text.items c.in-Ok.plan accepted.accepted (Ok c.in-Ok-put_accepted.field-0) m n o is
-    (accepted.ensures.goes_on m.contents m.sound m.read_faults) c.in-Ok-put_accepted.ensures
+    (accepted.ensures.goes_on m) c.in-Ok-put_accepted.ensures
     (record { contents = refl; sound = refl; read_faults = refl }) result after
     (subst (λ (p : Network). Works (next p) result o after) accepted.ensures.same w))
 
@@ -52,7 +52,7 @@ returns-in-Ok g c =
     let accepted = c.in_ok-accepted-in-Ok in
     λ next. c.in_ok-text.ensures.whole (λ octets. read_on_plan c.args.word.now next (plan_of octets)) (Err c.in-Err-put_accepted.stop) o
     (Works-accepted c.args.word.now next c.in_ok-text.text.items c.in-Ok.plan accepted.accepted (Err c.in-Err-put_accepted.stop) m n o is
-    (accepted.ensures.goes_on m.contents m.sound m.read_faults) c.in-Err-put_accepted.ensures
+    (accepted.ensures.goes_on m) c.in-Err-put_accepted.ensures
     (record { contents = refl; sound = refl; read_faults = refl }))
 
 pub returns-in_err-line-in-Err : goal.returns-in_err-line-in-Err

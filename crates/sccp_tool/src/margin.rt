@@ -1,0 +1,138 @@
+//! The command that says how many points can be lost before a title of a cover is stopped.
+ghost use Rattle.std.specs.Prelude.{◌≡◌, ◌+◌, ◌<◌, ◌≤◌, length, IfOk};
+ghost use Rattle.plan_margin.specs.Margins.{IsMargin};
+ghost use Rattle.plan_model.specs.Network.{IsPlan};
+ghost use Rattle.sccp_report.specs.Margins.{margin_text};
+ghost use Rattle.sccp_tool.specs.Commands.{texts};
+ghost use Rattle.sccp_tool.specs.Margin.{margin_with, margin_words, margin_work, GivesNext, GivesTally};
+ghost use Rattle.sccp_tool.specs.MarginTallies.{total};
+ghost use Rattle.sccp_tool.specs.Parsed.{task_in};
+ghost use Rattle.sccp_work.specs.Ending.{Works};
+ghost use Rattle.sccp_work.specs.Moment.{Moment, moment, with_sink};
+ghost use Rattle.sccp_work.specs.Writing.{Writes};
+
+use crate::command::Command;
+use crate::losses::Losses;
+use crate::margin_tally::MarginTally;
+use plan_margin::{Margin, find_margin};
+use plan_model::Plan;
+use sccp_io::{Files, Sink};
+use sccp_report::margin_text;
+use sccp_work::{Status, Stop, print_last, put_all, with_accepted};
+use std::alloc::Global;
+use trace_text::is_file_name;
+
+/// The command of the words `PLAN LOSSES`, or none if they have another shape.
+#[tactic(auto, unfolding(crate::specs::Margin::margin_words))]
+pub fn margin_words(words: &[String]) -> Option<Command<'_>>
+    ensures { task_in result ≡ margin_words (texts words.now) }
+{
+    match words {
+        [name, losses] => margin_with(name.as_str(), losses.as_str()),
+        _ => None,
+    }
+}
+
+/// The command of these two words.
+#[tactic(auto, unfolding(crate::specs::Margin::margin_with))]
+fn margin_with<'a>(name: &'a str, losses: &str) -> Option<Command<'a>>
+    ensures { task_in result ≡ margin_with name.now losses.now }
+{
+    if !is_file_name(name.as_bytes()) {
+        return None;
+    }
+    match Losses::parse(losses.as_bytes()) {
+        Some(losses) => Some(Command::Margin(name, losses)),
+        None => None,
+    }
+}
+
+/// Prints for each cover of the plan of a file how many points can be lost before a title of the cover is stopped, and what these
+/// numbers come to. The plan has to be accepted.
+pub fn margin<F: Files, K: Sink>(
+    alloc: Global,
+    name: &str,
+    losses: &Losses,
+    files: &mut F,
+    out: &mut K,
+) -> Result<Status, Stop>
+    ensures { Works (margin_work name.now losses.now.count) result
+        (moment F.contents F.sound F.faults K.taken K.faults files.old out.old)
+        (moment F.contents F.sound F.faults K.taken K.faults files.new out.new) }
+{
+    let losses = losses.count();
+    let accepted = with_accepted(alloc, b"", name, files, out)?;
+    let tally = measure_covers(alloc, accepted.plan(), losses, out);
+    drop(accepted);
+    let tally = tally?;
+    let line = tally.line(alloc, losses)?;
+    print_last(out, line.as_slice(), tally.status())
+}
+
+/// Prints the margin of each cover of a plan. No file is read, so the clause holds whatever the files show.
+fn measure_covers<K: Sink>(
+    alloc: Global,
+    plan: &Plan,
+    losses: u8,
+    out: &mut K,
+) -> Result<MarginTally, Stop>
+    requires few { losses ≤ 99 }
+    ensures { (any : Moment) → GivesTally plan.now losses result
+        (with_sink any K.taken K.faults out.old) (with_sink any K.taken K.faults out.new) }
+{
+    let mut tally = MarginTally::NONE;
+    let count = plan.covers().as_slice().len() as u16;
+    for number in 0..count {
+        tally = measure_cover(alloc, plan, number, losses, tally, out)?;
+    }
+    Ok(tally)
+}
+
+/// Prints the margin of the cover of this number, and counts it.
+fn measure_cover<K: Sink>(
+    alloc: Global,
+    plan: &Plan,
+    number: u16,
+    losses: u8,
+    tally: MarginTally,
+    out: &mut K,
+) -> Result<MarginTally, Stop>
+    requires plan { IsPlan plan.now }
+    requires cover { number < length plan.now.covers }
+    requires few { losses ≤ 99 }
+    requires counted { total tally ≤ number }
+    ensures gives { (any : Moment) → GivesNext plan.now losses number tally result
+        (with_sink any K.taken K.faults out.old) (with_sink any K.taken K.faults out.new) }
+    ensures one_more { IfOk result (λ next. total next ≤ number + 1) }
+{
+    let margin = find_margin(alloc, plan, number, losses)?;
+    match print_margin(alloc, number, plan, losses, &margin, out) {
+        Ok(()) => {
+            let next = tally.counted(&margin);
+            drop(margin);
+            Ok(next)
+        }
+        Err(stop) => {
+            drop(margin);
+            Err(stop)
+        }
+    }
+}
+
+/// Prints a margin of the cover of this number.
+fn print_margin<K: Sink>(
+    alloc: Global,
+    number: u16,
+    plan: &Plan,
+    losses: u8,
+    margin: &Margin,
+    out: &mut K,
+) -> Result<(), Stop>
+    requires plan { IsPlan plan.now }
+    requires lawful { IsMargin plan.now number losses margin.now }
+    ensures { Writes (margin_text number plan.now losses margin.now) result (K.taken out.old) (K.taken out.new) (K.faults out.old)
+        (K.faults out.new) }
+{
+    let text = margin_text(alloc, number, plan, losses, margin)?;
+    put_all(out, text.as_slice())
+}

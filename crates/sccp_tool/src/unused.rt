@@ -1,0 +1,79 @@
+//! The command that lists what no covered title of a plan can use.
+ghost use Rattle.std.specs.Prelude.{◌≡◌, IfOk};
+ghost use Rattle.plan_model.specs.Network.{IsPlan};
+ghost use Rattle.sccp_tool.specs.Commands.{texts};
+ghost use Rattle.sccp_tool.specs.Parsed.{task_in};
+ghost use Rattle.sccp_tool.specs.Unused.{unused_words, unused_work, survey_status, IsListed};
+ghost use Rattle.sccp_work.specs.Ending.{Works};
+ghost use Rattle.sccp_work.specs.Moment.{moment};
+
+use crate::answer::Answer;
+use crate::command::Command;
+use plan_model::Plan;
+use plan_unused::{Survey, find_unused};
+use sccp_base::OutOfMemory;
+use sccp_io::{Files, Sink};
+use sccp_report::survey_text;
+use sccp_work::{Status, Stop, print_last, with_plan};
+use std::alloc::Global;
+use trace_text::is_file_name;
+
+/// The command of the word `PLAN`, or none if the words have another shape.
+#[tactic(auto, unfolding(crate::specs::Unused::unused_words))]
+pub fn unused_words(words: &[String]) -> Option<Command<'_>>
+    ensures { task_in result ≡ unused_words (texts words.now) }
+{
+    match words {
+        [name] => {
+            if is_file_name(name.as_bytes()) {
+                Some(Command::Unused(name.as_str()))
+            } else {
+                None
+            }
+        }
+        _ => None,
+    }
+}
+
+/// Prints what no covered title of the plan of a file can use, and titles that a relay has no row for.
+pub fn unused<F: Files, K: Sink>(
+    alloc: Global,
+    name: &str,
+    files: &mut F,
+    out: &mut K,
+) -> Result<Status, Stop>
+    ensures { Works (unused_work name.now) result
+        (moment F.contents F.sound F.faults K.taken K.faults files.old out.old)
+        (moment F.contents F.sound F.faults K.taken K.faults files.new out.new) }
+{
+    let plan = with_plan(alloc, name, files, out)?;
+    let answer = survey(alloc, &plan);
+    drop(plan);
+    let answer = answer?;
+    print_last(out, answer.text.as_slice(), answer.status)
+}
+
+/// The survey of a plan as an answer.
+fn survey(alloc: Global, plan: &Plan) -> Result<Answer, OutOfMemory>
+    requires { IsPlan plan.now }
+    ensures { IfOk result (λ answer. IsListed plan.now answer.status answer.text) }
+{
+    let survey = find_unused(alloc, plan)?;
+    let status = status_of(&survey);
+    let text = survey_text(alloc, plan, &survey);
+    drop(survey);
+    Ok(Answer {
+        status,
+        text: text?,
+    })
+}
+
+/// The status of a survey.
+fn status_of(survey: &Survey) -> Status
+    ensures { result ≡ survey_status survey.now }
+{
+    match survey {
+        Survey::Unused(_) => Status::Done,
+        Survey::TooWide => Status::TooWide,
+    }
+}
