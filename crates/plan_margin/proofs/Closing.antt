@@ -13,10 +13,10 @@ use Rattle.plan_model.specs.Steps.{closing}
 use Rattle.plan_margin.specs.Outages.{IsPointMark}
 use Rattle.plan_margin.specs.Searching.{point_of_target}
 
-all_tail : (m : Mark) (ms : List Mark) → All IsPointMark (m ∷ ms) → All IsPointMark ms
+pub all_tail : (m : Mark) (ms : List Mark) → All IsPointMark (m ∷ ms) → All IsPointMark ms
 all_tail m ms all = λ k d lt. all (suc k) d (omega arith)
 
-all_head : (m : Mark) (ms : List Mark) → All IsPointMark (m ∷ ms) → IsPointMark m
+pub all_head : (m : Mark) (ms : List Mark) → All IsPointMark (m ∷ ms) → IsPointMark m
 all_head m ms all = all 0 m (omega arith)
 
 -- marks of points hold no mark of an SCCP
@@ -37,7 +37,7 @@ no_subsystem (Subsystem p s ∷ ms) pc ssn all = absurd (all_head (Subsystem p s
 found_first : (m : Mark) (rest held : List Mark) → holds held m ≡ true → is_none (find (holds held) (m ∷ rest)) ≡ false
 found_first m rest held h = ap (λ (b : Bool). is_none (cond b (Some m) (find (holds held) rest))) h
 
-found_later : (m : Mark) (rest held : List Mark) → holds held m ≡ false → find (holds held) rest ≡ None
+pub found_later : (m : Mark) (rest held : List Mark) → holds held m ≡ false → find (holds held) rest ≡ None
     → find (holds held) (m ∷ rest) ≡ None
 found_later m rest held h e = ap (λ (b : Bool). cond b (Some m) (find (holds held) rest)) h ∙ e
 

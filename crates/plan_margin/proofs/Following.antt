@@ -22,9 +22,10 @@ use Rattle.plan_margin.specs.declared.found.Found.{Found}
 use Rattle.plan_margin.specs.declared.found.Found.TheVariants.{Stopped, Through, Wide}
 use Rattle.plan_margin.specs.Outages.{ArrivesWithin, IsEndAllowed}
 use Rattle.plan_margin.specs.Searching.{IsIn, IsOutageSet, StopsOne, AllArrive, IsFoundIf, IsFound, PassesOver, TakesIn, IsInWith, joined}
+use Rattle.plan_margin.specs.Searching.{IsWithUp, IsWithLost}
 use Rattle.plan_margin.proofs.Arriving.{no_row, all_closed, stops_here}
 use Rattle.plan_margin.proofs.Passing.{none_opens}
-use Rattle.plan_margin.proofs.Sets.{own_outage, IsWithLost, IsWithUp, lost_inner, lost_outer, up_inner, up_outer}
+use Rattle.plan_margin.proofs.Sets.{own_outage, lost_inner, lost_outer, up_inner, up_outer}
 
 -- what holds of what an Ok has, if it is known what that is
 pub ok_is : {E : Type 0} (r : Result Found E) (f : Found) (P : Found → Type 0) → IfOk r (λ x. x ≡ f) → P f → IfOk r P

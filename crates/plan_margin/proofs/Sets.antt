@@ -1,5 +1,5 @@
 -- sets of outages, and what they say of a target
-use Rattle.std.specs.Prelude.{ℕ, ◌≡◌, ◌+◌, ◌<◌, ◌≤◌, ◌||◌, true, false, List, length, Option, Some, None, IsSomeAnd, slice_get, is_none}
+use Rattle.std.specs.Prelude.{ℕ, ◌≡◌, ◌+◌, ◌<◌, ◌≤◌, true, false, List, length, Option, Some, None, IsSomeAnd, slice_get, is_none}
 use Rattle.std.specs.Prelude.{refl}
 use Rattle.std.specs.List.{All}
 use Rattle.std.proofs.Common.{suc, sym, ◌∙◌, ap, subst, ⊎_elim, arith}
@@ -20,7 +20,7 @@ use Rattle.plan_margin.specs.declared.outage_set.OutageSet.{OutageSet}
 use Rattle.plan_margin.specs.declared.turn.Turn.TheVariants.{Lost, Taken, Either}
 use Rattle.plan_margin.specs.Outages.{IsPointMark}
 use Rattle.plan_margin.specs.Searching.{IsIn, IsOutageSet, OfTarget, IsClosedAt, IsOpenAt, PassesOver, IsTurnBy, IsTurn, IsInWith}
-use Rattle.plan_margin.specs.Searching.{point_of_target}
+use Rattle.plan_margin.specs.Searching.{IsWithUp, IsWithLost, point_of_target}
 use Rattle.plan_margin.proofs.Closing.{lost_closes, up_opens, own_opens}
 use Rattle.plan_margin.proofs.Counting.{one_more_held, at_most_one_more, points_held, points_from}
 
@@ -127,19 +127,6 @@ passes_more plan c place set more passes inner shut lt = record {
       (cases_lt k place);
   within = omega (arith, lt);
 }
-
--- one more point is not lost
-pub record IsWithUp (set : OutageSet) (point : ℕ) (more : OutageSet) : Type 0 where
-  pub most : more.most ≡ set.most
-  pub lost : more.lost ≡ set.lost
-  pub up : (m : Mark) → holds more.up m ≡ (same_mark (PointCode point) m || holds set.up m)
-
--- one more point is lost
-pub record IsWithLost (set : OutageSet) (point : ℕ) (more : OutageSet) : Type 0 where
-  pub most : more.most ≡ set.most
-  pub lost : (m : Mark) → holds more.lost m ≡ (same_mark (PointCode point) m || holds set.lost m)
-  pub up : more.up ≡ set.up
-  pub ascending : IsAscending more.lost
 
 pub own_point : (p : ℕ) → same_mark (PointCode p) (PointCode p) ≡ true
 own_point p = grind (arith)

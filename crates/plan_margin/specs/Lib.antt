@@ -2,3 +2,4 @@
 pub mod Outages
 pub mod Margins
 pub mod Searching
+pub mod Ways

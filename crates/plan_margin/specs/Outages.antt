@@ -1,9 +1,9 @@
 -- Outages of signalling points, and the titles that arrive while one lasts.
-use Rattle.std.specs.Prelude.{ℕ, ◌≡◌, ◌≢◌, ◌<◌, false, List, length, replicate, IsSomeAnd, slice_get}
+use Rattle.std.specs.Prelude.{ℕ, ◌≡◌, ◌≢◌, ◌<◌, ◌++◌, false, List, length, map, replicate, IsSomeAnd, slice_get}
 use Rattle.std.specs.List.{All, AllPairs}
 use Rattle.sccp_base.specs.declared.mark.Mark.{Mark}
 use Rattle.sccp_base.specs.declared.mark.Mark.TheVariants.{PointCode, Sccp, Subsystem}
-use Rattle.sccp_base.specs.Marks.{holds}
+use Rattle.sccp_base.specs.Marks.{holds, point_of}
 use Rattle.plan_model.specs.declared.spot.Spot.{Spot}
 use Rattle.plan_model.specs.declared.hop.Hop.{Hop}
 use Rattle.plan_model.specs.declared.hop.Step.{Step}
@@ -61,3 +61,21 @@ SurvivesBelow plan number count =
 abbrev pub SurvivesAll : Network → ℕ → Type 0
 SurvivesAll plan number =
     (spot : Spot) (marks : List Mark) → HasSpot plan number spot → Outage plan number marks → Arrives plan number marks spot
+
+-- ---- for the laws of outages
+
+-- there is a relay at this place, and its point is not lost
+abbrev pub IsUp : Network → List Mark → ℕ → Type 0
+IsUp plan marks node = IsSomeAnd (slice_get plan.nodes node) (λ n. holds marks (PointCode n.pc) ≡ false)
+
+-- all targets are closed
+abbrev pub IsBlocked : Step → Type 0
+IsBlocked (Sent next target) = ⊥
+IsBlocked (Ended pc ssn target) = ⊥
+IsBlocked (Blocked cause marks) = Unit {0}
+IsBlocked (NoRow cause) = ⊥
+IsBlocked Overgrown = ⊥
+
+-- the marks, and those of the SCCP at the same points
+abbrev pub with_sccp : List Mark → List Mark
+with_sccp marks = marks ++ map (λ mark. Sccp (point_of mark)) marks

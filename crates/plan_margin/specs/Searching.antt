@@ -4,7 +4,7 @@ use Rattle.std.specs.Prelude.{◌==◌, if◌then◌else◌, ◌||◌}
 use Rattle.std.specs.List.{All}
 use Rattle.sccp_base.specs.declared.mark.Mark.{Mark}
 use Rattle.sccp_base.specs.declared.mark.Mark.TheVariants.{PointCode}
-use Rattle.sccp_base.specs.Marks.{holds}
+use Rattle.sccp_base.specs.Marks.{holds, same_mark, IsAscending}
 use Rattle.plan_rules.specs.declared.target.Target.{Target}
 use Rattle.plan_rules.specs.declared.target.Target.TheVariants.{Relay, Final}
 use Rattle.plan_model.specs.declared.node.Node.{Node}
@@ -119,6 +119,19 @@ abbrev pub joined : Bool → Found → Found
 joined cut (Stopped digits lost) = Stopped digits lost
 joined cut (Through other) = Through (cut || other)
 joined cut Wide = Wide
+
+-- `more` has the outages of the set in which this point is not lost
+pub record IsWithUp (set : OutageSet) (point : ℕ) (more : OutageSet) : Type 0 where
+  pub most : more.most ≡ set.most
+  pub lost : more.lost ≡ set.lost
+  pub up : (m : Mark) → holds more.up m ≡ (same_mark (PointCode point) m || holds set.up m)
+
+-- `more` has the outages of the set in which it is lost
+pub record IsWithLost (set : OutageSet) (point : ℕ) (more : OutageSet) : Type 0 where
+  pub most : more.most ≡ set.most
+  pub lost : (m : Mark) → holds more.lost m ≡ (same_mark (PointCode point) m || holds set.lost m)
+  pub up : more.up ≡ set.up
+  pub ascending : IsAscending more.lost
 
 -- an outage of the set in which this point is lost, or is not
 pub record IsInWith (set : OutageSet) (point : ℕ) (lost : Bool) (marks : List Mark) : Type 0 where

@@ -8,6 +8,7 @@ ghost use Rattle.plan_classes.specs.Titles.{spot_of};
 ghost use Rattle.plan_classes.specs.Classes.{start_of};
 ghost use Rattle.plan_margin.specs.Outages.{route_in};
 ghost use Rattle.plan_margin.specs.Searching.{MayExplore, IsFoundIf, Spares};
+ghost use Rattle.plan_margin.specs.Ways.{HasWays, IfWide};
 ghost use Rattle.plan_margin.specs.Margins.{IsMargin};
 
 use crate::found::Found;
@@ -64,7 +65,8 @@ fn start_in(plan: &Plan, cover: u16) -> Class
 /// The search for a stopped title of a cover, in all outages of up to this number of points that spare the relay of the cover.
 fn explore_start(alloc: Global, plan: &Plan, class: &Class, most: u8) -> Result<Found, OutOfMemory>
     requires may { MayExplore plan.now class.now }
-    ensures { IfOk result (IsFoundIf plan.now class.now 14 most (Spares plan.now class.now.node)) }
+    ensures found { IfOk result (IsFoundIf plan.now class.now 14 most (Spares plan.now class.now.node)) }
+    ensures ways { IfOk result (IfWide (HasWays plan.now most class.now)) }
 {
     let up = entry_up(alloc, plan, class)?;
     let set = OutageSet {

@@ -16,6 +16,8 @@ mod stop;
 mod turn;
 
 pub use finding::find_margin;
-pub use laws::margins_are_one;
+pub use laws::{
+    margins_are_one, no_hop_is_at_a_lost_relay, sccp_marks_add_nothing, stopped_titles_are_blocked,
+};
 pub use margin::Margin;
 pub use stop::Stop;

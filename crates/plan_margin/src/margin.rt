@@ -10,6 +10,6 @@ pub enum Margin {
     Survives,
     /// No number of points stops a title.
     SurvivesAny,
-    /// Fewer points than this stop no title. For this number the search met 1,048,576 classes, and gave up.
+    /// Fewer points than this stop no title. For this number, the ways of the cover's titles have at least 1,048,576 classes.
     TooWide(u8),
 }

@@ -1,6 +1,6 @@
 //! The search for a title that an outage stops.
-ghost use Rattle.std.specs.Prelude.{ℕ, ◌≡◌, ◌+◌, ◌-◌, ◌≤◌, ◌<◌, false, true, length, IfOk, Some};
-ghost use Rattle.plan_classes.specs.Titles.{Titles, IsClass, IsLongest};
+ghost use Rattle.std.specs.Prelude.{ℕ, ◌≡◌, ◌⊎◌, ◌+◌, ◌-◌, ◌≤◌, ◌<◌, false, true, length, IfOk, OnOk, Some};
+ghost use Rattle.plan_classes.specs.Titles.{Titles, IsClass, IsLongest, parts_of};
 ghost use Rattle.plan_classes.specs.declared.leads.Image.TheVariants.{Next, Ends};
 ghost use Rattle.plan_classes.specs.Classes.{Decided, HasImage, class_row, class_targets};
 ghost use Rattle.plan_classes.specs.Leading.{ImageIsExact};
@@ -9,6 +9,7 @@ ghost use Rattle.plan_margin.specs.Searching.{MayExplore, IsOutageSet, IsFound, 
 ghost use Rattle.plan_margin.specs.Searching.{IsTurn};
 ghost use Rattle.plan_margin.specs.Searching.{IsInWith, IsTurnBy, point_of_target};
 ghost use Rattle.plan_margin.specs.declared.turn.Turn.TheVariants.{Either};
+ghost use Rattle.plan_margin.specs.Ways.{AtClass, AtClasses, AtTargets, AtTarget, Counts, CountsUp, CountsLost};
 
 use crate::found::{Found, joined};
 use crate::outage_set::OutageSet;
@@ -40,6 +41,7 @@ pub(crate) fn explore(
     requires few { count.old < most_ways }
     ensures found { IfOk result (IsFound plan.now class.now left set.now) }
     ensures limit { IfOk result (λ found. IsWithinLimit found count.new) }
+    ensures ways { OnOk result (Counts plan.now set.now left (AtClass class.now) count.old count.new) }
 {
     if left == 0 {
         return stopped(alloc, set, sample(class));
@@ -82,6 +84,7 @@ fn explore_parts(
     requires few { count.old < most_ways }
     ensures found { IfOk result (IsFound plan.now class.now left set.now) }
     ensures limit { IfOk result (λ found. IsWithinLimit found count.new) }
+    ensures ways { OnOk result (Counts plan.now set.now left (AtClasses (parts_of class.now)) count.old count.new) }
 {
     let mut cut = false;
     let parts = parts(alloc, class)?;
@@ -113,6 +116,7 @@ fn explore_targets(
     requires few { count.old < most_ways }
     ensures found { IfOk result (IsFound plan.now class.now left set.now) }
     ensures limit { IfOk result (λ found. IsWithinLimit found count.new) }
+    ensures ways { OnOk result (Counts plan.now set.now left (AtTargets class.now 0) count.old count.new) }
 {
     match class_row(plan, class) {
         Some(row) => follow_row(alloc, plan, class, row, 0, left, set, count),
@@ -186,6 +190,7 @@ fn follow_row(
     requires few { count.old < most_ways }
     ensures found { IfOk result (IsFound plan.now class.now left set.now) }
     ensures limit { IfOk result (λ found. IsWithinLimit found count.new) }
+    ensures ways { OnOk result (Counts plan.now set.now left (AtTargets class.now place) count.old count.new) }
 {
     match turn_at(plan, class, row, place, set) {
         Turn::Past => stopped(alloc, set, sample(class)),
@@ -223,6 +228,7 @@ fn follow_either(
     requires few { count.old < most_ways }
     ensures found { IfOk result (IsFound plan.now class.now left set.now) }
     ensures limit { IfOk result (λ found. IsWithinLimit found count.new) }
+    ensures ways { OnOk result (Counts plan.now set.now left (AtTargets class.now place) count.old count.new) }
 {
     match follow_up(alloc, plan, class, row, place, left, point, set, count)? {
         Found::Through { cut } => {
@@ -258,6 +264,7 @@ fn follow_up(
     requires few { count.old < most_ways }
     ensures found { IfOk result (IsFoundIf plan.now class.now left set.now.most (IsInWith set.now point false)) }
     ensures limit { IfOk result (λ found. IsWithinLimit found count.new) }
+    ensures ways { OnOk result (CountsUp plan.now set.now left class.now place point count.old count.new) }
 {
     let with_up = set.with_up(alloc, point)?;
     let found = follow_target(alloc, plan, class, row, place, left, &with_up, count);
@@ -292,6 +299,7 @@ fn follow_lost(
     requires few { count.old < most_ways }
     ensures found { IfOk result (IsFoundIf plan.now class.now left set.now.most (IsInWith set.now point true)) }
     ensures limit { IfOk result (λ found. IsWithinLimit found count.new) }
+    ensures ways { OnOk result ((count.new ≡ count.old) ⊎ CountsLost plan.now set.now left class.now place point count.old count.new) }
 {
     if set.lost.marks().len() == usize::from(set.most) {
         return Ok(Found::Through { cut: true });
@@ -326,6 +334,7 @@ fn follow_target(
     requires few { count.old < most_ways }
     ensures found { IfOk result (IsFound plan.now class.now left set.now) }
     ensures limit { IfOk result (λ found. IsWithinLimit found count.new) }
+    ensures ways { OnOk result (Counts plan.now set.now left (AtTarget class.now place) count.old count.new) }
 {
     match image_by(plan, class, row, place) {
         Image::Next(next) => {

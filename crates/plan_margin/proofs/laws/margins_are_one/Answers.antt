@@ -1,4 +1,4 @@
-use Rattle.std.proofs.Common.{◌≡◌, ◌≤◌, ◌<◌, ◌+◌, arith}
+use Rattle.std.proofs.Common.{◌≤◌, ◌+◌, arith}
 use Rattle.plan_margin.proofs.Margins.{not_fewer, stopped_at_all}
 use Rattle.plan_margin.proofs.laws.margins_are_one.Goals as goal
 

@@ -1,8 +1,9 @@
-use Rattle.std.proofs.Common.{ℕ, ◌≡◌, ◌<◌, ◌∙◌, Bor, List, Option, length, refl, sym, ap, subst, arith, rules, true, false}
+use Rattle.std.proofs.Common.{ℕ, ◌≡◌, ◌+◌, ◌<◌, ◌∙◌, Bor, List, Option, length, refl, sym, ap, subst, inl, arith, rules, true, false}
+use Rattle.std.proofs.lemmas.Bool.{false≢true}
 use Rattle.std.specs.Option.{option_copied}
 use Rattle.plan_rules.specs.Rule.{Rule}
 use Rattle.plan_model.specs.declared.hop.Step.TheVariants.{NoRow, Overgrown}
-use Rattle.plan_classes.specs.Titles.{Splits}
+use Rattle.plan_classes.specs.Titles.{Splits, parts_of}
 use Rattle.plan_classes.specs.Classes.{class_targets}
 use Rattle.plan_classes.proofs.Taking.{row_targets}
 use Rattle.plan_margin.specs.declared.found.Found.{Found}
@@ -10,11 +11,15 @@ use Rattle.plan_margin.specs.declared.found.Found.TheVariants.{Stopped}
 use Rattle.plan_margin.specs.declared.turn.Turn.{Turn}
 use Rattle.plan_margin.specs.declared.turn.Turn.TheVariants.{Lost, Taken, Either}
 use Rattle.plan_margin.specs.Searching.{IsFound, IsFoundIf, IsIn, IsInWith, IsTurn, IsTurnBy, StopsOne, point_of_target}
+use Rattle.plan_margin.specs.Searching.{IsWithUp, IsWithLost}
+use Rattle.plan_margin.specs.Ways.{AtClass, AtTargets, AtTarget}
 use Rattle.plan_margin.proofs.Passing.{opens_here}
-use Rattle.plan_margin.proofs.Sets.{IsWithLost, IsWithUp, lost_is_closed, taken_is_open, either_is_free, either_closes, either_opens}
+use Rattle.plan_margin.proofs.Sets.{lost_is_closed, taken_is_open, either_is_free, either_closes, either_opens}
 use Rattle.plan_margin.proofs.Sets.{passes_more, of_target_within, lost_set, up_set, lost_inner, up_inner, too_many}
 use Rattle.plan_margin.proofs.Following.{ok_is, ok_map, no_row_stop, past_stop, target_stop, parts_more, parts_whole}
 use Rattle.plan_margin.proofs.Following.{lost_found, up_found}
+use Rattle.plan_margin.proofs.Counted.{counts_none, counts_one, counts_parts, counts_row, counts_before, before_first, before_next}
+use Rattle.plan_margin.proofs.Counted.{counts_closed, counts_taken, counts_if_up, counts_if_lost, counts_up, counts_both, counts_onward}
 use Rattle.plan_margin.proofs.search.+search.Goals as goal
 
 pub explore_parts-loop-part-preserved : goal.explore_parts-loop-part-preserved
@@ -23,6 +28,9 @@ explore_parts-loop-part-preserved t c =
     c.in_ok-found.ensures.found in
     record {
       few = search rules;
+      counts = before_next c.args.plan.now c.args.set.now c.args.left c.as_slice-part-items.result.now c.loop-part.part-index
+          c.args.count.now c.loop-part.count c.explore.new.count c.part-item.result c.loop-part-test.true c.part-item.is
+          c.loop-part.invariant.counts c.in_ok-found.ensures.ways;
       arrive = parts_more c.args.plan.now c.args.left c.args.set.now.most (IsIn c.args.set.now) c.as_slice-part-items.result.now
           c.loop-part.part-index c.part-item.result c.loop-part.cut c.in-Through.other c.loop-part-test.true c.part-item.is
           c.loop-part.invariant.arrive found;
@@ -297,3 +305,127 @@ follow_up-returns-clause-found t c =
     (λ f. IsFoundIf c.args.plan.now c.args.class.now c.args.left c.args.set.now.most (IsInWith c.args.set.now c.args.point false) f)
     (λ f h. up_found c.args.plan.now c.args.class.now c.args.left c.args.point c.args.set.now more f made h)
     c.follow_target-found.ensures.found
+
+-- ---- what is counted
+
+pub explore-returns-then-left-eq0-clause-ways : goal.explore-returns-then-left-eq0-clause-ways
+explore-returns-then-left-eq0-clause-ways t c =
+    counts_none c.stopped.result c.args.plan.now c.args.set.now c.args.left (AtClass c.args.class.now) c.args.count.now
+
+pub explore-returns-then-count-eq-LIMIT-clause-ways : goal.explore-returns-then-count-eq-LIMIT-clause-ways
+explore-returns-then-count-eq-LIMIT-clause-ways t c =
+    counts_one c.args.plan.now c.args.set.now c.args.left c.args.class.now c.args.count.now (omega (arith, c.if-left-eq0.false))
+
+pub explore-returns-then-decided-clause-ways : goal.explore-returns-then-decided-clause-ways
+explore-returns-then-decided-clause-ways t c =
+    counts_row c.explore_targets.result c.args.plan.now c.args.set.now c.args.left c.args.class.now c.args.count.now
+    c.explore_targets.new.count
+    (omega (arith, c.if-left-eq0.false)) (c.decided.ensures.decided.0 c.if-decided.true) c.explore_targets.ensures.ways
+
+pub explore-returns-else-decided-clause-ways : goal.explore-returns-else-decided-clause-ways
+explore-returns-else-decided-clause-ways t c =
+    counts_parts c.explore_parts.result c.args.plan.now c.args.set.now c.args.left c.args.class.now c.args.count.now
+    c.explore_parts.new.count
+    (omega (arith, c.if-left-eq0.false)) (λ h. false≢true (sym c.if-decided.false ∙ c.decided.ensures.decided.1 h))
+    c.explore_parts.ensures.ways
+
+pub explore_parts-loop-part-init : goal.explore_parts-loop-part-init
+explore_parts-loop-part-init t c =
+    record {
+      few = search rules;
+      arrive = search rules;
+      counts = before_first c.args.plan.now c.args.set.now c.args.left c.as_slice-part-items.result.now c.args.count.now;
+    }
+
+pub explore_parts-returns-in_default-clause-ways : goal.explore_parts-returns-in_default-clause-ways
+explore_parts-returns-in_default-clause-ways t c =
+    counts_before c.args.plan.now c.args.set.now c.args.left c.as_slice-part-items.result.now (parts_of c.args.class.now)
+    (c.loop-part.part-index + 1) c.args.count.now c.explore.new.count (c.as_slice-part-items.ensures ∙ c.in_ok-parts.ensures.value)
+    (before_next c.args.plan.now c.args.set.now c.args.left c.as_slice-part-items.result.now c.loop-part.part-index
+    c.args.count.now c.loop-part.count c.explore.new.count c.part-item.result c.loop-part-test.true c.part-item.is
+    c.loop-part.invariant.counts c.in_ok-found.ensures.ways)
+
+pub explore_parts-returns-clause-ways : goal.explore_parts-returns-clause-ways
+explore_parts-returns-clause-ways t c =
+    counts_before c.args.plan.now c.args.set.now c.args.left c.as_slice-part-items.result.now (parts_of c.args.class.now)
+    c.loop-part.part-index c.args.count.now c.loop-part.count (c.as_slice-part-items.ensures ∙ c.in_ok-parts.ensures.value)
+    c.loop-part.invariant.counts
+
+pub explore_targets-returns-in-None-clause-ways : goal.explore_targets-returns-in-None-clause-ways
+explore_targets-returns-in-None-clause-ways t c =
+    counts_none c.stopped.result c.args.plan.now c.args.set.now c.args.left (AtTargets c.args.class.now 0) c.args.count.now
+
+pub follow_row-returns-in-Past-clause-ways : goal.follow_row-returns-in-Past-clause-ways
+follow_row-returns-in-Past-clause-ways t c =
+    counts_none c.stopped.result c.args.plan.now c.args.set.now c.args.left (AtTargets c.args.class.now c.args.place) c.args.count.now
+
+pub follow_row-returns-in-Lost-clause-ways : goal.follow_row-returns-in-Lost-clause-ways
+follow_row-returns-in-Lost-clause-ways t c =
+    counts_closed c.follow_row.result c.args.plan.now c.args.set.now c.args.left c.args.class.now c.args.place c.args.count.now
+    c.follow_row.new.count
+    (subst (λ (x : Turn). IsTurn c.args.plan.now c.args.class.now c.args.place c.args.set.now x) c.in-Lost.is c.turn_at.ensures.turn)
+    c.follow_row.ensures.ways
+
+pub follow_row-returns-in-Taken-clause-ways : goal.follow_row-returns-in-Taken-clause-ways
+follow_row-returns-in-Taken-clause-ways t c =
+    counts_taken c.follow_target.result c.args.plan.now c.args.set.now c.args.left c.args.class.now c.args.place c.args.count.now
+    c.follow_target.new.count
+    (subst (λ (x : Turn). IsTurn c.args.plan.now c.args.class.now c.args.place c.args.set.now x) c.in-Taken.is c.turn_at.ensures.turn)
+    c.follow_target.ensures.ways
+
+pub follow_either-returns-in_ok-found-in-Through-clause-ways : goal.follow_either-returns-in_ok-found-in-Through-clause-ways
+follow_either-returns-in_ok-found-in-Through-clause-ways t c =
+    counts_both c.args.plan.now c.args.set.now c.args.left c.args.class.now c.args.place c.args.point c.args.count.now c.follow_up.new.count
+    c.follow_lost.new.count c.requires.turn c.in_ok-found.ensures.ways c.in_ok-found-in-Through.ensures.ways
+
+pub follow_either-returns-in_default-clause-ways : goal.follow_either-returns-in_default-clause-ways
+follow_either-returns-in_default-clause-ways t c =
+    counts_up c.args.plan.now c.args.set.now c.args.left c.args.class.now c.args.place c.args.point c.args.count.now c.follow_up.new.count
+    c.requires.turn c.in_ok-found.ensures.ways
+
+pub follow_up-returns-clause-ways : goal.follow_up-returns-clause-ways
+follow_up-returns-clause-ways t c =
+    let more = c.in_ok-with_up.with_up in
+    let made : IsWithUp c.args.set.now c.args.point more = record {
+      most = c.in_ok-with_up.ensures.most;
+      lost = c.in_ok-with_up.ensures.lost;
+      up = c.in_ok-with_up.ensures.up;
+    } in
+    counts_if_up c.follow_target-found.result c.args.plan.now c.args.set.now more c.args.left c.args.class.now c.args.place c.args.point
+    c.args.count.now c.follow_target-found.new.count made c.follow_target-found.ensures.ways
+
+pub follow_lost-returns-then-marks-from-clause-ways : goal.follow_lost-returns-then-marks-from-clause-ways
+follow_lost-returns-then-marks-from-clause-ways t c =
+    inl refl
+
+pub follow_lost-returns-clause-ways : goal.follow_lost-returns-clause-ways
+follow_lost-returns-clause-ways t c =
+    let more = c.in_ok-with_lost.with_lost in
+    let made : IsWithLost c.args.set.now c.args.point more = record {
+      most = c.in_ok-with_lost.ensures.most;
+      lost = c.in_ok-with_lost.ensures.lost;
+      up = c.in_ok-with_lost.ensures.up;
+      ascending = c.in_ok-with_lost.ensures.ascending;
+    } in
+    counts_if_lost c.follow_row-found.result c.args.plan.now c.args.set.now more c.args.left c.args.class.now c.args.place c.args.point
+    c.args.count.now c.follow_row-found.new.count c.requires.set
+    (λ e. c.if-marks-from.false (omega (arith, e, ap length c.marks.ensures.marks, c.from.ensures))) made c.follow_row-found.ensures.ways
+
+pub follow_target-returns-in_ok-found-in-Next-clause-ways : goal.follow_target-returns-in_ok-found-in-Next-clause-ways
+follow_target-returns-in_ok-found-in-Next-clause-ways t c =
+    counts_onward c.args.plan.now c.args.set.now c.args.left c.args.class.now c.in-Next.next c.args.place c.args.count.now
+    c.explore.new.count
+    c.in-Next.ensures.image c.in_ok-found-in-Next.ensures.ways
+
+pub follow_target-returns-in-Ends-clause-ways : goal.follow_target-returns-in-Ends-clause-ways
+follow_target-returns-in-Ends-clause-ways t c =
+    counts_none c.end_at.result c.args.plan.now c.args.set.now c.args.left (AtTarget c.args.class.now c.args.place) c.args.count.now
+
+pub follow_target-returns-in-NotEquipped-clause-ways : goal.follow_target-returns-in-NotEquipped-clause-ways
+follow_target-returns-in-NotEquipped-clause-ways t c =
+    counts_none c.stopped.result c.args.plan.now c.args.set.now c.args.left (AtTarget c.args.class.now c.args.place) c.args.count.now
+
+pub follow_target-returns-in-TooLong-clause-ways : goal.follow_target-returns-in-TooLong-clause-ways
+follow_target-returns-in-TooLong-clause-ways t c =
+    counts_none c.stopped-in-TooLong.result c.args.plan.now c.args.set.now c.args.left
+    (AtTarget c.args.class.now c.args.place) c.args.count.now

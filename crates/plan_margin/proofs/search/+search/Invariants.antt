@@ -1,6 +1,7 @@
 use Rattle.std.proofs.Common.{◌+◌, ◌-◌, ◌*◌, ◌<◌, take}
 use Rattle.std.specs.List.{All}
 use Rattle.plan_margin.specs.Searching.{IsIn, AllArrive, most_ways}
+use Rattle.plan_margin.proofs.Counted.{CountsBefore}
 use Rattle.plan_margin.proofs.search.+search.Given as goal
 
 -- a part has fewer open digits, a next class fewer hops left, and the next place fewer targets after it
@@ -28,9 +29,10 @@ decreases-follow_lost l = 2000 * (l.left + l.class.now.most) + 5 * (256 - l.plac
 abbrev pub decreases-follow_target : goal.decreases-follow_target
 decreases-follow_target l = 2000 * (l.left + l.class.now.most) + 5 * (256 - l.place)
 
--- the titles of the parts so far arrive, and the limit is not reached
+-- the titles of the parts so far arrive, the limit is not reached, and what is counted is on the ways of these parts
 abbrev pub invariant-explore_parts-loop-part : goal.invariant-explore_parts-loop-part
 invariant-explore_parts-loop-part l = record {
   few : l.count < most_ways;
   arrive : All (λ part. AllArrive l.plan part l.left l.set.most (IsIn l.set) l.cut) (take l.part-index l.part-items);
+  counts : CountsBefore l.plan l.set l.left l.part-items l.part-index l.fn.count l.count;
 }
