@@ -1,11 +1,10 @@
 -- The route of a stopped title that is shown stays within its plan.
 use Rattle.std.specs.Prelude.{ℕ, ◌≡◌, ◌≤◌, length, replicate}
 use Rattle.std.specs.List.{All}
-use Rattle.std.proofs.Common.{sym, ◌∙◌, ap, subst, arith, List}
+use Rattle.std.proofs.Common.{sym, ◌∙◌, ap, subst, List}
 use Rattle.sccp_base.specs.declared.mark.Mark.{Mark}
 use Rattle.plan_model.specs.Network.{Network, IsPlan}
 use Rattle.plan_margin.specs.Margins.{IsMargin, IsStop}
-use Rattle.plan_margin.specs.Outages.{route_in}
 use Rattle.plan_margin.specs.declared.margin.Margin.{Margin}
 use Rattle.plan_margin.specs.declared.margin.Margin.TheVariants.{Stopped, Survives, SurvivesAny, TooWide}
 use Rattle.plan_margin.specs.declared.stop.Stop.{Stop}

@@ -1,5 +1,5 @@
 -- A command that goes on with the plan of a file, if it is accepted.
-use Rattle.std.proofs.Common.{◌≡◌, ◌⊎◌, ◌≤◌, ℕ, List, ◌++◌, length, Option, Some, Result, Ok, Err, IfOk, refl, sym, ap, subst, inl, inr}
+use Rattle.std.proofs.Common.{◌≡◌, ◌⊎◌, ◌≤◌, ℕ, List, ◌++◌, length, Option, Result, Ok, Err, IfOk, refl, sym, ap, subst, inl, inr}
 use Rattle.std.specs.Prelude.{is_err}
 use Rattle.plan_check.specs.Verified.{Verified}
 use Rattle.plan_model.specs.Network.{Network}

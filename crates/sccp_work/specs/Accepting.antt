@@ -1,5 +1,5 @@
 -- A plan that has to be accepted before a command goes on.
-use Rattle.std.specs.Prelude.{◌≡◌, ℕ, List, ◌++◌, Result, Ok, Err}
+use Rattle.std.specs.Prelude.{ℕ, List, ◌++◌, Result, Ok, Err}
 use Rattle.plan_check.specs.Verified.{Verified}
 use Rattle.plan_model.specs.Network.{Network}
 use Rattle.plan_verify.specs.declared.verdict.Verdict.{Verdict}
