@@ -227,7 +227,8 @@ least_of plan losses number tally (m ∷ ms) are before =
 least_of_all : (plan : Network) (losses : ℕ) (ms : List Measure) → length ms ≡ length plan.covers → AreMargins plan losses 0 ms
     → LeastSoFar plan losses (length plan.covers) (tallied none_yet ms).least
 least_of_all plan losses ms each are =
-    subst (λ n. LeastSoFar plan losses n (tallied none_yet ms).least) each
+    let all : 0 + length ms ≡ length plan.covers = omega (arith, each) in
+    subst (λ n. LeastSoFar plan losses n (tallied none_yet ms).least) all
     (least_of plan losses 0 none_yet ms are (λ k lt. absurd (omega (arith, lt))))
 
 least_told : (plan : Network) (losses : ℕ) (least : Option ℕ) → LeastSoFar plan losses (length plan.covers) least
@@ -290,7 +291,10 @@ shown_at : (plan : Network) (losses : ℕ) (ms : List Measure) (number : ℕ) (s
     → slice_get ms number ≡ Some (measures.Stopped stop)
     → SurvivesBelow plan number (points_lost stop.markings) × IsStop plan number (points_lost stop.markings) stop
 shown_at plan losses ms number stop are at =
-    let is : IsMargin plan number losses (measures.Stopped stop) = margin_at plan losses 0 ms number (measures.Stopped stop) are at in
+    let first : 0 + number ≡ number = omega arith in
+    let is : IsMargin plan number losses (measures.Stopped stop) =
+    subst (λ n. IsMargin plan n losses (measures.Stopped stop)) first
+    (margin_at plan losses 0 ms number (measures.Stopped stop) are at) in
     let same : is.0 ≡ points_lost stop.markings = sym (lost_points plan number is.0 stop is.3) in
     (subst (λ n. SurvivesBelow plan number n) same is.2, subst (λ n. IsStop plan number n stop) same is.3)
 

@@ -12,7 +12,7 @@ use Rattle.sccp_tool.proofs.margin.margin.Goals as goal
 
 pub returns-in_err-accepted : goal.returns-in_err-accepted
 returns-in_err-accepted g c =
-    let p = err_from_is_err_and c.from_residual-in_err-accepted.result c.from_residual-in_err-accepted.ensures.1 in
+    let p = err_from_is_err_and c.from_residual.result c.from_residual.ensures.1 in
     rw (p.1, p.2) (c.in_err-accepted.ensures (each_margin c.args.losses.now.count))
 
 pub returns-in_err-tally : goal.returns-in_err-tally
@@ -23,7 +23,7 @@ returns-in_err-tally g c =
     let n : Moment = moment g.F.Files.contents g.F.Files.sound g.F.Files.faults g.K.Sink.taken g.K.Sink.faults c.with_accepted.new.files
     c.with_accepted.new.out in
     let m : Moment = moment g.F.Files.contents g.F.Files.sound g.F.Files.faults g.K.Sink.taken g.K.Sink.faults c.with_accepted.new.files
-    c.measure_covers.new.out in
+    c.measure_covers-tally.new.out in
     let losses = c.count-losses.result in
     let stop = c.in_err-tally.field-0.0 in
     rw (p.1, p.2) (subst (λ l. Works (margin_work c.args.name.now l) (Err stop) b m) c.count-losses.ensures.value
@@ -38,7 +38,7 @@ returns-in_err-line g c =
     let n : Moment = moment g.F.Files.contents g.F.Files.sound g.F.Files.faults g.K.Sink.taken g.K.Sink.faults c.with_accepted.new.files
     c.with_accepted.new.out in
     let m : Moment = moment g.F.Files.contents g.F.Files.sound g.F.Files.faults g.K.Sink.taken g.K.Sink.faults c.with_accepted.new.files
-    c.measure_covers.new.out in
+    c.measure_covers-tally.new.out in
     let losses = c.count-losses.result in
     let tally = c.in_ok-tally.tally in
     rw (p.1, p.2) (subst (λ l. Works (margin_work c.args.name.now l) (Err Memory) b m) c.count-losses.ensures.value
@@ -53,7 +53,7 @@ returns g c =
     let n : Moment = moment g.F.Files.contents g.F.Files.sound g.F.Files.faults g.K.Sink.taken g.K.Sink.faults c.with_accepted.new.files
     c.with_accepted.new.out in
     let m : Moment = moment g.F.Files.contents g.F.Files.sound g.F.Files.faults g.K.Sink.taken g.K.Sink.faults c.with_accepted.new.files
-    c.measure_covers.new.out in
+    c.measure_covers-tally.new.out in
     let a : Moment = moment g.F.Files.contents g.F.Files.sound g.F.Files.faults g.K.Sink.taken g.K.Sink.faults c.with_accepted.new.files
     c.print_last.new.out in
     let losses = c.count-losses.result in
