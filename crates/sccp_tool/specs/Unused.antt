@@ -63,8 +63,8 @@ UnusedTells contents name given taken taken' = IsOnVerdict given → HasPlan con
 -- ---- what the code gives while the work is done
 
 -- the answer on a plan and its text, as the work has them
-pub record IsListed (plan : Network) (status : Status) (text : List ℕ) : Type 0 where
+pub record IsListed (plan : Network) (given : Status) (line : List ℕ) : Type 0 where
   pub survey : Survey
   pub is : IsSurveyed plan survey
-  pub status : status ≡ survey_status survey
-  pub text : text ≡ survey_text plan survey
+  pub status : given ≡ survey_status survey
+  pub text : line ≡ survey_text plan survey
