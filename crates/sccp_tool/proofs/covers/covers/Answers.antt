@@ -9,6 +9,15 @@ use Rattle.sccp_work.proofs.WorkLemmas.{Works-memory}
 use Rattle.sccp_tool.proofs.CoversLemmas.{Works-tally}
 use Rattle.sccp_tool.proofs.covers.covers.Goals as goal
 
+pub returns-in_err-tally : goal.returns-in_err-tally
+returns-in_err-tally g c =
+    let p = err_from_is_err_and c.from_residual-in_err-tally.result c.from_residual-in_err-tally.ensures.1 in
+    let n : Moment = moment g.F.Files.contents g.F.Files.sound g.F.Files.faults g.K.Sink.taken g.K.Sink.faults c.with_plan.new.files
+    c.with_plan.new.out in
+    let m : Moment = moment g.F.Files.contents g.F.Files.sound g.F.Files.faults g.K.Sink.taken g.K.Sink.faults c.with_plan.new.files
+    c.judge_covers.new.out in
+    rw (p.1, p.2) (c.in_ok-plan.ensures.plan each_cover (Err c.in_err-tally.field-0.0) m (c.in_err-tally.ensures.gives n))
+
 pub returns-in_err-line : goal.returns-in_err-line
 returns-in_err-line g c =
     let p = err_from_is_err_and c.from_residual-in_err-line.result c.from_residual-in_err-line.ensures.1 in

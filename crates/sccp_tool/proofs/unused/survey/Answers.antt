@@ -1,13 +1,13 @@
 use Rattle.sccp_report.proofs.InSurvey.{survey_in}
 use Rattle.sccp_tool.proofs.unused.survey.Goals as goal
 
-pub survey_text-requires : goal.survey_text-requires
-survey_text-requires c = survey_in c.args.plan.now c.in_ok-survey.survey c.requires c.in_ok-survey.ensures
+pub survey_text-text-requires : goal.survey_text-text-requires
+survey_text-text-requires c = survey_in c.args.plan.now c.in_ok-survey.survey c.requires c.in_ok-survey.ensures
 
 pub returns : goal.returns
 returns c = record {
   survey = c.in_ok-survey.survey;
   is = (c.requires, c.in_ok-survey.ensures);
-  status = c.status_of.ensures;
-  text = c.in_ok.ensures;
+  status = c.status_of-status.ensures;
+  text = c.in_ok-text.ensures;
 }
