@@ -18,7 +18,8 @@ use Rattle.sccp_report.specs.Roles.{Role, routed, later, aside, alone, role_of}
 use Rattle.sccp_replay.specs.Trace.{lines_in, fault_in}
 use Rattle.trace_text.specs.declared.line.Numbered.{Numbered}
 use Rattle.trace_text.specs.declared.line_fault.LineFault.{LineFault}
-use Rattle.sccp_replay.specs.Account.{Piece, Account, IsLaterPlan, IsPublished, IsTold, TellsLine, IsLastLine}
+use Rattle.sccp_replay.specs.Account.{Piece, lines_of, Account, IsLaterPlan, IsPublished, IsTold, TellsLine, IsLastLine}
+use Rattle.sccp_replay.specs.Holding.{managers_of, after_role, managers_after, held_after}
 use Rattle.sccp_replay.specs.LaterPlans.{first_plan_line}
 use Rattle.sccp_work.specs.Numbers.{AreNumbers}
 use Rattle.sccp_replay.specs.Replay.{Standing, Settled, prints, accepted, plan_at, settle, batch_of, batch_work, told_at, is_full}
@@ -31,8 +32,9 @@ use Rattle.sccp_work.specs.Work.{Work, answered, serve, read_on}
 use Rattle.sccp_work.specs.declared.status.Status.{Status}
 use Rattle.sccp_work.specs.declared.status.Status.TheVariants.{Done, BadTrace, TooLong, WriteFault}
 use Rattle.sccp_replay.proofs.Settling.{At, Scene, InBatch, Knows, Settles, MayStop, Fits, settle_through, one_of}
+use Rattle.sccp_replay.proofs.Holding.{Joins, markings_are, alone_changes, tell_stays, managers_stay, managers_alone}
 use Rattle.sccp_replay.proofs.Telling.{Goes, HasOctets, Serves, Within, pieces_of, piece_of, pieces_lines, pieces_text, pieces_prints}
-use Rattle.sccp_replay.proofs.Telling.{pieces_tell, numbers_fit, ranges}
+use Rattle.sccp_replay.proofs.Telling.{pieces_tell, told_line, numbers_fit, ranges, here}
 use Rattle.sccp_work.proofs.Through.{Through}
 
 pub texts : List Piece → List ℕ
@@ -50,8 +52,10 @@ pub record IsKnown (z : Scene) (pieces : List Piece) (number : ℕ) (plan : Netw
 -- these lines were printed as these pieces
 pub record SoFar (z : Scene) (lines : List Numbered) (pieces : List Piece) (at : Standing) : Type 0 where
   pub first : at.first ≡ z.first
-  pub of_lines : map (λ p. p.line) pieces ≡ lines
-  pub each : (p : Piece) → Contains pieces p → TellsLine (IsPublished z.c z.first z.bound pieces) z.first p
+  pub of_lines : lines_of pieces ≡ lines
+  pub each : (before : List Piece) (p : Piece) (after : List Piece) → pieces ≡ before ++ p ∷ after
+      → TellsLine (IsPublished z.c z.first z.bound pieces) z.first before p
+  pub managers : managers_of at.states ≡ managers_after z.first lines
   pub plans : (k : ℕ) (plan : Network) → slice_get at.later k ≡ Some plan → IsKnown z pieces (k + 2) plan
   pub fit : LaterPlansFit z.c lines
 
@@ -76,14 +80,16 @@ IsKnown-more z pieces more number plan h =
           h.told;
     }
 
-TellsLine-more : (z : Scene) (pieces more : List Piece) (p : Piece) → TellsLine (IsPublished z.c z.first z.bound pieces) z.first p
-    → TellsLine (IsPublished z.c z.first z.bound (pieces ++ more)) z.first p
-TellsLine-more z pieces more p h = λ x role. let t = h x role in record {
+TellsLine-more : (z : Scene) (pieces more before : List Piece) (p : Piece)
+    → TellsLine (IsPublished z.c z.first z.bound pieces) z.first before p
+    → TellsLine (IsPublished z.c z.first z.bound (pieces ++ more)) z.first before p
+TellsLine-more z pieces more before p h = λ x role. let t = h x role in record {
   number = t.number;
   plan = t.plan;
   bound = t.bound;
   is_published = IsPublished-more z.c z.first z.bound pieces more t.number t.plan t.bound t.is_published;
   prohibited = t.prohibited;
+  held = t.held;
   way = t.way;
   is_way = t.is_way;
   outcomes = t.outcomes;
@@ -91,16 +97,53 @@ TellsLine-more z pieces more p h = λ x role. let t = h x role in record {
   well = t.well;
 }
 
+same_head : {X : Type 0} {x y : X} {xs ys : List X} → x ∷ xs ≡ y ∷ ys → x ≡ y
+same_head e = cc
+
+same_tail : {X : Type 0} {x y : X} {xs ys : List X} → x ∷ xs ≡ y ∷ ys → xs ≡ ys
+same_tail e = cc
+
+-- an element of two lists that are put together is in the first one or in the second one
+pub parted : {X : Type 0} (xs ys before : List X) (p : X) (after : List X) → xs ++ ys ≡ before ++ p ∷ after
+    → ((mid : List X) × (xs ≡ before ++ p ∷ mid) × (after ≡ mid ++ ys)) ⊎ ((b : List X) × (before ≡ xs ++ b) × (ys ≡ b ++ p ∷ after))
+parted [] ys before p after e = inr (before, refl, e)
+parted (x ∷ xs) ys [] p after e = inl (xs, (λ i. same_head e i ∷ xs), sym (same_tail e))
+parted {X} (x ∷ xs) ys (b ∷ before) p after e = on (parted xs ys before p after (same_tail e)) where
+  on : ((mid : List X) × (xs ≡ before ++ p ∷ mid) × (after ≡ mid ++ ys)) ⊎ ((c : List X) × (before ≡ xs ++ c) × (ys ≡ c ++ p ∷ after))
+      → ((mid : List X) × (x ∷ xs ≡ b ∷ (before ++ p ∷ mid)) × (after ≡ mid ++ ys))
+      ⊎ ((c : List X) × (b ∷ before ≡ x ∷ (xs ++ c)) × (ys ≡ c ++ p ∷ after))
+  on (inl h) = inl (h.0, (λ i. same_head e i ∷ h.1 i), h.2)
+  on (inr h) = inr (h.0, (λ i. sym (same_head e) i ∷ h.1 i), h.2)
+
+-- the element between two parts of a list is in it
+among_parts : {X : Type 0} (xs before : List X) (p : X) (after : List X) → xs ≡ before ++ p ∷ after → Contains xs p
+among_parts xs before p after e = subst (λ ys. Contains ys p) (sym e) (Contains-append_right before (p ∷ after) p (here after p))
+
+all_front : {X : Type 0} (P : X → Type 0) (xs ys : List X) → AllByRecursion P (xs ++ ys) → AllByRecursion P xs
+all_front P [] ys h = tt
+all_front P (x ∷ xs) ys h = (h.0, all_front P xs ys h.1)
+
+all_back : {X : Type 0} (P : X → Type 0) (xs ys : List X) → AllByRecursion P (xs ++ ys) → AllByRecursion P ys
+all_back P [] ys h = h
+all_back P (x ∷ xs) ys h = all_back P xs ys h.1
+
+all_push : {X : Type 0} (P : X → Type 0) (xs : List X) (x : X) → AllByRecursion P xs → P x → AllByRecursion P (xs ++ x ∷ [])
+all_push P [] x h is = (is, tt)
+all_push P (y ∷ ys) x h is = (h.0, all_push P ys x h.1 is)
+
 -- further lines were printed as further pieces
 SoFar-more : (z : Scene) (lines ls : List Numbered) (pieces more : List Piece) (at at' : Standing) → SoFar z lines pieces at
-    → at'.first ≡ z.first → map (λ p. p.line) more ≡ ls
-    → ((p : Piece) → Contains more p → TellsLine (IsPublished z.c z.first z.bound (pieces ++ more)) z.first p)
+    → at'.first ≡ z.first → lines_of more ≡ ls
+    → ((b : List Piece) (p : Piece) (a : List Piece) → more ≡ b ++ p ∷ a
+    → TellsLine (IsPublished z.c z.first z.bound (pieces ++ more)) z.first (pieces ++ b) p)
+    → managers_of at'.states ≡ managers_after z.first (lines ++ ls)
     → ((k : ℕ) (plan : Network) → slice_get at'.later k ≡ Some plan → IsKnown z (pieces ++ more) (k + 2) plan) → LaterPlansFit z.c ls
     → SoFar z (lines ++ ls) (pieces ++ more) at'
-SoFar-more z lines ls pieces more at at' h same is each plans fit = record {
+SoFar-more z lines ls pieces more at at' h same is each managers plans fit = record {
   first = same;
   of_lines = map-append (λ p. p.line) pieces more ∙ (λ i. h.of_lines i ++ is i);
-  each = λ p c. on p (Contains-append_cases pieces more p c);
+  each = λ before p after e. on before p after (parted pieces more before p after e);
+  managers = managers;
   plans = plans;
   fit = λ number name has. fits number name (Contains-append_cases lines ls (record { number = number; line = Plan name }) has);
 } where
@@ -109,19 +152,24 @@ SoFar-more z lines ls pieces more at at' h same is each plans fit = record {
   fits number name (inl e) = h.fit number name e
   fits number name (inr e) = fit number name e
 
-  on : (p : Piece) → Contains pieces p ⊎ Contains more p → TellsLine (IsPublished z.c z.first z.bound (pieces ++ more)) z.first p
-  on p (inl c) = TellsLine-more z pieces more p (h.each p c)
-  on p (inr c) = each p c
+  on : (before : List Piece) (p : Piece) (after : List Piece)
+      → ((mid : List Piece) × (pieces ≡ before ++ p ∷ mid) × (after ≡ mid ++ more))
+      ⊎ ((b : List Piece) × (before ≡ pieces ++ b) × (more ≡ b ++ p ∷ after))
+      → TellsLine (IsPublished z.c z.first z.bound (pieces ++ more)) z.first before p
+  on before p after (inl q) = TellsLine-more z pieces more before p (h.each before p q.0 q.1)
+  on before p after (inr q) = subst (λ b. TellsLine (IsPublished z.c z.first z.bound (pieces ++ more)) z.first b p) (sym q.1)
+      (each q.0 p after q.2)
 
 -- ---- a batch
 
 Settles-none : (z : Scene) (lines : List Numbered) (pieces : List Piece) (at : Standing) → SoFar z lines pieces at
-    → Settles z pieces (accepted at) [] [] at
+    → Settles z pieces at [] [] at
 Settles-none z lines pieces at h = record {
   first = h.first;
   same = tt;
   each = λ l s e. absurd e;
   plans = λ k plan e. let p = h.plans k plan e in record { bound = p.bound; is_plan = p.is_plan; safe = p.safe; told = inl p.told };
+  states = refl;
   more = omega arith;
   fit = λ number name has. absurd (omega (arith, has.1));
 }
@@ -185,24 +233,40 @@ after_batch at settled numbers = record at { states = (told_at at settled number
 abbrev batch_pieces : Standing → List Numbered → List Settled → List ℕ → List Piece
 batch_pieces at ls settled numbers = pieces_of at (markings_of at.states) at.states ls settled numbers
 
+-- what the relays hold at each message of a batch is what they held after the lines before it
+held_before : (z : Scene) (lines : List Numbered) (pieces : List Piece) (at : Standing) (states : List State) (b : List Piece)
+    → SoFar z lines pieces at → states ≡ at.states → AllByRecursion (Joins z.first) (lines_of b)
+    → markings_of states ≡ held_after z.first (lines_of (pieces ++ b))
+held_before z lines pieces at states b h same joins =
+    let of_lines : lines_of (pieces ++ b) ≡ lines ++ lines_of b = map-append (λ p. p.line) pieces b ∙ ap (λ ls. ls ++ lines_of b) h.of_lines in
+    sym (markings_are states)
+    ∙ ap (map (λ m. m.marking)) (ap managers_of same ∙ h.managers ∙ sym (managers_stay z.first lines (lines_of b) joins)
+    ∙ ap (managers_after z.first) (sym of_lines))
+
 batch_after : (goes : Goes) (z : Scene) (lines ls : List Numbered) (pieces : List Piece) (at at' : Standing) (ss : List Settled)
-    (ns : List ℕ) → SoFar z lines pieces at → AllByRecursion (HasOctets z.first) ls
-    → Settles z pieces (accepted at) ls ss at' → AreNumbers (batch_of at at' ss) ns
+    (ns : List ℕ) → SoFar z lines pieces at → AllByRecursion (HasOctets z.first) ls → AllByRecursion (Joins z.first) ls
+    → Settles z pieces at ls ss at' → AreNumbers (batch_of at at' ss) ns
     → SoFar z (lines ++ ls) (pieces ++ batch_pieces at' ls ss ns) (record at' { states = (told_at at' ss ns).states })
     × ((told_at at' ss ns).text ≡ texts (batch_pieces at' ls ss ns))
 unfolding texts
-batch_after goes z lines ls pieces at at' ss ns h oct s are =
+batch_after goes z lines ls pieces at at' ss ns h oct joins s are =
     let mk = markings_of at'.states in
     let more = batch_pieces at' ls ss ns in
     let fit = numbers_fit at at' ss ns (ranges (accepted at') ls ss s.same (λ l t a. (s.each l t a).1)) are in
+    let of_lines : lines_of more ≡ ls = pieces_lines at' mk at'.states ls ss ns s.same in
     let plans : (k : ℕ) (plan : Network) → slice_get at'.later k ≡ Some plan → IsKnown z (pieces ++ more) (k + 2) plan =
     λ k plan e. known z pieces more ls ss (k + 2) plan (λ l text a. pieces_prints at' mk at'.states ls ss ns l text a)
-    (s.plans k plan e) in (
-      SoFar-more z lines ls pieces more at (record at' { states = (told_at at' ss ns).states }) h s.first
-          (pieces_lines at' mk at'.states ls ss ns s.same)
-          (λ p c. pieces_tell goes (IsPublished z.c z.first z.bound (pieces ++ more)) z.first at' mk (accepted at') s.first
+    (s.plans k plan e) in
+    let held : (b : List Piece) (p : Piece) (a : List Piece) → more ≡ b ++ p ∷ a → mk ≡ held_after z.first (lines_of (pieces ++ b)) =
+    λ b p a e. held_before z lines pieces at at'.states b h s.states
+    (all_front (Joins z.first) (lines_of b) (lines_of (p ∷ a))
+    (subst (AllByRecursion (Joins z.first)) (sym of_lines ∙ ap lines_of e ∙ map-append (λ p. p.line) b (p ∷ a)) joins)) in (
+      SoFar-more z lines ls pieces more at (record at' { states = (told_at at' ss ns).states }) h s.first of_lines
+          (λ b p a e. told_line (IsPublished z.c z.first z.bound (pieces ++ more)) z.first mk (pieces ++ b) p (held b p a e)
+          (pieces_tell goes (IsPublished z.c z.first z.bound (pieces ++ more)) z.first at' mk (accepted at') s.first
           (λ number le. served z (pieces ++ more) at' s.first plans number le) at'.states ls ss ns fit.0 fit.1
-          (λ l t a. (s.each l t a).0) oct p c)
+          (λ l t a. (s.each l t a).0) oct p (among_parts more b p a e)))
+          (tell_stays at' mk at'.states ss ns ∙ ap managers_of s.states ∙ h.managers ∙ sym (managers_stay z.first lines ls joins))
           plans s.fit,
       pieces_text at' mk at'.states ls ss ns s.same fit.0,
     )
@@ -211,15 +275,16 @@ batch_through : (ends : Status → List ℕ → Type 0) (reads fronts : List ℕ
     → Type 0) (goes : Goes) (z : Scene) (lines ls : List Numbered) (pieces : List Piece) (at : Standing) (acc : List ℕ) (next : Standing
     → List ℕ → Work)
     → MayStop ends reads fronts z.c ls acc → SoFar z lines pieces at → AllByRecursion (HasOctets z.first) ls
+    → AllByRecursion (Joins z.first) ls
     → ((at' : Standing) (more : List Piece) → SoFar z (lines ++ ls) (pieces ++ more) at'
     → Through ends reads fronts (Some z.c) (next at' (texts more)) acc)
     → Through ends reads fronts (Some z.c) (batch_work at ls next) acc
 unfolding batch_work settle
-batch_through ends reads fronts goes z lines ls pieces at acc next stop h oct go =
-    settle_through ends reads fronts z pieces (accepted at) ls acc
+batch_through ends reads fronts goes z lines ls pieces at acc next stop h oct joins go =
+    settle_through ends reads fronts z pieces at ls acc
     (λ at' settled. serve (batch_of at at' settled) (λ numbers. next (record at' { states = (told_at at' settled numbers).states })
     (told_at at' settled numbers).text)) stop
-    (λ at' ss s ns are. let b = batch_after goes z lines ls pieces at at' ss ns h oct s are in
+    (λ at' ss s ns are. let b = batch_after goes z lines ls pieces at at' ss ns h oct joins s are in
     subst (λ t. Through ends reads fronts (Some z.c) (next (record at' { states = (told_at at' ss ns).states }) t) acc) (sym b.1)
     (go (record at' { states = (told_at at' ss ns).states }) (batch_pieces at' ls ss ns) b.0))
     ls [] [] at refl (Settles-none z lines pieces at h)
@@ -394,21 +459,17 @@ written_more z pieces more acc is = ap (λ t. t ++ texts more) is
 -- a line that ends a batch prints its piece, and adds no plan
 SoFar-alone : (z : Scene) (lines : List Numbered) (pieces : List Piece) (at : Standing) (l : Numbered) (text : List ℕ) (states : List State)
     → SoFar z lines pieces at → ((x : Incoming) → role_of z.first l.line ≡ routed x → ⊥)
+    → managers_of states ≡ managers_after z.first (lines ++ l ∷ [])
     → ((number : ℕ) (name : List ℕ) → l.line ≡ Plan name → Fits z.c name)
     → SoFar z (lines ++ l ∷ []) (pieces ++ piece_of l text ∷ []) (record at { states = states })
-SoFar-alone z lines pieces at l text states h never unnamed = SoFar-more z lines (l ∷ []) pieces (piece_of l text ∷ []) at
+SoFar-alone z lines pieces at l text states h never managers unnamed = SoFar-more z lines (l ∷ []) pieces (piece_of l text ∷ []) at
     (record at { states = states }) h h.first refl
-    (λ p c x role. absurd (never x (subst (λ q. role_of z.first q.line.line ≡ routed x) (sym (only p c)) role)))
+    (λ b p a e x role. absurd (never x (subst (λ q. role_of z.first q.line.line ≡ routed x)
+    (sym (one_of (piece_of l text) p (among_parts (piece_of l text ∷ []) b p a e))) role)))
+    managers
     (λ k plan e. IsKnown-more z pieces (piece_of l text ∷ []) (k + 2) plan (h.plans k plan e)) fits where
       fits : LaterPlansFit z.c (l ∷ [])
       fits number name has = unnamed number name (ap (λ k. k.line) (one_of l (record { number = number; line = Plan name }) has))
-
-      one : (p : Piece) (k : ℕ) → k < 1 → Rattle.std.specs.List.slice_index_or (piece_of l text ∷ []) k p ≡ p → piece_of l text ≡ p
-      one p zero le e = e
-      one p (suc k) le e = absurd (omega (arith, le))
-
-      only : (p : Piece) → Contains (piece_of l text ∷ []) p → piece_of l text ≡ p
-      only p c = one p c.0 c.1 c.2
 
 not_routed : {r : Role} {d : Option Due} {x : Incoming} → r ≡ alone d → r ≡ routed x → ⊥
 not_routed e f = cc
@@ -418,29 +479,21 @@ not_later first line {d} {name} e f = apart (sym (ap (role_of first) f) ∙ e) w
   apart : later name ≡ alone d → ⊥
   apart g = cc
 
-octets_front : (first : Network) (xs ys : List Numbered) → AllByRecursion (HasOctets first) (xs ++ ys) → AllByRecursion (HasOctets first) xs
-octets_front first [] ys h = tt
-octets_front first (x ∷ xs) ys h = (h.0, octets_front first xs ys h.1)
-
-octets_back : (first : Network) (xs ys : List Numbered) → AllByRecursion (HasOctets first) (xs ++ ys) → AllByRecursion (HasOctets first) ys
-octets_back first [] ys h = h
-octets_back first (x ∷ xs) ys h = octets_back first xs ys h.1
-
 -- what holds of the lines after a batch that has begun
 abbrev Follows : Scene → Status × List ℕ → List Numbered → Type 0
 Follows z closing lines =
     (batch done : List Numbered) (pieces : List Piece) (at : Standing) (acc : List ℕ) → SoFar z done pieces at → IsWritten z pieces acc
     → lines_in z.c z.trace_name ≡ done ++ (batch ++ lines)
-    → AllByRecursion (HasOctets z.first) (batch ++ lines)
+    → AllByRecursion (HasOctets z.first) (batch ++ lines) → AllByRecursion (Joins z.first) batch
     → Through (Ends z) (Reads z) (Fronts z) (Some z.c) (lines_work closing at batch lines) acc
 
 gathered_through : (goes : Goes) (z : Scene) (closing : Status × List ℕ) (l : Numbered) (lines : List Numbered) → Follows z closing lines
     → (batch done : List Numbered) (pieces : List Piece) (at : Standing) (acc : List ℕ) → SoFar z done pieces at → IsWritten z pieces acc
     → lines_in z.c z.trace_name ≡ done ++ (batch ++ l ∷ lines)
-    → AllByRecursion (HasOctets z.first) (batch ++ l ∷ lines)
+    → AllByRecursion (HasOctets z.first) (batch ++ l ∷ lines) → AllByRecursion (Joins z.first) (batch ++ l ∷ [])
     → Through (Ends z) (Reads z) (Fronts z) (Some z.c) (gathered at (batch ++ l ∷ [])
     (λ at' batch'. lines_work closing at' batch' lines)) acc
-gathered_through goes z closing l lines follows batch done pieces at acc h is e oct = by (is_full (batch ++ l ∷ [])) where
+gathered_through goes z closing l lines follows batch done pieces at acc h is e oct joins = by (is_full (batch ++ l ∷ [])) where
   whole : (batch ++ l ∷ []) ++ lines ≡ batch ++ l ∷ lines
   whole = append_assoc batch (l ∷ []) lines
 
@@ -460,27 +513,27 @@ gathered_through goes z closing l lines follows batch done pieces at acc h is e 
     reads_now z done ((batch ++ l ∷ []) ++ lines) pieces at acc h e' is,
     batch_through (Ends z) (Reads z) (Fronts z) goes z done (batch ++ l ∷ []) pieces at acc
         (λ at' text. Rattle.sccp_work.specs.Work.print text (lines_work closing at' [] lines))
-        (may_stop z done (batch ++ l ∷ []) lines pieces at acc h e' is) h (octets_front z.first (batch ++ l ∷ []) lines oct')
+        (may_stop z done (batch ++ l ∷ []) lines pieces at acc h e' is) h (all_front (HasOctets z.first) (batch ++ l ∷ []) lines oct') joins
         (λ at' more h'. (
           (λ front starts. front_now z (done ++ (batch ++ l ∷ [])) lines (pieces ++ more) at' acc (texts more) front h' e''
               (written_more z pieces more acc is) starts),
           follows [] (done ++ (batch ++ l ∷ [])) (pieces ++ more) at' (acc ++ texts more) h' (written_more z pieces more acc is) e''
-              (octets_back z.first (batch ++ l ∷ []) lines oct'),
+              (all_back (HasOctets z.first) (batch ++ l ∷ []) lines oct') tt,
         )),
   )
-  by false = follows (batch ++ l ∷ []) done pieces at acc h is e' oct'
+  by false = follows (batch ++ l ∷ []) done pieces at acc h is e' oct' joins
 
 alone_through : (goes : Goes) (z : Scene) (closing : Status × List ℕ) (l : Numbered) (d : Option Due) (lines : List Numbered)
     → Follows z closing lines
     → (batch done : List Numbered) (pieces : List Piece) (at : Standing) (acc : List ℕ) → SoFar z done pieces at → IsWritten z pieces acc
     → lines_in z.c z.trace_name ≡ done ++ (batch ++ l ∷ lines)
-    → AllByRecursion (HasOctets z.first) (batch ++ l ∷ lines) → role_of z.first l.line ≡ alone d
+    → AllByRecursion (HasOctets z.first) (batch ++ l ∷ lines) → AllByRecursion (Joins z.first) batch → role_of z.first l.line ≡ alone d
     → Through (Ends z) (Reads z) (Fronts z) (Some z.c) (read_on
     (batch_work at batch (alone_work l d (λ at'. lines_work closing at' [] lines)))) acc
-alone_through goes z closing l d lines follows batch done pieces at acc h is e oct role = (
+alone_through goes z closing l d lines follows batch done pieces at acc h is e oct joins role = (
   reads_now z done (batch ++ l ∷ lines) pieces at acc h e is,
   batch_through (Ends z) (Reads z) (Fronts z) goes z done batch pieces at acc (alone_work l d (λ at'. lines_work closing at' [] lines))
-      (may_stop z done batch (l ∷ lines) pieces at acc h e is) h (octets_front z.first batch (l ∷ lines) oct)
+      (may_stop z done batch (l ∷ lines) pieces at acc h e is) h (all_front (HasOctets z.first) batch (l ∷ lines) oct) joins
       (λ at' more h'. told at' more h'),
 ) where
   text_of : Standing → List ℕ
@@ -495,6 +548,8 @@ alone_through goes z closing l d lines follows batch done pieces at acc h is e o
       let last = piece_of l (text_of at') ∷ [] in
       let h'' : SoFar z ((done ++ batch) ++ l ∷ []) ((pieces ++ more) ++ last) (record at' { states = (done_alone at' d).states }) =
       SoFar-alone z (done ++ batch) (pieces ++ more) at' l (text_of at') (done_alone at' d).states h' (λ x f. not_routed role f)
+      (alone_changes at' d ∙ ap (λ ms. after_role ms (alone d)) h'.managers
+      ∙ ap (after_role (managers_after z.first (done ++ batch))) (sym role) ∙ sym (managers_alone z.first (done ++ batch) l))
       (λ number name f. absurd (not_later z.first l.line role f)) in
       let one : texts last ≡ text_of at' = one_text (piece_of l (text_of at')) in
       let is' : IsWritten z ((pieces ++ more) ++ last) (acc ++ (texts more ++ text_of at')) =
@@ -504,29 +559,41 @@ alone_through goes z closing l d lines follows batch done pieces at acc h is e o
             (record at' { states = (done_alone at' d).states }) acc (texts more ++ text_of at') front h'' e' is' starts),
         follows [] ((done ++ batch) ++ l ∷ []) ((pieces ++ more) ++ last) (record at' { states = (done_alone at' d).states })
             (acc ++ (texts more ++ text_of at')) h'' is' e'
-            (octets_back z.first (l ∷ []) lines (octets_back z.first batch (l ∷ lines) oct)),
+            (all_back (HasOctets z.first) (l ∷ []) lines (all_back (HasOctets z.first) batch (l ∷ lines) oct)) tt,
       )
+
+not_later_alone : {r : Role} {d : Option Due} {name : List ℕ} → r ≡ later name → r ≡ alone d → ⊥
+not_later_alone e f = cc
+
+not_aside_alone : {r : Role} {d : Option Due} → r ≡ aside → r ≡ alone d → ⊥
+not_aside_alone e f = cc
 
 line_follows : (goes : Goes) (z : Scene) (closing : Status × List ℕ) (l : Numbered) (lines : List Numbered) → Follows z closing lines
     → Follows z closing (l ∷ lines)
 unfolding lines_work
-line_follows goes z closing l lines follows batch done pieces at acc h is e oct = by (role_of at.first l.line) refl where
+line_follows goes z closing l lines follows batch done pieces at acc h is e oct joins = by (role_of at.first l.line) refl where
+  push : Joins z.first l → AllByRecursion (Joins z.first) (batch ++ l ∷ [])
+  push own = all_push (Joins z.first) batch l joins own
+
   by : (r : Role) → role_of at.first l.line ≡ r → Through (Ends z) (Reads z) (Fronts z) (Some z.c)
       (line_work at batch l r (λ at' batch'. lines_work closing at' batch' lines)) acc
   by (routed x) role = gathered_through goes z closing l lines follows batch done pieces at acc h is e oct
+      (push (λ d f. not_routed f (subst (λ n. role_of n l.line ≡ routed x) h.first role)))
   by (later name) role = gathered_through goes z closing l lines follows batch done pieces at acc h is e oct
+      (push (λ d f. not_later_alone (subst (λ n. role_of n l.line ≡ later name) h.first role) f))
   by aside role = gathered_through goes z closing l lines follows batch done pieces at acc h is e oct
-  by (alone d) role = alone_through goes z closing l d lines follows batch done pieces at acc h is e oct
+      (push (λ d f. not_aside_alone (subst (λ n. role_of n l.line ≡ aside) h.first role) f))
+  by (alone d) role = alone_through goes z closing l d lines follows batch done pieces at acc h is e oct joins
       (subst (λ n. role_of n l.line ≡ alone d) h.first role)
 
 -- the last batch, and the closing line
 last_follows : (goes : Goes) (z : Scene) (fault : Option LineFault) → fault_in z.c z.trace_name ≡ fault
     → Follows z (closing_of (length (lines_in z.c z.trace_name)) fault) []
 unfolding lines_work
-last_follows goes z fault f batch done pieces at acc h is e oct = (
+last_follows goes z fault f batch done pieces at acc h is e oct joins = (
   reads_now z done (batch ++ []) pieces at acc h e is,
   batch_through (Ends z) (Reads z) (Fronts z) goes z done batch pieces at acc (λ at' text. answered (closing.0, text ++ closing.1))
-      (may_stop z done batch [] pieces at acc h e is) h (octets_front z.first batch [] oct) told,
+      (may_stop z done batch [] pieces at acc h e is) h (all_front (HasOctets z.first) batch [] oct) joins told,
 ) where
   closing : Status × List ℕ
   closing = closing_of (length (lines_in z.c z.trace_name)) fault
@@ -561,12 +628,17 @@ lines_through goes z fault f (l ∷ lines) = line_follows goes z (closing_of (le
 
 -- ---- before the trace is read
 
-SoFar-none : (z : Scene) (at : Standing) → at.first ≡ z.first → at.later ≡ [] → SoFar z [] [] at
-SoFar-none z at same none = record {
-  first = same;
+-- no list without elements has one between two parts
+no_parts : {X : Type 0} (before : List X) (p : X) (after : List X) → [] ≡ before ++ p ∷ after → ⊥
+no_parts before p after e = let c = among_parts [] before p after e in omega (arith, c.1)
+
+pub SoFar-start : (z : Scene) (workers : ℕ) → SoFar z [] [] (Rattle.sccp_replay.specs.Replay.start workers z.first)
+SoFar-start z workers = record {
+  first = refl;
   of_lines = refl;
-  each = λ p c. absurd (omega (arith, c.1));
-  plans = λ k plan e. absurd (never k (ap (λ l. slice_get l k) (sym none) ∙ e));
+  each = λ before p after e. absurd (no_parts before p after e);
+  managers = refl;
+  plans = λ k plan e. absurd (never k e);
   fit = λ number name has. absurd (omega (arith, has.1));
 } where
   never : {plan : Network} (k : ℕ) → slice_get [] k ≡ Some plan → ⊥
@@ -584,8 +656,8 @@ pub account_first : (z : Scene) (workers : ℕ) → Account z.c z.plan_name (tak
     (first_plan_line z.plan_name z.bound)
 unfolding reads_now
 account_first z workers = (reads_now z [] (lines_in z.c z.trace_name) [] (at_start z workers) (first_plan_line z.plan_name z.bound)
-    (SoFar-none z (at_start z workers) refl refl) refl (first_written z)).account
+    (SoFar-start z workers) refl (first_written z)).account
 
 pub front_first : (z : Scene) (workers : ℕ) (front : List ℕ) → StartsWith (first_plan_line z.plan_name z.bound) front → Fronts z front
 front_first z workers front starts = front_now z [] (lines_in z.c z.trace_name) [] (at_start z workers) []
-    (first_plan_line z.plan_name z.bound) front (SoFar-none z (at_start z workers) refl refl) refl (first_written z) starts
+    (first_plan_line z.plan_name z.bound) front (SoFar-start z workers) refl (first_written z) starts

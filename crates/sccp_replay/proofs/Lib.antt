@@ -4,6 +4,7 @@ mod BatchSteps
 mod CrewSteps
 mod Fed
 mod Gathering
+mod Holding
 mod LaterSteps
 pub mod ReplayAnswers
 pub mod ReplayCauses

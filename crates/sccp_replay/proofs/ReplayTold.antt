@@ -1,7 +1,7 @@
 -- Whatever a replay answers, what the sink took is an account of its trace.
-use Rattle.std.proofs.Common.{◌≡◌, ◌≢◌, ◌⊎◌, ◌≤◌, ℕ, zero, suc, List, [], ◌∷◌, ◌++◌, length, take, Bool, true, false, cond, ltb, Option}
+use Rattle.std.proofs.Common.{◌≡◌, ◌≢◌, ◌⊎◌, ◌≤◌, ℕ, List, [], ◌∷◌, ◌++◌, length, take, Bool, true, false, cond, ltb, Option}
 use Rattle.std.proofs.Common.{Some, Result, Ok, Err, refl, sym, ◌∙◌, ap, subst, append-nil, append_assoc, arith, inl, inr}
-use Rattle.std.specs.Prelude.{codes, slice_get, is_some, is_err}
+use Rattle.std.specs.Prelude.{codes, is_some, is_err}
 use Rattle.std.specs.Fmt.{digits}
 use Rattle.std.specs.Io.{StartsWith}
 use Rattle.std.specs.Io.KnownBytes.{append_known}
@@ -34,7 +34,7 @@ use Rattle.sccp_work.specs.Work.{BeginsWith}
 use Rattle.sccp_work.specs.declared.status.Status.{Status}
 use Rattle.sccp_work.specs.declared.status.Status.TheVariants.{Done, Refused, Usage, BadPlan, BadTrace, TooWide, TooLong, OtherNodes}
 use Rattle.sccp_work.specs.declared.status.Status.TheVariants.{NoMemory, ReadFault, WriteFault}
-use Rattle.sccp_replay.proofs.Accounting.{SoFar, texts, lines_through, starts_behind}
+use Rattle.sccp_replay.proofs.Accounting.{lines_through, starts_behind}
 use Rattle.sccp_replay.proofs.Accounting as accounts
 use Rattle.sccp_replay.proofs.Settling.{Scene}
 use Rattle.sccp_replay.proofs.Telling.{Goes, HasOctets}
@@ -140,18 +140,6 @@ first_starts : (name : List ℕ) (bound : ℕ) (rest : List ℕ) → StartsWith 
 unfolding digits first_plan_line
 first_starts name bound rest = refl
 
-SoFar-start : (z : Scene) (workers : ℕ) → SoFar z [] [] (start workers z.first)
-SoFar-start z workers = record {
-  first = refl;
-  of_lines = refl;
-  each = λ p c. absurd (omega (arith, c.1));
-  plans = λ k plan e. absurd (none k e);
-  fit = λ number name has. absurd (omega (arith, has.1));
-} where
-  none : {plan : Network} (k : ℕ) → slice_get [] k ≡ Some plan → ⊥
-  none zero e = cc
-  none (suc k) e = cc
-
 begins_so : (z : Scene) (s : Status) (acc : List ℕ) → IsTold z.c z.plan_name z.trace_name s acc → (s ≡ Done) ⊎ (s ≡ BadTrace)
     → StartsWith acc (codes "plan 1 ")
 begins_so z s acc told e = by s e told.so where
@@ -237,7 +225,7 @@ traced goes z workers oct = (
       ap (λ o. option_and_then (λ octets. (trace_of octets).fault) o) there in
       let all = lines_through goes z (trace_of octets).fault fault (trace_of octets).lines [] [] [] (start workers z.first)
       (first_plan_line z.plan_name z.bound)
-      (SoFar-start z workers) (accounts.first_written z) lines (oct octets there) in
+      (accounts.SoFar-start z workers) (accounts.first_written z) lines (oct octets there) tt in
       Through-map (accounts.Ends z) (EndsAny z.c z.plan_name z.trace_name workers) (accounts.Reads z)
       (ReadsAny z.c z.plan_name z.trace_name)
       (λ acc. IsTold z.c z.plan_name z.trace_name WriteFault acc) (FrontsAny z.c z.plan_name z.trace_name) (Some z.c)

@@ -122,12 +122,13 @@ InRange most (prints text) = Unit {0}
 InRange most (routes n x before) = (1 ≤ before) × (before ≤ most)
 
 -- these lines of a batch were settled to these
-pub record Settles (z : Scene) (pieces : List Piece) (least : ℕ) (ls : List Numbered) (ss : List Settled) (at : Standing) : Type 0 where
+pub record Settles (z : Scene) (pieces : List Piece) (base : Standing) (ls : List Numbered) (ss : List Settled) (at : Standing) : Type 0 where
   pub first : at.first ≡ z.first
   pub same : Same ls ss
   pub each : (l : Numbered) (s : Settled) → At ls ss l s → IsOf z.first l s × InRange (accepted at) s
   pub plans : (k : ℕ) (plan : Network) → slice_get at.later k ≡ Some plan → Knows z pieces ls ss (k + 2) plan
-  pub more : least ≤ accepted at
+  pub states : at.states ≡ base.states
+  pub more : accepted base ≤ accepted at
   pub fit : LaterPlansFit z.c ls
 
 -- the file is there and within the limit
@@ -184,14 +185,15 @@ each_more z ls ss m n l s same le each is range k t at = on (At-cases ls ss l s 
   on (inr h) = (subst (λ j. IsOf z.first j t) h.0 (subst (λ u. IsOf z.first l u) h.1 is), subst (InRange n) h.1 range)
 
 -- a line that adds no plan
-pub Settles-line : (z : Scene) (pieces : List Piece) (least : ℕ) (ls : List Numbered) (ss : List Settled) (at : Standing) (l : Numbered)
-    (s : Settled) → Settles z pieces least ls ss at → IsOf z.first l s → InRange (accepted at) s → LineFits z.c l
-    → Settles z pieces least (ls ++ l ∷ []) (ss ++ s ∷ []) at
-Settles-line z pieces least ls ss at l s h is range fits = record {
+pub Settles-line : (z : Scene) (pieces : List Piece) (base : Standing) (ls : List Numbered) (ss : List Settled) (at : Standing) (l : Numbered)
+    (s : Settled) → Settles z pieces base ls ss at → IsOf z.first l s → InRange (accepted at) s → LineFits z.c l
+    → Settles z pieces base (ls ++ l ∷ []) (ss ++ s ∷ []) at
+Settles-line z pieces base ls ss at l s h is range fits = record {
   first = h.first;
   same = Same-more ls ss l s h.same;
   each = each_more z ls ss (accepted at) (accepted at) l s h.same (omega arith) h.each is range;
   plans = λ k plan e. Knows-more z pieces ls ss l s (k + 2) plan (h.plans k plan e);
+  states = h.states;
   more = h.more;
   fit = fit_more z.c ls l h.fit fits;
 }
@@ -218,18 +220,19 @@ other_role : {r : Role} {name : List ℕ} {x : Incoming} → r ≡ later name �
 other_role e f = cc
 
 -- a line whose plan is accepted
-Settles-plan : (z : Scene) (pieces : List Piece) (least : ℕ) (ls : List Numbered) (ss : List Settled) (at : Standing) (l : Numbered)
-    (name : List ℕ) (plan : Network) (bound : ℕ) → Settles z pieces least ls ss at
+Settles-plan : (z : Scene) (pieces : List Piece) (base : Standing) (ls : List Numbered) (ss : List Settled) (at : Standing) (l : Numbered)
+    (name : List ℕ) (plan : Network) (bound : ℕ) → Settles z pieces base ls ss at
     → l.line ≡ Plan name → IsAcceptedIn z.c name plan bound → IsPlan plan → IsSafeFor plan bound → IsTrue (same_nodes at.first plan)
     → role_of z.first l.line ≡ later name
-    → Settles z pieces least (ls ++ l ∷ []) (ss ++ prints (accepted_plan_line l.number (accepted at + 1) name bound) ∷ [])
+    → Settles z pieces base (ls ++ l ∷ []) (ss ++ prints (accepted_plan_line l.number (accepted at + 1) name bound) ∷ [])
     (record at { later = at.later ++ plan ∷ [] })
-Settles-plan z pieces least ls ss at l name plan bound h is_line accepted_in is_plan safe relays role = record {
+Settles-plan z pieces base ls ss at l name plan bound h is_line accepted_in is_plan safe relays role = record {
   first = h.first;
   same = Same-more ls ss l s h.same;
   each = each_more z ls ss (accepted at) (length (at.later ++ plan ∷ []) + 1) l s h.same (omega (arith, length_more at.later plan)) h.each
       (λ x e. not_routed (sym role ∙ e)) tt;
   plans = λ k p e. on k p (get_more at.later plan p k e);
+  states = h.states;
   more = omega (arith, h.more, length_more at.later plan);
   fit = fit_more z.c ls l h.fit (λ n e. subst (Fits z.c) (same_plan_name (sym is_line ∙ e))
       (accepted_in.octets, accepted_in.file, accepted_in.within, tt));
@@ -322,59 +325,59 @@ unnamed : (c : Contents) (first : Network) (l : Numbered) (r : Role) → role_of
 unnamed c first l r is never name e = absurd (never name (sym is ∙ ap (role_of first) e))
 
 judged_through : (ends : Status → List ℕ → Type 0) (reads fronts : List ℕ
-    → Type 0) (z : Scene) (pieces : List Piece) (least : ℕ) (ls : List Numbered) (ss : List Settled) (at : Standing) (l : Numbered)
+    → Type 0) (z : Scene) (pieces : List Piece) (base : Standing) (ls : List Numbered) (ss : List Settled) (at : Standing) (l : Numbered)
     (name : List ℕ) (acc : List ℕ)
-    (next : Standing → Settled → Work) → Settles z pieces least ls ss at → l.line ≡ Plan name → role_of z.first l.line ≡ later name
-    → ((at' : Standing) (s : Settled) → Settles z pieces least (ls ++ l ∷ []) (ss ++ s ∷ []) at'
+    (next : Standing → Settled → Work) → Settles z pieces base ls ss at → l.line ≡ Plan name → role_of z.first l.line ≡ later name
+    → ((at' : Standing) (s : Settled) → Settles z pieces base (ls ++ l ∷ []) (ss ++ s ∷ []) at'
     → Through ends reads fronts (Some z.c) (next at' s) acc)
     → (octets : List ℕ) → z.c name ≡ Some octets → length octets ≤ 1048576 → (plan : Network) → plan_of octets ≡ Ok plan
     → IsTrue (same_nodes at.first plan) → (v : Verdict) → IsJudged plan v
     → Through ends reads fronts (Some z.c) (judged_later at l.number name plan v next) acc
-judged_through ends reads fronts z pieces least ls ss at l name acc next h is_line role go octets there few plan reads_plan relays
+judged_through ends reads fronts z pieces base ls ss at l name acc next h is_line role go octets there few plan reads_plan relays
     (Accepted a) j =
     go (record at { later = at.later ++ plan ∷ [] }) (prints (accepted_plan_line l.number (accepted at + 1) name a.bound))
-    (Settles-plan z pieces least ls ss at l name plan a.bound h is_line
+    (Settles-plan z pieces base ls ss at l name plan a.bound h is_line
     (record { octets = octets; file = there; within = few; reads = reads_plan; safe = j.1.0; longest = a.longest; tight = j.1.1 })
     j.0 j.1.0 relays role)
-judged_through ends reads fronts z pieces least ls ss at l name acc next h is_line role go octets there few plan reads_plan relays
+judged_through ends reads fronts z pieces base ls ss at l name acc next h is_line role go octets there few plan reads_plan relays
     (Refused same witness) j =
     go at (prints (refused_plan_head l.number name ++ verdict_text plan (Refused same witness)))
-    (Settles-line z pieces least ls ss at l _ h (λ x e. other_role role e) tt (named_fits z.c l name is_line octets there few))
-judged_through ends reads fronts z pieces least ls ss at l name acc next h is_line role go octets there few plan reads_plan relays
+    (Settles-line z pieces base ls ss at l _ h (λ x e. other_role role e) tt (named_fits z.c l name is_line octets there few))
+judged_through ends reads fronts z pieces base ls ss at l name acc next h is_line role go octets there few plan reads_plan relays
     (TooWide same) j =
     go at (prints (refused_plan_head l.number name ++ verdict_text plan (TooWide same)))
-    (Settles-line z pieces least ls ss at l _ h (λ x e. other_role role e) tt (named_fits z.c l name is_line octets there few))
+    (Settles-line z pieces base ls ss at l _ h (λ x e. other_role role e) tt (named_fits z.c l name is_line octets there few))
 
 later_through : (ends : Status → List ℕ → Type 0) (reads fronts : List ℕ
-    → Type 0) (z : Scene) (pieces : List Piece) (least : ℕ) (ls : List Numbered) (ss : List Settled) (at : Standing) (l : Numbered)
+    → Type 0) (z : Scene) (pieces : List Piece) (base : Standing) (ls : List Numbered) (ss : List Settled) (at : Standing) (l : Numbered)
     (name : List ℕ) (acc : List ℕ)
-    (next : Standing → Settled → Work) → Settles z pieces least ls ss at → l.line ≡ Plan name → role_of z.first l.line ≡ later name
-    → ((at' : Standing) (s : Settled) → Settles z pieces least (ls ++ l ∷ []) (ss ++ s ∷ []) at'
+    (next : Standing → Settled → Work) → Settles z pieces base ls ss at → l.line ≡ Plan name → role_of z.first l.line ≡ later name
+    → ((at' : Standing) (s : Settled) → Settles z pieces base (ls ++ l ∷ []) (ss ++ s ∷ []) at'
     → Through ends reads fronts (Some z.c) (next at' s) acc)
     → (octets : List ℕ) → z.c name ≡ Some octets → length octets ≤ 1048576
     → Through ends reads fronts (Some z.c) (later_work at l.number name (plan_of octets) next) acc
-later_through ends reads fronts z pieces least ls ss at l name acc next h is_line role go octets there few = by (plan_of octets) refl where
+later_through ends reads fronts z pieces base ls ss at l name acc next h is_line role go octets there few = by (plan_of octets) refl where
   of : (b : Bool) (plan : Network) → same_nodes at.first plan ≡ b → plan_of octets ≡ Ok plan
       → Through ends reads fronts (Some z.c) (cond b (judge plan (λ v. judged_later at l.number name plan v next))
       (next at (prints (other_nodes_line l.number name)))) acc
-  of true plan e is = λ v j. judged_through ends reads fronts z pieces least ls ss at l name acc next h is_line role go octets there
+  of true plan e is = λ v j. judged_through ends reads fronts z pieces base ls ss at l name acc next h is_line role go octets there
       few plan is e v j
   of false plan e is = go at (prints (other_nodes_line l.number name))
-      (Settles-line z pieces least ls ss at l _ h (λ x f. other_role role f) tt (named_fits z.c l name is_line octets there few))
+      (Settles-line z pieces base ls ss at l _ h (λ x f. other_role role f) tt (named_fits z.c l name is_line octets there few))
 
   by : (r : Result Network PlanFault) → plan_of octets ≡ r → Through ends reads fronts (Some z.c) (later_work at l.number name r next) acc
   by (Err fault) e = go at (prints (bad_plan_line l.number name fault))
-      (Settles-line z pieces least ls ss at l _ h (λ x f. other_role role f) tt (named_fits z.c l name is_line octets there few))
+      (Settles-line z pieces base ls ss at l _ h (λ x f. other_role role f) tt (named_fits z.c l name is_line octets there few))
   by (Ok plan) e = of (same_nodes at.first plan) plan refl e
 
 line_through : (ends : Status → List ℕ → Type 0) (reads fronts : List ℕ
-    → Type 0) (z : Scene) (pieces : List Piece) (least : ℕ) (ls : List Numbered) (ss : List Settled) (at : Standing) (l : Numbered)
+    → Type 0) (z : Scene) (pieces : List Piece) (base : Standing) (ls : List Numbered) (ss : List Settled) (at : Standing) (l : Numbered)
     (acc : List ℕ)
-    (next : Standing → Settled → Work) → MayStop ends reads fronts z.c (l ∷ []) acc → Settles z pieces least ls ss at
-    → ((at' : Standing) (s : Settled) → Settles z pieces least (ls ++ l ∷ []) (ss ++ s ∷ []) at'
+    (next : Standing → Settled → Work) → MayStop ends reads fronts z.c (l ∷ []) acc → Settles z pieces base ls ss at
+    → ((at' : Standing) (s : Settled) → Settles z pieces base (ls ++ l ∷ []) (ss ++ s ∷ []) at'
     → Through ends reads fronts (Some z.c) (next at' s) acc)
     → Through ends reads fronts (Some z.c) (settle_line at l (role_of at.first l.line) next) acc
-line_through ends reads fronts z pieces least ls ss at l acc next stop h go = by (role_of at.first l.line) refl where
+line_through ends reads fronts z pieces base ls ss at l acc next stop h go = by (role_of at.first l.line) refl where
   named : (name : List ℕ) → role_of at.first l.line ≡ later name → l.line ≡ Plan name
   named name e = of_later at.first l.line name e
 
@@ -386,37 +389,37 @@ line_through ends reads fronts z pieces least ls ss at l acc next stop h go = by
         (octets, there, ltb-true 1048576 (length octets) e),
   )
   long false name octets e role there =
-      later_through ends reads fronts z pieces least ls ss at l name acc next h (named name role)
+      later_through ends reads fronts z pieces base ls ss at l name acc next h (named name role)
       (subst (λ n. role_of n l.line ≡ later name) h.first role) go octets there (ltb-false 1048576 (length octets) e)
 
   by : (r : Role) → role_of at.first l.line ≡ r → Through ends reads fronts (Some z.c) (settle_line at l r next) acc
   by (later name) e = (stop.0, λ octets there. long (ltb 1048576 (length octets)) name octets refl e there)
   by (routed x) e = go at (routes l.number x (accepted at))
-      (Settles-line z pieces least ls ss at l _ h (refl, subst (λ n. role_of n l.line ≡ routed x) h.first e) (omega arith, omega arith)
+      (Settles-line z pieces base ls ss at l _ h (refl, subst (λ n. role_of n l.line ≡ routed x) h.first e) (omega arith, omega arith)
       (unnamed z.c at.first l (routed x) e (λ n f. cc)))
   by aside e = go at (prints (event_text at.first l []))
-      (Settles-line z pieces least ls ss at l _ h (λ x f. aside_or (subst (λ n. role_of n l.line ≡ aside) h.first e) f) tt
+      (Settles-line z pieces base ls ss at l _ h (λ x f. aside_or (subst (λ n. role_of n l.line ≡ aside) h.first e) f) tt
       (unnamed z.c at.first l aside e (λ n f. cc)))
   by (alone d) e = go at (prints (event_text at.first l []))
-      (Settles-line z pieces least ls ss at l _ h (λ x f. alone_or (subst (λ n. role_of n l.line ≡ alone d) h.first e) f) tt
+      (Settles-line z pieces base ls ss at l _ h (λ x f. alone_or (subst (λ n. role_of n l.line ≡ alone d) h.first e) f) tt
       (unnamed z.c at.first l (alone d) e (λ n f. cc)))
 
 pub settle_through : (ends : Status → List ℕ → Type 0) (reads fronts : List ℕ
-    → Type 0) (z : Scene) (pieces : List Piece) (least : ℕ) (all : List Numbered) (acc : List ℕ)
+    → Type 0) (z : Scene) (pieces : List Piece) (base : Standing) (all : List Numbered) (acc : List ℕ)
     (next : Standing → List Settled → Work) → MayStop ends reads fronts z.c all acc
-    → ((at' : Standing) (ss' : List Settled) → Settles z pieces least all ss' at' → Through ends reads fronts (Some z.c) (next at' ss') acc)
-    → (lines : List Numbered) (ls : List Numbered) (ss : List Settled) (at : Standing) → ls ++ lines ≡ all → Settles z pieces least ls ss at
+    → ((at' : Standing) (ss' : List Settled) → Settles z pieces base all ss' at' → Through ends reads fronts (Some z.c) (next at' ss') acc)
+    → (lines : List Numbered) (ls : List Numbered) (ss : List Settled) (at : Standing) → ls ++ lines ≡ all → Settles z pieces base ls ss at
     → Through ends reads fronts (Some z.c) (settle at ss lines next) acc
 unfolding settle
-settle_through ends reads fronts z pieces least all acc next stop go [] ls ss at e h =
-    go at ss (subst (λ k. Settles z pieces least k ss at) (sym (append-nil ls) ∙ e) h)
-settle_through ends reads fronts z pieces least all acc next stop go (l ∷ lines) ls ss at e h =
-    line_through ends reads fronts z pieces least ls ss at l acc (λ at' s. settle at' (ss ++ s ∷ []) lines next) (
+settle_through ends reads fronts z pieces base all acc next stop go [] ls ss at e h =
+    go at ss (subst (λ k. Settles z pieces base k ss at) (sym (append-nil ls) ∙ e) h)
+settle_through ends reads fronts z pieces base all acc next stop go (l ∷ lines) ls ss at e h =
+    line_through ends reads fronts z pieces base ls ss at l acc (λ at' s. settle at' (ss ++ s ∷ []) lines next) (
       stop.0,
       stop.1,
       λ number name has long. stop.2 number name (subst (λ k. Contains k (record { number = number; line = Plan name }))
           (append_assoc ls (l ∷ []) lines ∙ e)
           (Contains-append_left (ls ++ l ∷ []) lines _ (Contains-append_right ls (l ∷ []) _ has))) long,
     ) h
-    (λ at' s h'. settle_through ends reads fronts z pieces least all acc next stop go lines (ls ++ l ∷ []) (ss ++ s ∷ []) at'
+    (λ at' s h'. settle_through ends reads fronts z pieces base all acc next stop go lines (ls ++ l ∷ []) (ss ++ s ∷ []) at'
     (append_assoc ls (l ∷ []) lines ∙ e) h')

@@ -14,10 +14,13 @@ use Rattle.relay_net.specs.Batches.{Incoming, applied_after}
 use Rattle.relay_net.specs.Headline.{IsCoveredMessage, GoesWell}
 use Rattle.relay_net.specs.Journeys.{journey}
 use Rattle.relay_net.specs.States.{State, Applied}
+use Rattle.relay_net.specs.declared.outcome.Outcome.{Outcome}
+use Rattle.relay_net.specs.declared.travelled.Journey.{Journey}
 use Rattle.sccp_report.specs.Roles.{routed, role_of}
 use Rattle.sccp_report.specs.Served.{served_text}
 use Rattle.trace_text.specs.declared.line.Numbered.{Numbered}
-use Rattle.sccp_replay.specs.Account.{Piece, TellsJourney, TellsLine}
+use Rattle.sccp_replay.specs.Account.{Piece, TellsLine, lines_of}
+use Rattle.sccp_replay.specs.Holding.{held_after}
 use Rattle.sccp_work.specs.Numbers.{AreNumbers}
 use Rattle.sccp_replay.specs.Replay.{Standing, Settled, prints, routes, accepted, accepted_before, plan_at, batch_of, journey_by, tell}
 use Rattle.sccp_replay.proofs.Settling.{Same, At, IsOf, InRange}
@@ -111,7 +114,7 @@ pieces_text at mk st (l ∷ ls) (routes line x before ∷ ss) (n ∷ ns) h e =
     ap (λ k. served_text at.first line n (journey_by at mk x n) (applied_after at.first st x (journey_by at mk x n)).outcomes ++ k)
     (pieces_text at mk (applied_after at.first st x (journey_by at mk x n)).states ls ss ns h e)
 
-here : {X : Type 0} (xs : List X) (x : X) → Contains (x ∷ xs) x
+pub here : {X : Type 0} (xs : List X) (x : X) → Contains (x ∷ xs) x
 here xs x = (0, omega arith, refl)
 
 there : {X : Type 0} (xs : List X) (y x : X) → Contains xs x → Contains (y ∷ xs) x
@@ -165,6 +168,41 @@ pub record Serves (published : ℕ → Network → ℕ → Type 0) (number : ℕ
   pub is_plan : IsPlan plan
   pub safe : IsSafeFor plan bound
 
+-- the text gives the journey of a message under a published plan and these markings
+pub record Travels (published : ℕ → Network → ℕ → Type 0) (first : Network) (markings : List (List Mark)) (line : ℕ) (x : Incoming)
+    (text : List ℕ) : Type 0 where
+  pub number : ℕ
+  pub plan : Network
+  pub bound : ℕ
+  pub is_published : published number plan bound
+  pub way : Journey
+  pub is_way : way ≡ journey plan markings x.entry x.origin x.octets
+  pub outcomes : List Outcome
+  pub told : text ≡ served_text first line number way outcomes
+  pub well : (m : Message) (s : Spot) → IsCoveredMessage plan bound x.entry x.octets m s
+      → GoesWell plan markings bound m s way.path way.end
+
+abbrev pub TellsUnder : (ℕ → Network → ℕ → Type 0) → Network → List (List Mark) → Piece → Type 0
+TellsUnder published first markings p =
+    (x : Incoming) → role_of first p.line.line ≡ routed x → Travels published first markings p.line.number x p.text
+
+-- these are what the relays held after the lines before it
+pub told_line : (published : ℕ → Network → ℕ → Type 0) (first : Network) (markings : List (List Mark)) (before : List Piece) (p : Piece)
+    → markings ≡ held_after first (lines_of before) → TellsUnder published first markings p → TellsLine published first before p
+told_line published first markings before p held h = λ x role. let t = h x role in record {
+  number = t.number;
+  plan = t.plan;
+  bound = t.bound;
+  is_published = t.is_published;
+  prohibited = markings;
+  held = held;
+  way = t.way;
+  is_way = t.is_way;
+  outcomes = t.outcomes;
+  told = t.told;
+  well = t.well;
+}
+
 -- the octets of a message that is routed are octets
 abbrev pub HasOctets : Network → Numbered → Type 0
 HasOctets first l = (x : Incoming) → role_of first l.line ≡ routed x → AreOctets x.octets
@@ -172,14 +210,13 @@ HasOctets first l = (x : Incoming) → role_of first l.line ≡ routed x → Are
 tells : (goes : Goes) (published : ℕ → Network → ℕ → Type 0) (first : Network) (at : Standing) (mk : List (List Mark)) (st : List State)
     (l : Numbered) (line : ℕ) (x : Incoming) (number : ℕ)
     → at.first ≡ first → line ≡ l.number → HasOctets first l → role_of first l.line ≡ routed x → Serves published number (plan_at at number)
-    → TellsJourney published first l.number x (served_text at.first line number (journey_by at mk x number)
+    → Travels published first mk l.number x (served_text at.first line number (journey_by at mk x number)
     (applied_after at.first st x (journey_by at mk x number)).outcomes)
 tells goes published first at mk st l line x number same is octets role s = record {
   number = number;
   plan = plan_at at number;
   bound = s.bound;
   is_published = s.is_published;
-  prohibited = mk;
   way = journey_by at mk x number;
   is_way = refl;
   outcomes = (applied_after at.first st x (journey_by at mk x number)).outcomes;
@@ -197,16 +234,16 @@ pub pieces_tell : (goes : Goes) (published : ℕ → Network → ℕ → Type 0)
     → ((number : ℕ) → Within most number → Serves published number (plan_at at number))
     → (st : List State) (ls : List Numbered) (ss : List Settled) (ns : List ℕ) → Enough ss ns → AllByRecursion (Within most) ns
     → ((l : Numbered) (s : Settled) → At ls ss l s → IsOf first l s) → AllByRecursion (HasOctets first) ls
-    → (p : Piece) → Contains (pieces_of at mk st ls ss ns) p → TellsLine published first p
+    → (p : Piece) → Contains (pieces_of at mk st ls ss ns) p → TellsUnder published first mk p
 unfolding pieces_of Enough
 pieces_tell goes published first at mk most same serves st [] ss ns e r is oct p c = absurd (omega (arith, c.1))
 pieces_tell goes published first at mk most same serves st (l ∷ ls) [] ns e r is oct p c = absurd (omega (arith, c.1))
 pieces_tell goes published first at mk most same serves st (l ∷ ls) (prints text ∷ ss) ns e r is oct p c =
     on (pieces_tell goes published first at mk most same serves st ls ss ns e r (λ k s a. is k s (inr a)) oct.1 p)
     (first_or (pieces_of at mk st ls ss ns) (piece_of l text) p c) where
-      on : (Contains (pieces_of at mk st ls ss ns) p → TellsLine published first p)
-          → (piece_of l text ≡ p) ⊎ Contains (pieces_of at mk st ls ss ns) p → TellsLine published first p
-      on more (inl h) = subst (TellsLine published first) h (λ x role. absurd (is l (prints text) (inl (refl, refl)) x role))
+      on : (Contains (pieces_of at mk st ls ss ns) p → TellsUnder published first mk p)
+          → (piece_of l text ≡ p) ⊎ Contains (pieces_of at mk st ls ss ns) p → TellsUnder published first mk p
+      on more (inl h) = subst (TellsUnder published first mk) h (λ x role. absurd (is l (prints text) (inl (refl, refl)) x role))
       on more (inr h) = more h
 pieces_tell goes published first at mk most same serves st (l ∷ ls) (routes line x before ∷ ss) [] e r is oct p c = absurd e
 pieces_tell goes published first at mk most same serves st (l ∷ ls) (routes line x before ∷ ss) (n ∷ ns) e r is oct p c =
@@ -218,12 +255,12 @@ pieces_tell goes published first at mk most same serves st (l ∷ ls) (routes li
       own : IsOf first l (routes line x before)
       own = is l (routes line x before) (inl (refl, refl))
 
-      on : (Contains (pieces_of at mk (applied_after at.first st x (journey_by at mk x n)).states ls ss ns) p → TellsLine published first p)
+      on : (Contains (pieces_of at mk (applied_after at.first st x (journey_by at mk x n)).states ls ss ns) p → TellsUnder published first mk p)
           → (piece_of l (served_text at.first line n (journey_by at mk x n) (applied_after at.first st x (journey_by at mk x n)).outcomes)
           ≡ p)
-          ⊎ Contains (pieces_of at mk (applied_after at.first st x (journey_by at mk x n)).states ls ss ns) p → TellsLine published first p
-      on more (inl h) = subst (TellsLine published first) h (λ y role.
-          subst (λ z. TellsJourney published first l.number z
+          ⊎ Contains (pieces_of at mk (applied_after at.first st x (journey_by at mk x n)).states ls ss ns) p → TellsUnder published first mk p
+      on more (inl h) = subst (TellsUnder published first mk) h (λ y role.
+          subst (λ z. Travels published first mk l.number z
           (served_text at.first line n (journey_by at mk x n) (applied_after at.first st x (journey_by at mk x n)).outcomes))
           (same_incoming (sym own.1 ∙ role))
           (tells goes published first at mk st l line x n same own.0 oct.0 own.1 (serves n r.0)))

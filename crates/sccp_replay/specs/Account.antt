@@ -1,5 +1,5 @@
 -- What a replay prints, line by line, and the journey of each message.
-use Rattle.std.specs.Prelude.{◌≡◌, ◌⊎◌, ℕ, ◌≤◌, List, [], ◌++◌, length, take, map, codes, Some, Ok, IsTrue, IsSomeAnd}
+use Rattle.std.specs.Prelude.{◌≡◌, ◌⊎◌, ℕ, ◌≤◌, List, [], ◌∷◌, ◌++◌, length, take, map, codes, Some, Ok, IsTrue, IsSomeAnd}
 use Rattle.std.specs.Io.{StartsWith}
 use Rattle.std.specs.List.{Contains, flat_map}
 use Rattle.sccp_base.specs.declared.mark.Mark.{Mark}
@@ -22,6 +22,7 @@ use Rattle.relay_net.specs.declared.travelled.Journey.{Journey}
 use Rattle.trace_text.specs.declared.line.Line.{Line}
 use Rattle.trace_text.specs.declared.line.Line.TheVariants.{Plan}
 use Rattle.trace_text.specs.declared.line.Numbered.{Numbered}
+use Rattle.sccp_replay.specs.Holding.{held_after}
 use Rattle.sccp_replay.specs.LaterPlans.{first_plan_line, accepted_plan_line}
 use Rattle.sccp_work.specs.LineFault.{bad_line}
 use Rattle.sccp_replay.specs.Replay.{end_line}
@@ -48,6 +49,9 @@ pub record Piece : Type 0 where
 abbrev pub piece : ℕ → Line → List ℕ → Piece
 piece number line text = record { line = record { number = number; line = line }; text = text }
 
+abbrev pub lines_of : List Piece → List Numbered
+lines_of pieces = map (λ p. p.line) pieces
+
 -- A plan of the first one's relays, whose file a line of the trace names. That line's text says that it was accepted under
 -- this number.
 pub record IsLaterPlan (c : Contents) (first : Network) (pieces : List Piece) (number : ℕ) (plan : Network) (bound : ℕ) : Type 0 where
@@ -62,14 +66,17 @@ abbrev pub IsPublished : Contents → Network → ℕ → List Piece → ℕ →
 IsPublished c first bound pieces number plan bound' =
     ((number ≡ 1) × (plan ≡ first) × (bound' ≡ bound)) ⊎ IsLaterPlan c first pieces number plan bound'
 
--- What is printed of a message that is routed: its whole journey was under one published plan. If that plan covers the
--- message, with room and a hop counter above the plan's bound, then it went well, whatever the relays held prohibited.
-pub record TellsJourney (published : ℕ → Network → ℕ → Type 0) (first : Network) (line : ℕ) (x : Incoming) (text : List ℕ) : Type 0 where
+-- What is printed of a message that is routed: its whole journey was under one published plan and what the relays held prohibited
+-- after the lines before it. If that plan covers the message, with room and a hop counter above the plan's bound, then it went
+-- well, whatever the relays held prohibited.
+pub record TellsJourney (published : ℕ → Network → ℕ → Type 0) (first : Network) (before : List Numbered) (line : ℕ) (x : Incoming)
+    (text : List ℕ) : Type 0 where
   pub number : ℕ
   pub plan : Network
   pub bound : ℕ
   pub is_published : published number plan bound
   pub prohibited : List (List Mark)
+  pub held : prohibited ≡ held_after first before
   pub way : Journey
   pub is_way : way ≡ journey plan prohibited x.entry x.origin x.octets
   pub outcomes : List Outcome
@@ -78,8 +85,9 @@ pub record TellsJourney (published : ℕ → Network → ℕ → Type 0) (first 
       → GoesWell plan prohibited bound m s way.path way.end
 
 -- if the line is a message that is routed, its text gives its journey
-abbrev pub TellsLine : (ℕ → Network → ℕ → Type 0) → Network → Piece → Type 0
-TellsLine published first p = (x : Incoming) → role_of first p.line.line ≡ routed x → TellsJourney published first p.line.number x p.text
+abbrev pub TellsLine : (ℕ → Network → ℕ → Type 0) → Network → List Piece → Piece → Type 0
+TellsLine published first before p =
+    (x : Incoming) → role_of first p.line.line ≡ routed x → TellsJourney published first (lines_of before) p.line.number x p.text
 
 -- a line on the first plan, then what there is to print of each of these lines of the trace, and a last line
 pub record Account (c : Contents) (plan_name : List ℕ) (lines : List Numbered) (last text : List ℕ) : Type 0 where
@@ -87,8 +95,9 @@ pub record Account (c : Contents) (plan_name : List ℕ) (lines : List Numbered)
   pub bound : ℕ
   pub accepted : IsAcceptedIn c plan_name first bound
   pub pieces : List Piece
-  pub of_lines : map (λ p. p.line) pieces ≡ lines
-  pub each : (p : Piece) → Contains pieces p → TellsLine (IsPublished c first bound pieces) first p
+  pub of_lines : lines_of pieces ≡ lines
+  pub each : (before : List Piece) (p : Piece) (after : List Piece) → pieces ≡ before ++ p ∷ after
+      → TellsLine (IsPublished c first bound pieces) first before p
   pub whole : text ≡ first_plan_line plan_name bound ++ (flat_map (λ p. p.text) pieces ++ last)
 
 -- the last line under an answer; under Done and BadTrace all lines are printed
