@@ -15,7 +15,6 @@ use Rattle.sccp_segment.specs.declared.arrival.Arrival.{Arrival}
 use Rattle.sccp_segment.specs.Segments.{arrival_of}
 use Rattle.plan_model.specs.Network.{Network}
 use Rattle.relay_net.specs.Batches.{Incoming, Due, due, due_after, ssn_in, applied_if_due, applied_after}
-use Rattle.relay_net.specs.Journeys.{last_node}
 use Rattle.relay_net.specs.States.{State, applied_at, after_delivered, happened, markings_of}
 use Rattle.relay_net.specs.declared.end.End.{End}
 use Rattle.relay_net.specs.declared.end.End.TheVariants.{Ended, Local, Returned, Connection, Management as ForManagement, Undecodable, Cut}
@@ -24,7 +23,7 @@ use Rattle.relay_net.specs.declared.happening.Happening.TheVariants.{Managed, Co
 use Rattle.relay_net.specs.declared.travelled.Journey.{Journey}
 use Rattle.sccp_report.specs.Roles.{Role, routed, later, aside, alone, role_of}
 use Rattle.trace_text.specs.declared.line.Numbered.{Numbered}
-use Rattle.sccp_replay.specs.Holding.{managers_of, managed_at, after_happening, after_role, after_line, managers_after, held_after}
+use Rattle.sccp_replay.specs.Holding.{managers_of, after_happening, after_role, after_line, managers_after}
 use Rattle.sccp_replay.specs.Replay.{Standing, Settled, prints, routes, journey_by, tell, latest, done_alone}
 
 -- ---- lists

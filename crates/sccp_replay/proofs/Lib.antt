@@ -1,10 +1,12 @@
 -- The lemmas of this crate, one file a subject.
 mod Accounting
+mod BatchRuns
 mod BatchSteps
 mod CrewSteps
 mod Fed
 mod Gathering
 mod Holding
+mod Parts
 mod LaterSteps
 pub mod ReplayAnswers
 pub mod ReplayCauses
@@ -14,6 +16,7 @@ mod ReplayerLemmas
 mod SettleSteps
 mod Settling
 mod Skipping
+mod SoFar
 mod Streaming
 mod TakeSteps
 mod TellSteps

@@ -1,5 +1,6 @@
 -- The definitions of this crate, one file a subject.
 pub mod Account
+pub mod BatchEnds
 pub mod Gathering
 pub mod Holding
 pub mod Incoming
