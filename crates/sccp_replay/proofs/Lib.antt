@@ -4,10 +4,11 @@ mod BatchRuns
 mod BatchSteps
 mod CrewSteps
 mod Fed
+mod Fences
 mod Gathering
 mod Holding
-mod Parts
 mod LaterSteps
+mod Parts
 pub mod ReplayAnswers
 pub mod ReplayCauses
 pub mod ReplayFiles
