@@ -3,6 +3,7 @@ mod Accounting
 mod BatchRuns
 mod BatchSteps
 mod CrewSteps
+mod Examples
 mod Fed
 mod Fences
 mod Gathering
