@@ -62,7 +62,8 @@ batch_through ends reads fronts goes z lines ls pieces at acc next stop h oct jo
     (told_at at' settled numbers).text)) stop
     (λ at' es entries s ns are.
     let b = batch_done goes z lines ls pieces at at' es ns (is_done z lines ls pieces at at' es ns h entries s are oct joins run) in
-    subst (λ t. Through ends reads fronts (Some z.c) (next (record at' { states = (told_at at' (settled_of es) ns).states }) t) acc) (sym b.1)
+    subst (λ t. Through ends reads fronts (Some z.c) (next (record at' { states = (told_at at' (settled_of es) ns).states }) t) acc)
+    (sym b.1)
     (go (record at' { states = (told_at at' (settled_of es) ns).states }) (batch_pieces at' es ns) b.0))
     ls [] at refl (Settles-none z at h.first)
 
@@ -399,7 +400,8 @@ last_follows goes z fault f batch done pieces at acc h is e oct joins begun = (
             (subst (λ n. IsLastLine z.c z.trace_name (take n (lines_in z.c z.trace_name)) closing.1 closing.0) (sym count)
             (closing_so z fault f)) starts),
         closing_told z fault (acc ++ (texts more ++ closing.1)) f (subst (LaterPlansFit z.c) (append-nil' ∙ sym all) h'.fit)
-            (subst (λ n. Account z.c z.first.name z.workers (take n (lines_in z.c z.trace_name)) closing.1 (acc ++ (texts more ++ closing.1))) count
+            (subst (λ n. Account z.c z.first.name z.workers (take n (lines_in z.c z.trace_name)) closing.1
+            (acc ++ (texts more ++ closing.1))) count
             (account_of z (done ++ batch) [] (pieces ++ more) at' closing.1 (acc ++ (texts more ++ closing.1)) h' all
             (behind_last z (pieces ++ more) acc (texts more) closing.1 is'))),
       )

@@ -19,7 +19,8 @@ use Rattle.sccp_report.specs.Served.{served_text}
 use Rattle.trace_text.specs.declared.line.Numbered.{Numbered}
 use Rattle.sccp_replay.specs.Fences.{HasFence, IsFenced, HasFences}
 use Rattle.sccp_replay.specs.LaterPlans.{first_plan_line, other_nodes_line}
-use Rattle.sccp_replay.specs.Replay.{Standing, Settled, prints, routes, accepted, accepted_before, batch_of, settle, settle_line, later_work}
+use Rattle.sccp_replay.specs.Replay.{Standing, Settled, prints, routes, accepted, accepted_before, batch_of, settle, settle_line}
+use Rattle.sccp_replay.specs.Replay.{later_work}
 use Rattle.sccp_replay.specs.Replay.{judged_later, after_text, journey_by, tell, told_at, batch_work, is_full, done_alone, alone_work}
 use Rattle.sccp_replay.specs.Replay.{batch_printed, gathered, line_work, lines_work, closing_of, start, replayed}
 use Rattle.sccp_replay.specs.Replay.{replay_work}
@@ -187,7 +188,8 @@ later_within : (k : Option Contents) (K : Standing → Settled → Type 0) (at :
     → IsWithin k (later_work at line name r next) (later_work (one at) line name r next')
 later_within k K at line name (Err fault) next next' text plans go = go at _ (text _)
 later_within k K at line name (Ok plan) next next' text plans go = by (same_nodes at.first plan) where
-  by : (b : Bool) → IsWithin k (cond b (judge plan (λ v. judged_later at line name plan v next)) (next at (prints (other_nodes_line line name))))
+  by : (b : Bool) → IsWithin k (cond b (judge plan (λ v. judged_later at line name plan v next))
+      (next at (prints (other_nodes_line line name))))
       (cond b (judge plan (λ v. judged_later (one at) line name plan v next')) (next' (one at) (prints (other_nodes_line line name))))
   by true = in_ask k _ _ _ (λ v j. judged_within k K at line name plan v next next' text plans go)
   by false = go at _ (text _)
@@ -198,9 +200,11 @@ line_within : (k : Option Contents) (K : Standing → Settled → Type 0) (at : 
     → ((name : List ℕ) → r ≡ later name → (p : Network) (text : List ℕ) → K (record at { later = at.later ++ p ∷ [] }) (prints text))
     → ((at' : Standing) (s : Settled) → K at' s → IsWithin k (next at' s) (next' (one at') s))
     → IsWithin k (settle_line at l r next) (settle_line (one at) l r next')
-line_within k K at l (later name) next next' text sent plans go = in_read k name _ _ (λ octets there. by (ltb 1048576 (length octets)) octets)
+line_within k K at l (later name) next next' text sent plans go =
+    in_read k name _ _ (λ octets there. by (ltb 1048576 (length octets)) octets)
   where
-    by : (b : Bool) (octets : List ℕ) → IsWithin k (cond b (answered (TooLong, too_long)) (later_work at l.number name (plan_of octets) next))
+    by : (b : Bool) (octets : List ℕ)
+        → IsWithin k (cond b (answered (TooLong, too_long)) (later_work at l.number name (plan_of octets) next))
         (cond b (answered (TooLong, too_long)) (later_work (one at) l.number name (plan_of octets) next'))
     by true octets = itself k (answered (TooLong, too_long))
     by false octets = later_within k K at l.number name (plan_of octets) next next' text (plans name refl) go
@@ -409,8 +413,10 @@ judged_first c plan trace workers first fenced (verdicts.Accepted a) = in_print 
     let same : lines_in c trace ≡ t.lines = ap (λ o. option_map_or (λ text. (trace_of text).lines) o []) there in
     lines_within (Some c) first (closing_of (length t.lines) t.fault) t.lines (subst (IsFenced first) same fenced) t.lines [] []
     (start workers first) refl refl tt (inl tt)))
-judged_first c plan trace workers first fenced (verdicts.Refused same w) = itself (Some c) (replayed plan trace 1 first (verdicts.Refused same w))
-judged_first c plan trace workers first fenced (verdicts.TooWide same) = itself (Some c) (replayed plan trace 1 first (verdicts.TooWide same))
+judged_first c plan trace workers first fenced (verdicts.Refused same w) =
+    itself (Some c) (replayed plan trace 1 first (verdicts.Refused same w))
+judged_first c plan trace workers first fenced (verdicts.TooWide same) =
+    itself (Some c) (replayed plan trace 1 first (verdicts.TooWide same))
 
 plan_within : (c : Contents) (plan trace : List ℕ) (workers : ℕ) (r : Result Network PlanFault)
     → ((first : Network) → r ≡ Ok first → IsFenced first (lines_in c trace))
@@ -425,7 +431,8 @@ replay_within : (c : Contents) (plan trace : List ℕ) (workers : ℕ) → HasFe
 unfolding replay_work
 replay_within c plan trace workers fenced = in_read (Some c) plan _ _ (λ octets there. by (ltb 1048576 (length octets)) octets there) where
   by : (b : Bool) (octets : List ℕ) → c plan ≡ Some octets
-      → IsWithin (Some c) (cond b (answered (TooLong, too_long)) (planned (plan_of octets) (λ first. judge first (replayed plan trace workers first))))
+      → IsWithin (Some c) (cond b (answered (TooLong, too_long))
+      (planned (plan_of octets) (λ first. judge first (replayed plan trace workers first))))
       (cond b (answered (TooLong, too_long)) (planned (plan_of octets) (λ first. judge first (replayed plan trace 1 first))))
   by true octets there = itself (Some c) (answered (TooLong, too_long))
   by false octets there = plan_within c plan trace workers (plan_of octets) (λ first is. fenced octets first there is)
@@ -452,5 +459,7 @@ answers_within w v OtherNodes text b a i h = i.ends OtherNodes text h
 
 pub as_by_one : (c : Contents) (plan trace : List ℕ) (workers : ℕ) (s : Status) (text : List ℕ) (b a : Moment) → b.contents ≡ Some c
     → HasFences c plan trace → Answers (replay_work plan trace workers) s text b a → Answers (replay_work plan trace 1) s text b a
-as_by_one c plan trace workers s text b a is fenced h = answers_within (replay_work plan trace workers) (replay_work plan trace 1) s text b a
-    (subst (λ k. IsWithin k (replay_work plan trace workers) (replay_work plan trace 1)) (sym is) (replay_within c plan trace workers fenced)) h
+as_by_one c plan trace workers s text b a is fenced h = answers_within (replay_work plan trace workers)
+    (replay_work plan trace 1) s text b a
+    (subst (λ k. IsWithin k (replay_work plan trace workers) (replay_work plan trace 1)) (sym is)
+    (replay_within c plan trace workers fenced)) h

@@ -65,7 +65,8 @@ delivered_stays s (Some a) = refl
 changes : (plan : Network) (states : List State) (node : ℕ) (what : Happening) (o : Option State) → slice_get states node ≡ o
     → managers_of (applied_at plan states node what o).states ≡ after_happening (managers_of states) node what
 changes plan states node (Managed event) None e =
-    sym (ap (λ o. option_map_or (λ m. slice_set (managers_of states) node (managed m event)) o (managers_of states)) (got states node None e))
+    sym (ap (λ o. option_map_or (λ m. slice_set (managers_of states) node (managed m event)) o (managers_of states))
+    (got states node None e))
 changes plan states node (Managed event) (Some s) e =
     map-set (λ s. s.manager) states node (happened plan node s (Managed event)).state
     ∙ sym (ap (λ o. option_map_or (λ m. slice_set (managers_of states) node (managed m event)) o (managers_of states))

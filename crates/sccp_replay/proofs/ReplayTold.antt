@@ -173,7 +173,12 @@ begins_so z s acc told e = by s e told.so where
   by WriteFault (inr e) so = cc
 
 accepted_plan : (z : Scene) → HasPlan (Some z.c) z.first.name IsSafe
-accepted_plan z = (z.accepted.octets, z.accepted.file, z.accepted.within, (z.first.plan, z.accepted.reads, (z.first.bound, z.accepted.safe)))
+accepted_plan z = (
+  z.accepted.octets,
+  z.accepted.file,
+  z.accepted.within,
+  (z.first.plan, z.accepted.reads, (z.first.bound, z.accepted.safe)),
+)
 
 why : (z : Scene) (octets : List ℕ) → z.c z.trace_name ≡ Some octets → (s : Status) → accounts.TraceEnds z s
     → ReplayCause z.c z.first.name z.trace_name s
@@ -207,7 +212,8 @@ traced : (goes : Goes) (z : Scene) → ((octets : List ℕ) → z.c z.trace_name
     → AllByRecursion (HasOctets z.first.plan) (trace_of octets).lines)
     → Through (EndsAny z.c z.first.name z.trace_name z.workers) (ReadsAny z.c z.first.name z.trace_name z.workers)
     (FrontsAny z.c z.first.name z.trace_name z.workers) (Some z.c)
-    (print (first_plan_line z.first.name z.first.bound) (read z.trace_name (λ octets. trace_work (start z.workers z.first.plan) (trace_of octets)))) []
+    (print (first_plan_line z.first.name z.first.bound) (read z.trace_name
+    (λ octets. trace_work (start z.workers z.first.plan) (trace_of octets)))) []
 traced goes z oct = (
   (λ front starts is. accounts.front_first z front starts),
   (inr (0, accounts.account_first z), λ octets there. behind octets there),
@@ -239,7 +245,8 @@ traced goes z oct = (
       (λ acc r. inr (r.count, r.account))
       (λ acc told is. told)
       (trace_work (start z.workers z.first.plan) (trace_of octets)) (first_plan_line z.first.name z.first.bound)
-      (subst (λ n. Through (accounts.Ends z) (accounts.Reads z) (λ acc. IsTold z.c z.first.name z.trace_name z.workers WriteFault acc) (Some z.c)
+      (subst (λ n. Through (accounts.Ends z) (accounts.Reads z) (λ acc. IsTold z.c z.first.name z.trace_name z.workers WriteFault acc)
+      (Some z.c)
       (lines_work (closing_of n (trace_of octets).fault) (start z.workers z.first.plan) [] (trace_of octets).lines)
       (first_plan_line z.first.name z.first.bound)) (ap length lines) all)
 
@@ -248,7 +255,8 @@ on_verdict : (goes : Goes) (c : Contents) (plan trace : List ℕ) (workers : ℕ
     → ((first : Network) (octets : List ℕ) → c trace ≡ Some octets → AllByRecursion (HasOctets first) (trace_of octets).lines)
     → (octets : List ℕ) → c plan ≡ Some octets → length octets ≤ 1048576 → (first : Network) → plan_of octets ≡ Ok first → (v : Verdict)
     → IsJudged first v
-    → Through (EndsAny c plan trace workers) (ReadsAny c plan trace workers) (FrontsAny c plan trace workers) (Some c) (replayed plan trace workers first v)
+    → Through (EndsAny c plan trace workers) (ReadsAny c plan trace workers) (FrontsAny c plan trace workers) (Some c)
+    (replayed plan trace workers first v)
     []
 on_verdict goes c plan trace workers oct octets file few first is (verdicts.Accepted a) j =
     traced goes (record {
@@ -280,7 +288,8 @@ on_plan goes c plan trace workers oct octets file few (Err fault) is = other_ans
 
 replay_through : (goes : Goes) (c : Contents) (plan trace : List ℕ) (workers : ℕ)
     → ((first : Network) (octets : List ℕ) → c trace ≡ Some octets → AllByRecursion (HasOctets first) (trace_of octets).lines)
-    → Through (EndsAny c plan trace workers) (ReadsAny c plan trace workers) (FrontsAny c plan trace workers) (Some c) (replay_work plan trace workers) []
+    → Through (EndsAny c plan trace workers) (ReadsAny c plan trace workers) (FrontsAny c plan trace workers) (Some c)
+    (replay_work plan trace workers) []
 unfolding replay_work
 replay_through goes c plan trace workers oct = (inl refl, λ octets file. by octets file (ltb 1048576 (length octets)) refl) where
   by : (octets : List ℕ) → c plan ≡ Some octets → (b : Bool) → ltb 1048576 (length octets) ≡ b
@@ -330,7 +339,8 @@ faulted c plan trace workers written (inr r) = record {
 }
 
 -- a front of what was written before a reading and of the line on the fault
-cut_faulted : (c : Contents) (plan trace : List ℕ) (workers : ℕ) (written front : List ℕ) → ReadsAny c plan trace workers written → StartsWith read_fault front
+cut_faulted : (c : Contents) (plan trace : List ℕ) (workers : ℕ) (written front : List ℕ) → ReadsAny c plan trace workers written
+    → StartsWith read_fault front
     → FrontsAny c plan trace workers (written ++ front)
 cut_faulted c plan trace workers written front (inl e) starts is =
     absurd (read_fault_other front starts (subst (λ w. StartsWith (w ++ front) (codes "plan 1 ")) e is))
@@ -350,22 +360,27 @@ none_begun c plan trace workers = λ is. absurd (nothing is) where
 front_so : (c : Contents) (plan trace : List ℕ) (workers : ℕ) (work : Work) (text : List ℕ)
     → Through (EndsAny c plan trace workers) (ReadsAny c plan trace workers) (FrontsAny c plan trace workers) (Some c) work []
     → BeginsWith (Some c) work text → FrontsAny c plan trace workers text
-front_so c plan trace workers work text h e = fronts_of (EndsAny c plan trace workers) (ReadsAny c plan trace workers) (FrontsAny c plan trace workers)
+front_so c plan trace workers work text h e = fronts_of (EndsAny c plan trace workers) (ReadsAny c plan trace workers)
+    (FrontsAny c plan trace workers)
     (Some c) work [] text (none_begun c plan trace workers) h e
 
 reads_so : (c : Contents) (plan trace : List ℕ) (workers : ℕ) (work : Work) (text : List ℕ)
     → Through (EndsAny c plan trace workers) (ReadsAny c plan trace workers) (FrontsAny c plan trace workers) (Some c) work []
     → ComesToReading (Some c) work text → ReadsAny c plan trace workers text
-reads_so c plan trace workers work text h e = reads_of (EndsAny c plan trace workers) (ReadsAny c plan trace workers) (FrontsAny c plan trace workers)
+reads_so c plan trace workers work text h e = reads_of (EndsAny c plan trace workers) (ReadsAny c plan trace workers)
+    (FrontsAny c plan trace workers)
     (Some c) work [] text h e
 
 ends_so : (c : Contents) (plan trace : List ℕ) (workers : ℕ) (work : Work) (s : Status) (text : List ℕ)
-    → Through (EndsAny c plan trace workers) (ReadsAny c plan trace workers) (FrontsAny c plan trace workers) (Some c) work [] → Ends (Some c) work s text
+    → Through (EndsAny c plan trace workers) (ReadsAny c plan trace workers) (FrontsAny c plan trace workers) (Some c) work []
+    → Ends (Some c) work s text
     → EndsAny c plan trace workers s text
-ends_so c plan trace workers work s text h e = ends_of (EndsAny c plan trace workers) (ReadsAny c plan trace workers) (FrontsAny c plan trace workers)
+ends_so c plan trace workers work s text h e = ends_of (EndsAny c plan trace workers) (ReadsAny c plan trace workers)
+    (FrontsAny c plan trace workers)
     (Some c) work [] text s h e
 
-front_of_fault : (c : Contents) (plan trace : List ℕ) (workers : ℕ) (text written front : List ℕ) → ReadsAny c plan trace workers written → StartsWith read_fault front
+front_of_fault : (c : Contents) (plan trace : List ℕ) (workers : ℕ) (text written front : List ℕ) → ReadsAny c plan trace workers written
+    → StartsWith read_fault front
     → text ≡ written ++ front → FrontsAny c plan trace workers text
 front_of_fault c plan trace workers text written front r starts same =
     subst (FrontsAny c plan trace workers) (sym same) (cut_faulted c plan trace workers written front r starts)
@@ -385,7 +400,8 @@ as_wanting c plan trace workers text t = record { count = t.count; last = t.last
 
 pub told_so : (c : Contents) (plan trace : List ℕ) (workers : ℕ) (work : Work) (s : Status) (text : List ℕ) (b a : Moment)
     → b.contents ≡ Some c
-    → Through (EndsAny c plan trace workers) (ReadsAny c plan trace workers) (FrontsAny c plan trace workers) (Some c) work [] → Answers work s text b a
+    → Through (EndsAny c plan trace workers) (ReadsAny c plan trace workers) (FrontsAny c plan trace workers) (Some c) work []
+    → Answers work s text b a
     → TellsReplay c plan trace workers s text
 told_so c plan trace workers work WriteFault text b a is h e =
     record { told = cut_short c plan trace workers work text b a is h e.1; begins = λ f. absurd (neither (λ g. cc) (λ g. cc) f) }

@@ -296,7 +296,8 @@ later_through ends reads fronts z base es at l name acc next h is_line role go o
   of false plan e is = go at (prints (other_nodes_line l.number name)) None
       (Settles-line z base es at l _ h (
         (λ x f. other_role role f),
-        not_accepted z l name _ octets is_line there (subst (λ r. TellsRefusal z.first.plan l.number name r (other_nodes_line l.number name))
+        not_accepted z l name _ octets is_line there (subst
+            (λ r. TellsRefusal z.first.plan l.number name r (other_nodes_line l.number name))
             (sym is) (inl (subst (λ n. same_nodes n plan ≡ false) h.first e, refl))),
       ) (named_fits z.c l name is_line octets there few))
 

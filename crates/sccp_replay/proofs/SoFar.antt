@@ -1,5 +1,6 @@
 -- What was printed up to the end of a batch.
-use Rattle.std.proofs.Common.{◌≡◌, ◌⊎◌, ◌+◌, ◌-◌, ◌<◌, ◌≤◌, ℕ, List, [], ◌∷◌, ◌++◌, length, map, Option, Some, None, refl, sym, ◌∙◌, ap, subst}
+use Rattle.std.proofs.Common.{◌≡◌, ◌⊎◌, ◌+◌, ◌-◌, ◌<◌, ◌≤◌, ℕ, List, [], ◌∷◌, ◌++◌, length, map, Option, Some, None, refl, sym, ◌∙◌, ap}
+use Rattle.std.proofs.Common.{subst}
 use Rattle.std.proofs.Common.{append_assoc, append-nil, arith, inl, inr}
 use Rattle.std.specs.Prelude.{slice_get, unwrap_or}
 use Rattle.std.specs.Option.{option_map}
@@ -387,7 +388,8 @@ message_told goes z lines ls pieces at at' es ns d later sound b p a e (routes k
           ∙ map-append (λ q. q.line) b (p ∷ a)
 
       own : AllByRecursion (HasOctets z.first.plan) (lines_of (p ∷ a))
-      own = all_back (HasOctets z.first.plan) (lines_of b) (lines_of (p ∷ a)) (subst (AllByRecursion (HasOctets z.first.plan)) of_lines d.octets)
+      own = all_back (HasOctets z.first.plan) (lines_of b) (lines_of (p ∷ a))
+          (subst (AllByRecursion (HasOctets z.first.plan)) of_lines d.octets)
 
       joins : AllByRecursion (Joins z.first.plan) (lines_of b)
       joins = all_front (Joins z.first.plan) (lines_of b) (lines_of (p ∷ a)) (subst (AllByRecursion (Joins z.first.plan)) of_lines d.joins)
@@ -406,7 +408,8 @@ batch_done goes z lines ls pieces at at' es ns d =
     let plans : later_plans more ≡ plans_in es = pieces_plans at' mk at'.states es ns in
     let later : at'.later ≡ at.later ++ map plan_in (later_plans more) = d.settles.later
     ∙ ap (λ ps. at.later ++ map plan_in ps) (sym plans) in
-    let sound : AllByRecursion IsSound (later_plans more) = subst (AllByRecursion IsSound) (sym plans) (plans_sound z at es at' d.settles) in
+    let sound : AllByRecursion IsSound (later_plans more) =
+    subst (AllByRecursion IsSound) (sym plans) (plans_sound z at es at' d.settles) in
     let later_all : at'.later ≡ map plan_in (later_plans (pieces ++ more)) = later
     ∙ ap (λ ps. ps ++ map plan_in (later_plans more)) d.before.later ∙ sym (map-append plan_in (later_plans pieces) (later_plans more))
     ∙ ap (map plan_in) (sym (filter_map-append (λ p. p.accepted) pieces more)) in

@@ -99,7 +99,8 @@ pub pieces_lines : (at : Standing) (mk : List (List Mark)) (st : List State) (es
     → lines_of (pieces_of at mk st es ns) ≡ entry_lines es
 unfolding pieces_of
 pieces_lines at mk st [] ns = refl
-pieces_lines at mk st (e ∷ es) ns = ap (λ ls. e.line ∷ ls) (pieces_lines at mk (states_by at mk st e.settled ns) es (left_after e.settled ns))
+pieces_lines at mk st (e ∷ es) ns = ap (λ ls. e.line ∷ ls)
+    (pieces_lines at mk (states_by at mk st e.settled ns) es (left_after e.settled ns))
 
 pub pieces_plans : (at : Standing) (mk : List (List Mark)) (st : List State) (es : List Entry) (ns : List ℕ)
     → filter_map (λ p. p.accepted) (pieces_of at mk st es ns) ≡ plans_in es
@@ -143,7 +144,8 @@ told_as least most workers at mk st (routes line x before) (n ∷ ns) h =
     (n, h, (applied_after at.first st x (journey_by at mk x n)).outcomes, refl)
 
 -- a piece is that of an entry at the same place
-pub record IsOfEntry (least most workers : ℕ) (at : Standing) (mk : List (List Mark)) (es : List Entry) (bp : List Piece) (p : Piece) : Type 0
+pub record IsOfEntry (least most workers : ℕ) (at : Standing) (mk : List (List Mark)) (es : List Entry) (bp : List Piece)
+    (p : Piece) : Type 0
   where
     pub before : List Entry
     pub entry : Entry
@@ -172,7 +174,8 @@ entry_of least most workers at mk st (e ∷ es) ns h [] p after is =
       told = subst (λ q. IsToldAs least most workers at mk q.text e.settled) same (told_as least most workers at mk st e.settled ns h.0);
     }
 entry_of least most workers at mk st (e ∷ es) ns h (b ∷ bp) p after is =
-    let r = entry_of least most workers at mk (states_by at mk st e.settled ns) es (left_after e.settled ns) h.1 bp p after (same_tail is) in
+    let r = entry_of least most workers at mk (states_by at mk st e.settled ns) es (left_after e.settled ns) h.1 bp p after
+    (same_tail is) in
     record {
       before = e ∷ r.before;
       entry = r.entry;
