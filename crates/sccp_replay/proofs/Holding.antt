@@ -15,7 +15,6 @@ use Rattle.sccp_segment.specs.declared.arrival.Arrival.{Arrival}
 use Rattle.sccp_segment.specs.Segments.{arrival_of}
 use Rattle.plan_model.specs.Network.{Network}
 use Rattle.relay_net.specs.Batches.{Incoming, Due, due, due_after, ssn_in, applied_if_due, applied_after}
-use Rattle.relay_net.specs.Journeys.{last_node}
 use Rattle.relay_net.specs.States.{State, applied_at, after_delivered, happened, markings_of}
 use Rattle.relay_net.specs.declared.end.End.{End}
 use Rattle.relay_net.specs.declared.end.End.TheVariants.{Ended, Local, Returned, Connection, Management as ForManagement, Undecodable, Cut}
@@ -24,7 +23,7 @@ use Rattle.relay_net.specs.declared.happening.Happening.TheVariants.{Managed, Co
 use Rattle.relay_net.specs.declared.travelled.Journey.{Journey}
 use Rattle.sccp_report.specs.Roles.{Role, routed, later, aside, alone, role_of}
 use Rattle.trace_text.specs.declared.line.Numbered.{Numbered}
-use Rattle.sccp_replay.specs.Holding.{managers_of, managed_at, after_happening, after_role, after_line, managers_after, held_after}
+use Rattle.sccp_replay.specs.Holding.{managers_of, after_happening, after_role, after_line, managers_after}
 use Rattle.sccp_replay.specs.Replay.{Standing, Settled, prints, routes, journey_by, tell, latest, done_alone}
 
 -- ---- lists
@@ -38,7 +37,7 @@ set_same [] place x e = refl
 set_same (y ∷ ys) zero x e = let is : y ≡ x = cc in ap (λ z. z ∷ ys) (sym is)
 set_same (y ∷ ys) (suc place) x e = ap (λ zs. y ∷ zs) (set_same ys place x e)
 
-get_map : {X Y : Type 0} (f : X → Y) (xs : List X) (place : ℕ) → slice_get (map f xs) place ≡ option_map f (slice_get xs place)
+pub get_map : {X Y : Type 0} (f : X → Y) (xs : List X) (place : ℕ) → slice_get (map f xs) place ≡ option_map f (slice_get xs place)
 get_map f [] place = refl
 get_map f (x ∷ xs) zero = refl
 get_map f (x ∷ xs) (suc place) = get_map f xs place
@@ -66,7 +65,8 @@ delivered_stays s (Some a) = refl
 changes : (plan : Network) (states : List State) (node : ℕ) (what : Happening) (o : Option State) → slice_get states node ≡ o
     → managers_of (applied_at plan states node what o).states ≡ after_happening (managers_of states) node what
 changes plan states node (Managed event) None e =
-    sym (ap (λ o. option_map_or (λ m. slice_set (managers_of states) node (managed m event)) o (managers_of states)) (got states node None e))
+    sym (ap (λ o. option_map_or (λ m. slice_set (managers_of states) node (managed m event)) o (managers_of states))
+    (got states node None e))
 changes plan states node (Managed event) (Some s) e =
     map-set (λ s. s.manager) states node (happened plan node s (Managed event)).state
     ∙ sym (ap (λ o. option_map_or (λ m. slice_set (managers_of states) node (managed m event)) o (managers_of states))

@@ -1,11 +1,15 @@
 -- The lemmas of this crate, one file a subject.
 mod Accounting
+mod BatchRuns
 mod BatchSteps
 mod CrewSteps
+mod Examples
 mod Fed
+mod Fences
 mod Gathering
 mod Holding
 mod LaterSteps
+mod Parts
 pub mod ReplayAnswers
 pub mod ReplayCauses
 pub mod ReplayFiles
@@ -14,6 +18,7 @@ mod ReplayerLemmas
 mod SettleSteps
 mod Settling
 mod Skipping
+mod SoFar
 mod Streaming
 mod TakeSteps
 mod TellSteps

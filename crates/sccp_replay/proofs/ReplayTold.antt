@@ -36,6 +36,7 @@ use Rattle.sccp_work.specs.declared.status.Status.TheVariants.{Done, Refused, Us
 use Rattle.sccp_work.specs.declared.status.Status.TheVariants.{NoMemory, ReadFault, WriteFault}
 use Rattle.sccp_replay.proofs.Accounting.{lines_through, starts_behind}
 use Rattle.sccp_replay.proofs.Accounting as accounts
+use Rattle.sccp_replay.proofs.BatchRuns.{open_none}
 use Rattle.sccp_replay.proofs.Settling.{Scene}
 use Rattle.sccp_replay.proofs.Telling.{Goes, HasOctets}
 use Rattle.sccp_replay.proofs.TraceOctets.{trace_octets}
@@ -111,18 +112,18 @@ abbrev pub ToldVerdict : Contents → List ℕ → Status → List ℕ → Type 
 ToldVerdict c plan s text = IsOnRefusal s → HasPlan (Some c) plan (λ p. IsVerdict p s text)
 
 abbrev EndsAny : Contents → List ℕ → List ℕ → ℕ → Status → List ℕ → Type 0
-EndsAny c plan trace workers s acc = TellsReplay c plan trace s acc × ReplayCause c plan trace s × ToldVerdict c plan s acc
+EndsAny c plan trace workers s acc = TellsReplay c plan trace workers s acc × ReplayCause c plan trace s × ToldVerdict c plan s acc
 
 -- nothing was written, or some first lines were printed
-abbrev ReadsAny : Contents → List ℕ → List ℕ → List ℕ → Type 0
-ReadsAny c plan trace acc = (acc ≡ []) ⊎ ((count : ℕ) × Account c plan (take count (lines_in c trace)) [] acc)
+abbrev ReadsAny : Contents → List ℕ → List ℕ → ℕ → List ℕ → Type 0
+ReadsAny c plan trace workers acc = (acc ≡ []) ⊎ ((count : ℕ) × Account c plan workers (take count (lines_in c trace)) [] acc)
 
-abbrev FrontsAny : Contents → List ℕ → List ℕ → List ℕ → Type 0
-FrontsAny c plan trace acc = StartsWith acc (codes "plan 1 ") → IsTold c plan trace WriteFault acc
+abbrev FrontsAny : Contents → List ℕ → List ℕ → ℕ → List ℕ → Type 0
+FrontsAny c plan trace workers acc = StartsWith acc (codes "plan 1 ") → IsTold c plan trace workers WriteFault acc
 
 other_answer : (c : Contents) (plan trace : List ℕ) (workers : ℕ) (s : Status) (t : List ℕ) → IsOther t → (s ≡ Done → ⊥)
     → (s ≡ BadTrace → ⊥) → ReplayCause c plan trace s → ToldVerdict c plan s t
-    → Through (EndsAny c plan trace workers) (ReadsAny c plan trace) (FrontsAny c plan trace) (Some c) (answered (s, t)) []
+    → Through (EndsAny c plan trace workers) (ReadsAny c plan trace workers) (FrontsAny c plan trace workers) (Some c) (answered (s, t)) []
 other_answer c plan trace workers s t never done bad for verdict = (
   (λ front starts is. absurd (never front starts is)),
   (
@@ -140,12 +141,12 @@ first_starts : (name : List ℕ) (bound : ℕ) (rest : List ℕ) → StartsWith 
 unfolding digits first_plan_line
 first_starts name bound rest = refl
 
-begins_so : (z : Scene) (s : Status) (acc : List ℕ) → IsTold z.c z.plan_name z.trace_name s acc → (s ≡ Done) ⊎ (s ≡ BadTrace)
+begins_so : (z : Scene) (s : Status) (acc : List ℕ) → IsTold z.c z.first.name z.trace_name z.workers s acc → (s ≡ Done) ⊎ (s ≡ BadTrace)
     → StartsWith acc (codes "plan 1 ")
 begins_so z s acc told e = by s e told.so where
   whole : acc ≡ told.whole → StartsWith acc (codes "plan 1 ")
   whole is = subst (λ t. StartsWith t (codes "plan 1 ")) (sym (is ∙ told.account.whole))
-      (first_starts z.plan_name told.account.bound (flat_map (λ p. p.text) told.account.pieces ++ told.last))
+      (first_starts z.first.name told.account.first.bound (flat_map (λ p. p.text) told.account.pieces ++ told.last))
 
   by : (s : Status) → (s ≡ Done) ⊎ (s ≡ BadTrace)
       → IsTextUnder z.c z.trace_name (take told.count (lines_in z.c z.trace_name)) told.last told.whole acc s
@@ -171,22 +172,27 @@ begins_so z s acc told e = by s e told.so where
   by WriteFault (inl e) so = cc
   by WriteFault (inr e) so = cc
 
-accepted_plan : (z : Scene) → HasPlan (Some z.c) z.plan_name IsSafe
-accepted_plan z = (z.accepted.octets, z.accepted.file, z.accepted.within, (z.first, z.accepted.reads, (z.bound, z.accepted.safe)))
+accepted_plan : (z : Scene) → HasPlan (Some z.c) z.first.name IsSafe
+accepted_plan z = (
+  z.accepted.octets,
+  z.accepted.file,
+  z.accepted.within,
+  (z.first.plan, z.accepted.reads, (z.first.bound, z.accepted.safe)),
+)
 
-why : (z : Scene) (workers : ℕ) (octets : List ℕ) → z.c z.trace_name ≡ Some octets → (s : Status) → accounts.TraceEnds z s
-    → ReplayCause z.c z.plan_name z.trace_name s
-why z workers octets there Done h = (accepted_plan z, ap is_some there, h.0, h.1)
-why z workers octets there BadTrace h = (accepted_plan z, h.0, h.1)
-why z workers octets there TooLong h = inr (accepted_plan z, h)
-why z workers octets there Refused h = absurd h
-why z workers octets there Usage h = absurd h
-why z workers octets there OtherNodes h = absurd h
-why z workers octets there BadPlan h = absurd h
-why z workers octets there TooWide h = absurd h
-why z workers octets there NoMemory h = absurd h
-why z workers octets there ReadFault h = absurd h
-why z workers octets there WriteFault h = absurd h
+why : (z : Scene) (octets : List ℕ) → z.c z.trace_name ≡ Some octets → (s : Status) → accounts.TraceEnds z s
+    → ReplayCause z.c z.first.name z.trace_name s
+why z octets there Done h = (accepted_plan z, ap is_some there, h.0, h.1)
+why z octets there BadTrace h = (accepted_plan z, h.0, h.1)
+why z octets there TooLong h = inr (accepted_plan z, h)
+why z octets there Refused h = absurd h
+why z octets there Usage h = absurd h
+why z octets there OtherNodes h = absurd h
+why z octets there BadPlan h = absurd h
+why z octets there TooWide h = absurd h
+why z octets there NoMemory h = absurd h
+why z octets there ReadFault h = absurd h
+why z octets there WriteFault h = absurd h
 
 none_refused : (z : Scene) (s : Status) → accounts.TraceEnds z s → IsOnRefusal s → ⊥
 none_refused z Refused h on = h
@@ -202,63 +208,65 @@ none_refused z ReadFault h on = on
 none_refused z WriteFault h on = on
 
 -- from the reading of the trace on
-traced : (goes : Goes) (z : Scene) (workers : ℕ) → ((octets : List ℕ) → z.c z.trace_name ≡ Some octets
-    → AllByRecursion (HasOctets z.first) (trace_of octets).lines)
-    → Through (EndsAny z.c z.plan_name z.trace_name workers) (ReadsAny z.c z.plan_name z.trace_name)
-    (FrontsAny z.c z.plan_name z.trace_name) (Some z.c)
-    (print (first_plan_line z.plan_name z.bound) (read z.trace_name (λ octets. trace_work (start workers z.first) (trace_of octets)))) []
-traced goes z workers oct = (
-  (λ front starts is. accounts.front_first z workers front starts),
-  (inr (0, accounts.account_first z workers), λ octets there. behind octets there),
+traced : (goes : Goes) (z : Scene) → ((octets : List ℕ) → z.c z.trace_name ≡ Some octets
+    → AllByRecursion (HasOctets z.first.plan) (trace_of octets).lines)
+    → Through (EndsAny z.c z.first.name z.trace_name z.workers) (ReadsAny z.c z.first.name z.trace_name z.workers)
+    (FrontsAny z.c z.first.name z.trace_name z.workers) (Some z.c)
+    (print (first_plan_line z.first.name z.first.bound) (read z.trace_name
+    (λ octets. trace_work (start z.workers z.first.plan) (trace_of octets)))) []
+traced goes z oct = (
+  (λ front starts is. accounts.front_first z front starts),
+  (inr (0, accounts.account_first z), λ octets there. behind octets there),
 ) where
   line : List ℕ
-  line = first_plan_line z.plan_name z.bound
+  line = first_plan_line z.first.name z.first.bound
 
   behind : (octets : List ℕ) → z.c z.trace_name ≡ Some octets
-      → Through (EndsAny z.c z.plan_name z.trace_name workers) (ReadsAny z.c z.plan_name z.trace_name)
-      (FrontsAny z.c z.plan_name z.trace_name) (Some z.c) (trace_work (start workers z.first) (trace_of octets))
-      ([] ++ first_plan_line z.plan_name z.bound)
+      → Through (EndsAny z.c z.first.name z.trace_name z.workers) (ReadsAny z.c z.first.name z.trace_name z.workers)
+      (FrontsAny z.c z.first.name z.trace_name z.workers) (Some z.c) (trace_work (start z.workers z.first.plan) (trace_of octets))
+      ([] ++ first_plan_line z.first.name z.first.bound)
   behind octets there =
       let lines : lines_in z.c z.trace_name ≡ (trace_of octets).lines =
       ap (λ o. option_map_or (λ octets. (trace_of octets).lines) o []) there in
       let fault : fault_in z.c z.trace_name ≡ (trace_of octets).fault =
       ap (λ o. option_and_then (λ octets. (trace_of octets).fault) o) there in
-      let all = lines_through goes z (trace_of octets).fault fault (trace_of octets).lines [] [] [] (start workers z.first)
-      (first_plan_line z.plan_name z.bound)
-      (accounts.SoFar-start z workers) (accounts.first_written z) lines (oct octets there) tt in
-      Through-map (accounts.Ends z) (EndsAny z.c z.plan_name z.trace_name workers) (accounts.Reads z)
-      (ReadsAny z.c z.plan_name z.trace_name)
-      (λ acc. IsTold z.c z.plan_name z.trace_name WriteFault acc) (FrontsAny z.c z.plan_name z.trace_name) (Some z.c)
+      let all = lines_through goes z (trace_of octets).fault fault (trace_of octets).lines [] [] [] (start z.workers z.first.plan)
+      (first_plan_line z.first.name z.first.bound)
+      (accounts.SoFar-start z) (accounts.first_written z) lines (oct octets there) tt (open_none z.first.plan [] refl) in
+      Through-map (accounts.Ends z) (EndsAny z.c z.first.name z.trace_name z.workers) (accounts.Reads z)
+      (ReadsAny z.c z.first.name z.trace_name z.workers)
+      (λ acc. IsTold z.c z.first.name z.trace_name z.workers WriteFault acc) (FrontsAny z.c z.first.name z.trace_name z.workers) (Some z.c)
       (λ s acc told. (
         record { told = λ is. told.0; begins = begins_so z s acc told.0 },
-        why z workers octets there s told.1,
+        why z octets there s told.1,
         (λ on. absurd
             (none_refused z s told.1 on)),
       ))
       (λ acc r. inr (r.count, r.account))
       (λ acc told is. told)
-      (trace_work (start workers z.first) (trace_of octets)) (first_plan_line z.plan_name z.bound)
-      (subst (λ n. Through (accounts.Ends z) (accounts.Reads z) (λ acc. IsTold z.c z.plan_name z.trace_name WriteFault acc) (Some z.c)
-      (lines_work (closing_of n (trace_of octets).fault) (start workers z.first) [] (trace_of octets).lines)
-      (first_plan_line z.plan_name z.bound)) (ap length lines) all)
+      (trace_work (start z.workers z.first.plan) (trace_of octets)) (first_plan_line z.first.name z.first.bound)
+      (subst (λ n. Through (accounts.Ends z) (accounts.Reads z) (λ acc. IsTold z.c z.first.name z.trace_name z.workers WriteFault acc)
+      (Some z.c)
+      (lines_work (closing_of n (trace_of octets).fault) (start z.workers z.first.plan) [] (trace_of octets).lines)
+      (first_plan_line z.first.name z.first.bound)) (ap length lines) all)
 
 -- the plan's verdict
 on_verdict : (goes : Goes) (c : Contents) (plan trace : List ℕ) (workers : ℕ)
     → ((first : Network) (octets : List ℕ) → c trace ≡ Some octets → AllByRecursion (HasOctets first) (trace_of octets).lines)
     → (octets : List ℕ) → c plan ≡ Some octets → length octets ≤ 1048576 → (first : Network) → plan_of octets ≡ Ok first → (v : Verdict)
     → IsJudged first v
-    → Through (EndsAny c plan trace workers) (ReadsAny c plan trace) (FrontsAny c plan trace) (Some c) (replayed plan trace workers first v)
+    → Through (EndsAny c plan trace workers) (ReadsAny c plan trace workers) (FrontsAny c plan trace workers) (Some c)
+    (replayed plan trace workers first v)
     []
 on_verdict goes c plan trace workers oct octets file few first is (verdicts.Accepted a) j =
     traced goes (record {
       c = c;
-      plan_name = plan;
       trace_name = trace;
-      first = first;
-      bound = a.bound;
+      workers = workers;
+      first = record { name = plan; plan = first; bound = a.bound };
       accepted = record { octets = octets; file = file; within = few; reads = is; safe = j.1.0; longest = a.longest; tight = j.1.1 };
       is_plan = j.0;
-    }) workers (oct first)
+    }) (oct first)
 on_verdict goes c plan trace workers oct octets file few first is (verdicts.Refused same w) j =
     other_answer c plan trace workers Refused (verdict_text first (verdicts.Refused same w)) (refused_other first same w) (λ e. cc)
     (λ e. cc) (octets, file, few, (first, is, (w, j.1)))
@@ -271,7 +279,7 @@ on_verdict goes c plan trace workers oct octets file few first is (verdicts.TooW
 on_plan : (goes : Goes) (c : Contents) (plan trace : List ℕ) (workers : ℕ)
     → ((first : Network) (octets : List ℕ) → c trace ≡ Some octets → AllByRecursion (HasOctets first) (trace_of octets).lines)
     → (octets : List ℕ) → c plan ≡ Some octets → length octets ≤ 1048576 → (r : Result Network PlanFault) → plan_of octets ≡ r
-    → Through (EndsAny c plan trace workers) (ReadsAny c plan trace) (FrontsAny c plan trace) (Some c)
+    → Through (EndsAny c plan trace workers) (ReadsAny c plan trace workers) (FrontsAny c plan trace workers) (Some c)
     (planned r (λ first. judge first (replayed plan trace workers first))) []
 on_plan goes c plan trace workers oct octets file few (Ok first) is =
     λ v j. on_verdict goes c plan trace workers oct octets file few first is v j
@@ -280,11 +288,12 @@ on_plan goes c plan trace workers oct octets file few (Err fault) is = other_ans
 
 replay_through : (goes : Goes) (c : Contents) (plan trace : List ℕ) (workers : ℕ)
     → ((first : Network) (octets : List ℕ) → c trace ≡ Some octets → AllByRecursion (HasOctets first) (trace_of octets).lines)
-    → Through (EndsAny c plan trace workers) (ReadsAny c plan trace) (FrontsAny c plan trace) (Some c) (replay_work plan trace workers) []
+    → Through (EndsAny c plan trace workers) (ReadsAny c plan trace workers) (FrontsAny c plan trace workers) (Some c)
+    (replay_work plan trace workers) []
 unfolding replay_work
 replay_through goes c plan trace workers oct = (inl refl, λ octets file. by octets file (ltb 1048576 (length octets)) refl) where
   by : (octets : List ℕ) → c plan ≡ Some octets → (b : Bool) → ltb 1048576 (length octets) ≡ b
-      → Through (EndsAny c plan trace workers) (ReadsAny c plan trace) (FrontsAny c plan trace) (Some c)
+      → Through (EndsAny c plan trace workers) (ReadsAny c plan trace workers) (FrontsAny c plan trace workers) (Some c)
       (cond b (answered (TooLong, too_long)) (planned (plan_of octets) (λ first. judge first (replayed plan trace workers first)))) []
   by octets file true e = other_answer c plan trace workers TooLong too_long too_long_other (λ e. cc) (λ e. cc)
       (inl (octets, file, ltb-true 1048576 (length octets) e)) (λ on. absurd on)
@@ -296,27 +305,28 @@ neither : {s : Status} → (s ≡ Done → ⊥) → (s ≡ BadTrace → ⊥) →
 neither p q (inl e) = p e
 neither p q (inr e) = q e
 
-with_last : {c : Contents} {plan : List ℕ} {lines : List Numbered} {text : List ℕ} (last : List ℕ) → Account c plan lines [] text
-    → Account c plan lines last (text ++ last)
-with_last {c} {plan} {lines} {text} last h = record {
+with_last : {c : Contents} {plan : List ℕ} {workers : ℕ} {lines : List Numbered} {text : List ℕ} (last : List ℕ)
+    → Account c plan workers lines [] text → Account c plan workers lines last (text ++ last)
+with_last {c} {plan} {workers} {lines} {text} last h = record {
   first = h.first;
-  bound = h.bound;
+  named = h.named;
   accepted = h.accepted;
   pieces = h.pieces;
   of_lines = h.of_lines;
-  each = h.each;
-  whole = ap (λ t. t ++ last) (h.whole ∙ ap (λ t. first_plan_line plan h.bound ++ t) (append-nil (flat_map (λ p. p.text) h.pieces)))
-      ∙ append_assoc (first_plan_line plan h.bound) (flat_map (λ p. p.text) h.pieces) last;
+  plans = h.plans;
+  messages = h.messages;
+  whole = ap (λ t. t ++ last) (h.whole ∙ ap (λ t. first_plan_line plan h.first.bound ++ t) (append-nil (flat_map (λ p. p.text) h.pieces)))
+      ∙ append_assoc (first_plan_line plan h.first.bound) (flat_map (λ p. p.text) h.pieces) last;
 }
 
-faulted : (c : Contents) (plan trace written : List ℕ) → ReadsAny c plan trace written
-    → TellsReplay c plan trace ReadFault (written ++ read_fault)
-faulted c plan trace written (inl e) = record {
+faulted : (c : Contents) (plan trace : List ℕ) (workers : ℕ) (written : List ℕ) → ReadsAny c plan trace workers written
+    → TellsReplay c plan trace workers ReadFault (written ++ read_fault)
+faulted c plan trace workers written (inl e) = record {
   told = λ is. absurd (read_fault_other read_fault (starts_whole read_fault)
       (subst (λ w. StartsWith (w ++ read_fault) (codes "plan 1 ")) e is));
   begins = λ e. absurd (neither (λ f. cc) (λ f. cc) e);
 }
-faulted c plan trace written (inr r) = record {
+faulted c plan trace workers written (inr r) = record {
   told = λ is. record {
     count = r.0;
     last = read_fault;
@@ -329,11 +339,12 @@ faulted c plan trace written (inr r) = record {
 }
 
 -- a front of what was written before a reading and of the line on the fault
-cut_faulted : (c : Contents) (plan trace written front : List ℕ) → ReadsAny c plan trace written → StartsWith read_fault front
-    → FrontsAny c plan trace (written ++ front)
-cut_faulted c plan trace written front (inl e) starts is =
+cut_faulted : (c : Contents) (plan trace : List ℕ) (workers : ℕ) (written front : List ℕ) → ReadsAny c plan trace workers written
+    → StartsWith read_fault front
+    → FrontsAny c plan trace workers (written ++ front)
+cut_faulted c plan trace workers written front (inl e) starts is =
     absurd (read_fault_other front starts (subst (λ w. StartsWith (w ++ front) (codes "plan 1 ")) e is))
-cut_faulted c plan trace written front (inr r) starts is = record {
+cut_faulted c plan trace workers written front (inr r) starts is = record {
   count = r.0;
   last = read_fault;
   whole = written ++ read_fault;
@@ -341,66 +352,73 @@ cut_faulted c plan trace written front (inr r) starts is = record {
   so = (starts_behind written read_fault front starts, inr (ReadFault, refl));
 }
 
-none_begun : (c : Contents) (plan trace : List ℕ) → FrontsAny c plan trace []
-none_begun c plan trace = λ is. absurd (nothing is) where
+none_begun : (c : Contents) (plan trace : List ℕ) (workers : ℕ) → FrontsAny c plan trace workers []
+none_begun c plan trace workers = λ is. absurd (nothing is) where
   nothing : StartsWith [] (codes "plan 1 ") → ⊥
   nothing e = cc
 
 front_so : (c : Contents) (plan trace : List ℕ) (workers : ℕ) (work : Work) (text : List ℕ)
-    → Through (EndsAny c plan trace workers) (ReadsAny c plan trace) (FrontsAny c plan trace) (Some c) work []
-    → BeginsWith (Some c) work text → FrontsAny c plan trace text
-front_so c plan trace workers work text h e = fronts_of (EndsAny c plan trace workers) (ReadsAny c plan trace) (FrontsAny c plan trace)
-    (Some c) work [] text (none_begun c plan trace) h e
+    → Through (EndsAny c plan trace workers) (ReadsAny c plan trace workers) (FrontsAny c plan trace workers) (Some c) work []
+    → BeginsWith (Some c) work text → FrontsAny c plan trace workers text
+front_so c plan trace workers work text h e = fronts_of (EndsAny c plan trace workers) (ReadsAny c plan trace workers)
+    (FrontsAny c plan trace workers)
+    (Some c) work [] text (none_begun c plan trace workers) h e
 
 reads_so : (c : Contents) (plan trace : List ℕ) (workers : ℕ) (work : Work) (text : List ℕ)
-    → Through (EndsAny c plan trace workers) (ReadsAny c plan trace) (FrontsAny c plan trace) (Some c) work []
-    → ComesToReading (Some c) work text → ReadsAny c plan trace text
-reads_so c plan trace workers work text h e = reads_of (EndsAny c plan trace workers) (ReadsAny c plan trace) (FrontsAny c plan trace)
+    → Through (EndsAny c plan trace workers) (ReadsAny c plan trace workers) (FrontsAny c plan trace workers) (Some c) work []
+    → ComesToReading (Some c) work text → ReadsAny c plan trace workers text
+reads_so c plan trace workers work text h e = reads_of (EndsAny c plan trace workers) (ReadsAny c plan trace workers)
+    (FrontsAny c plan trace workers)
     (Some c) work [] text h e
 
 ends_so : (c : Contents) (plan trace : List ℕ) (workers : ℕ) (work : Work) (s : Status) (text : List ℕ)
-    → Through (EndsAny c plan trace workers) (ReadsAny c plan trace) (FrontsAny c plan trace) (Some c) work [] → Ends (Some c) work s text
+    → Through (EndsAny c plan trace workers) (ReadsAny c plan trace workers) (FrontsAny c plan trace workers) (Some c) work []
+    → Ends (Some c) work s text
     → EndsAny c plan trace workers s text
-ends_so c plan trace workers work s text h e = ends_of (EndsAny c plan trace workers) (ReadsAny c plan trace) (FrontsAny c plan trace)
+ends_so c plan trace workers work s text h e = ends_of (EndsAny c plan trace workers) (ReadsAny c plan trace workers)
+    (FrontsAny c plan trace workers)
     (Some c) work [] text s h e
 
-front_of_fault : (c : Contents) (plan trace text written front : List ℕ) → ReadsAny c plan trace written → StartsWith read_fault front
-    → text ≡ written ++ front → FrontsAny c plan trace text
-front_of_fault c plan trace text written front r starts same =
-    subst (FrontsAny c plan trace) (sym same) (cut_faulted c plan trace written front r starts)
+front_of_fault : (c : Contents) (plan trace : List ℕ) (workers : ℕ) (text written front : List ℕ) → ReadsAny c plan trace workers written
+    → StartsWith read_fault front
+    → text ≡ written ++ front → FrontsAny c plan trace workers text
+front_of_fault c plan trace workers text written front r starts same =
+    subst (FrontsAny c plan trace workers) (sym same) (cut_faulted c plan trace workers written front r starts)
 
 cut_short : (c : Contents) (plan trace : List ℕ) (workers : ℕ) (work : Work) (text : List ℕ) (b a : Moment) → b.contents ≡ Some c
-    → Through (EndsAny c plan trace workers) (ReadsAny c plan trace) (FrontsAny c plan trace) (Some c) work []
-    → IsCutShort work text b a → FrontsAny c plan trace text
+    → Through (EndsAny c plan trace workers) (ReadsAny c plan trace workers) (FrontsAny c plan trace workers) (Some c) work []
+    → IsCutShort work text b a → FrontsAny c plan trace workers text
 cut_short c plan trace workers work text b a is h (inl e) =
     front_so c plan trace workers work text h (subst (λ k. BeginsWith k work text) is e)
 cut_short c plan trace workers work text b a is h (inr e) =
-    front_of_fault c plan trace text e.1.0 e.1.1 (reads_so c plan trace workers work e.1.0 h
+    front_of_fault c plan trace workers text e.1.0 e.1.1 (reads_so c plan trace workers work e.1.0 h
     (subst (λ k. ComesToReading k work e.1.0) is e.1.2)) e.1.3 e.1.4
 
-as_wanting : (c : Contents) (plan trace text : List ℕ) → IsTold c plan trace WriteFault text → IsTold c plan trace NoMemory text
-as_wanting c plan trace text t = record { count = t.count; last = t.last; whole = t.whole; account = t.account; so = t.so }
+as_wanting : (c : Contents) (plan trace : List ℕ) (workers : ℕ) (text : List ℕ) → IsTold c plan trace workers WriteFault text
+    → IsTold c plan trace workers NoMemory text
+as_wanting c plan trace workers text t = record { count = t.count; last = t.last; whole = t.whole; account = t.account; so = t.so }
 
 pub told_so : (c : Contents) (plan trace : List ℕ) (workers : ℕ) (work : Work) (s : Status) (text : List ℕ) (b a : Moment)
     → b.contents ≡ Some c
-    → Through (EndsAny c plan trace workers) (ReadsAny c plan trace) (FrontsAny c plan trace) (Some c) work [] → Answers work s text b a
-    → TellsReplay c plan trace s text
+    → Through (EndsAny c plan trace workers) (ReadsAny c plan trace workers) (FrontsAny c plan trace workers) (Some c) work []
+    → Answers work s text b a
+    → TellsReplay c plan trace workers s text
 told_so c plan trace workers work WriteFault text b a is h e =
     record { told = cut_short c plan trace workers work text b a is h e.1; begins = λ f. absurd (neither (λ g. cc) (λ g. cc) f) }
 told_so c plan trace workers work NoMemory text b a is h e =
     record {
-      told = λ begun. as_wanting c plan trace text (cut_short c plan trace workers work text b a is h e begun);
+      told = λ begun. as_wanting c plan trace workers text (cut_short c plan trace workers work text b a is h e begun);
       begins = λ f. absurd
           (neither (λ g. cc) (λ g. cc) f);
     }
 told_so c plan trace workers work ReadFault text b a is h e =
-    subst (TellsReplay c plan trace ReadFault) (sym e.1.2)
-    (faulted c plan trace e.1.0 (reads_so c plan trace workers work e.1.0 h (subst (λ k. ComesToReading k work e.1.0) is e.1.1)))
+    subst (TellsReplay c plan trace workers ReadFault) (sym e.1.2)
+    (faulted c plan trace workers e.1.0 (reads_so c plan trace workers work e.1.0 h (subst (λ k. ComesToReading k work e.1.0) is e.1.1)))
 told_so c plan trace workers work s text b a is h e = (ends_so c plan trace workers work s text h (subst (λ k. Ends k work s text) is e)).0
 
 -- what a replay prints, whatever it answers
 pub replay_told : (goes : Goes) (c : Contents) (plan trace : List ℕ) (workers : ℕ) (s : Status) (b a : Moment) → b.contents ≡ Some c
-    → (o : Outcome (replay_work plan trace workers) s b a) → TellsReplay c plan trace s o.text
+    → (o : Outcome (replay_work plan trace workers) s b a) → TellsReplay c plan trace workers s o.text
 replay_told goes c plan trace workers s b a is o =
     told_so c plan trace workers (replay_work plan trace workers) s o.text b a is
     (replay_through goes c plan trace workers (λ first octets there. trace_octets first octets)) o.answers

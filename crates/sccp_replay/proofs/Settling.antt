@@ -1,18 +1,17 @@
 -- The plan lines of a batch, and what is known of the plans that they add.
-use Rattle.std.proofs.Common.{◌≡◌, ◌⊎◌, ◌+◌, ◌<◌, ◌≤◌, ℕ, zero, suc, List, [], ◌∷◌, ◌++◌, length, Option, Some, None, Bool, true, false}
+use Rattle.std.proofs.Common.{◌≡◌, ◌⊎◌, ◌+◌, ◌<◌, ◌≤◌, ℕ, zero, suc, List, [], ◌∷◌, ◌++◌, length, map, Option, Some, None, Bool, true}
+use Rattle.std.proofs.Common.{false}
 use Rattle.std.proofs.Common.{cond, ltb, Result, Ok, Err, IsTrue, refl, sym, ◌∙◌, ap, subst, append-nil, append_assoc, arith, inl, inr}
-use Rattle.std.proofs.lemmas.List.{length-append}
-use Rattle.std.specs.Prelude.{slice_get}
+use Rattle.std.proofs.lemmas.List.{length-append, length-map, map-append}
 use Rattle.std.specs.Option.{option_map}
 use Rattle.std.specs.Io.{StartsWith}
-use Rattle.std.specs.List.{Contains}
-use Rattle.std.proofs.lemmas.List.Elements.{Contains-append_left, Contains-append_right, Contains-append_cases}
+use Rattle.std.specs.List.{Contains, filter_map}
+use Rattle.std.proofs.lemmas.List.Elements.{Contains-append_left, Contains-append_right, Contains-append_cases, filter_map-append}
 use Rattle.std.proofs.lemmas.Bool.{ltb-true, ltb-false}
 use Rattle.plan_model.specs.Network.{Network, IsPlan}
 use Rattle.plan_model.specs.SameNodes.{same_nodes}
 use Rattle.plan_model.specs.declared.plan_fault.PlanFault.{PlanFault}
 use Rattle.plan_text.specs.PlanText.{plan_of}
-use Rattle.plan_verify.specs.Lawful.{IsSafeFor}
 use Rattle.plan_verify.specs.declared.verdict.Verdict.{Verdict}
 use Rattle.plan_verify.specs.declared.verdict.Verdict.TheVariants.{Accepted, Refused, TooWide}
 use Rattle.relay_net.specs.Batches.{Incoming, Due}
@@ -29,7 +28,7 @@ use Rattle.sccp_report.specs.Verdicts.{verdict_text}
 use Rattle.trace_text.specs.declared.line.Line.{Line}
 use Rattle.trace_text.specs.declared.line.Line.TheVariants.{Msg, Pause, Resume, NoSccp, Up, Down, Tick, Plan, Fence, Skip}
 use Rattle.trace_text.specs.declared.line.Numbered.{Numbered}
-use Rattle.sccp_replay.specs.Account.{Piece, IsAcceptedIn, IsLaterPlan}
+use Rattle.sccp_replay.specs.Account.{Published, IsAcceptedIn, IsLaterPlan, TellsRefusal, IsRefused}
 use Rattle.sccp_replay.specs.LaterPlans.{accepted_plan_line, refused_plan_head, bad_plan_line, other_nodes_line}
 use Rattle.sccp_replay.specs.Replay.{Standing, Settled, prints, routes, accepted, judged_later, later_work, settle_line, settle}
 use Rattle.sccp_work.specs.Limit.{HasFile, HasLongFile}
@@ -39,97 +38,57 @@ use Rattle.sccp_work.specs.Questions.{IsJudged}
 use Rattle.sccp_work.specs.Work.{Work, judge, answered}
 use Rattle.sccp_work.specs.declared.status.Status.{Status}
 use Rattle.sccp_work.specs.declared.status.Status.TheVariants.{TooLong}
+use Rattle.sccp_replay.proofs.Parts.{parted, single}
 use Rattle.sccp_work.proofs.Through.{Through}
-
--- ---- two lists side by side
-
-abbrev pub Same : List Numbered → List Settled → Type 0
-Same [] [] = Unit {0}
-Same [] (s ∷ ss) = ⊥
-Same (l ∷ ls) [] = ⊥
-Same (l ∷ ls) (s ∷ ss) = Same ls ss
-
--- the line and what it settled to are at one place
-abbrev pub At : List Numbered → List Settled → Numbered → Settled → Type 0
-At [] ss l s = ⊥
-At (m ∷ ms) [] l s = ⊥
-At (m ∷ ms) (t ∷ ts) l s = ((m ≡ l) × (t ≡ s)) ⊎ At ms ts l s
-
-pub Same-more : (ls : List Numbered) (ss : List Settled) (l : Numbered) (s : Settled) → Same ls ss → Same (ls ++ l ∷ []) (ss ++ s ∷ [])
-Same-more [] [] l s h = tt
-Same-more [] (t ∷ ts) l s h = absurd h
-Same-more (m ∷ ms) [] l s h = absurd h
-Same-more (m ∷ ms) (t ∷ ts) l s h = Same-more ms ts l s h
-
-pub At-more : (ls : List Numbered) (ss : List Settled) (m : Numbered) (t : Settled) (l : Numbered) (s : Settled) → At ls ss l s
-    → At (ls ++ m ∷ []) (ss ++ t ∷ []) l s
-At-more [] ss m t l s h = absurd h
-At-more (n ∷ ns) [] m t l s h = absurd h
-At-more (n ∷ ns) (u ∷ us) m t l s (inl h) = inl h
-At-more (n ∷ ns) (u ∷ us) m t l s (inr h) = inr (At-more ns us m t l s h)
-
-pub At-last : (ls : List Numbered) (ss : List Settled) (l : Numbered) (s : Settled) → Same ls ss → At (ls ++ l ∷ []) (ss ++ s ∷ []) l s
-At-last [] [] l s h = inl (refl, refl)
-At-last [] (t ∷ ts) l s h = absurd h
-At-last (m ∷ ms) [] l s h = absurd h
-At-last (m ∷ ms) (t ∷ ts) l s h = inr (At-last ms ts l s h)
-
-pub At-cases : (ls : List Numbered) (ss : List Settled) (m : Numbered) (t : Settled) (l : Numbered) (s : Settled) → Same ls ss
-    → At (ls ++ m ∷ []) (ss ++ t ∷ []) l s → At ls ss l s ⊎ ((m ≡ l) × (t ≡ s))
-At-cases [] [] m t l s h (inl e) = inr e
-At-cases [] [] m t l s h (inr e) = absurd e
-At-cases [] (u ∷ us) m t l s h e = absurd h
-At-cases (n ∷ ns) [] m t l s h e = absurd h
-At-cases (n ∷ ns) (u ∷ us) m t l s h (inl e) = inl (inl e)
-At-cases (n ∷ ns) (u ∷ us) m t l s h (inr e) = on (At-cases ns us m t l s h e) where
-  on : At ns us l s ⊎ ((m ≡ l) × (t ≡ s)) → (((n ≡ l) × (u ≡ s)) ⊎ At ns us l s) ⊎ ((m ≡ l) × (t ≡ s))
-  on (inl f) = inl (inr f)
-  on (inr f) = inr f
 
 -- ---- what is known of a standing inside a batch
 
--- a replay: its files, and its first plan
+-- a replay: its files, its first plan, and the number of its workers
 pub record Scene : Type 0 where
   pub c : Contents
-  pub plan_name : List ℕ
   pub trace_name : List ℕ
-  pub first : Network
-  pub bound : ℕ
-  pub accepted : IsAcceptedIn c plan_name first bound
-  pub is_plan : IsPlan first
+  pub workers : ℕ
+  pub first : Published
+  pub accepted : IsAcceptedIn c first
+  pub is_plan : IsPlan first.plan
 
--- a later plan that a line of this batch names
-pub record InBatch (z : Scene) (ls : List Numbered) (ss : List Settled) (number : ℕ) (plan : Network) (bound : ℕ) : Type 0 where
-  pub line : ℕ
-  pub name : List ℕ
-  pub accepted : IsAcceptedIn z.c name plan bound
-  pub relays : IsTrue (same_nodes z.first plan)
-  pub at : At ls ss (record { number = line; line = Plan name }) (prints (accepted_plan_line line number name bound))
+-- a line of a batch, what it was settled to, and the plan that was accepted at it, if any
+pub record Entry : Type 0 where
+  pub line : Numbered
+  pub settled : Settled
+  pub accepted : Option Published
 
-pub record Knows (z : Scene) (pieces : List Piece) (ls : List Numbered) (ss : List Settled) (number : ℕ) (plan : Network) : Type 0 where
-  pub bound : ℕ
-  pub is_plan : IsPlan plan
-  pub safe : IsSafeFor plan bound
-  pub told : IsLaterPlan z.c z.first pieces number plan bound ⊎ InBatch z ls ss number plan bound
+abbrev pub new_entry : Numbered → Settled → Option Published → Entry
+new_entry line settled accepted = record { line = line; settled = settled; accepted = accepted }
 
--- only a message that is routed settles to one
-abbrev pub IsOf : Network → Numbered → Settled → Type 0
-IsOf first line (prints text) = (x : Incoming) → role_of first line.line ≡ routed x → ⊥
-IsOf first line (routes n x before) = (n ≡ line.number) × (role_of first line.line ≡ routed x)
+abbrev pub entry_lines : List Entry → List Numbered
+entry_lines es = map (λ e. e.line) es
 
-abbrev pub InRange : ℕ → Settled → Type 0
-InRange most (prints text) = Unit {0}
-InRange most (routes n x before) = (1 ≤ before) × (before ≤ most)
+abbrev pub settled_of : List Entry → List Settled
+settled_of es = map (λ e. e.settled) es
 
--- these lines of a batch were settled to these
-pub record Settles (z : Scene) (pieces : List Piece) (base : Standing) (ls : List Numbered) (ss : List Settled) (at : Standing) : Type 0 where
-  pub first : at.first ≡ z.first
-  pub same : Same ls ss
-  pub each : (l : Numbered) (s : Settled) → At ls ss l s → IsOf z.first l s × InRange (accepted at) s
-  pub plans : (k : ℕ) (plan : Network) → slice_get at.later k ≡ Some plan → Knows z pieces ls ss (k + 2) plan
+abbrev pub plans_in : List Entry → List Published
+plans_in es = filter_map (λ e. e.accepted) es
+
+abbrev pub plan_in : Published → Network
+plan_in a = a.plan
+
+-- what is known of an entry, if this number of plans was accepted before it
+abbrev pub IsEntry : Scene → ℕ → Numbered → Settled → Option Published → Type 0
+IsEntry z count l (prints text) (Some a) = IsLaterPlan z.c z.first.plan (count + 1) l text a × IsPlan a.plan
+IsEntry z count l (prints text) None = ((x : Incoming) → role_of z.first.plan l.line ≡ routed x → ⊥) × IsRefused z.c z.first.plan l text
+IsEntry z count l (routes n x before) None = (n ≡ l.number) × (role_of z.first.plan l.line ≡ routed x) × (before ≡ count)
+IsEntry z count l (routes n x before) (Some a) = ⊥
+
+-- these lines of a batch were settled so
+pub record Settles (z : Scene) (base : Standing) (es : List Entry) (at : Standing) : Type 0 where
+  pub first : at.first ≡ z.first.plan
+  pub workers : at.workers ≡ base.workers
   pub states : at.states ≡ base.states
-  pub more : accepted base ≤ accepted at
-  pub fit : LaterPlansFit z.c ls
+  pub later : at.later ≡ base.later ++ map plan_in (plans_in es)
+  pub each : (b : List Entry) (e : Entry) (a : List Entry) → es ≡ b ++ e ∷ a
+      → IsEntry z (accepted base + length (plans_in b)) e.line e.settled e.accepted
+  pub fit : LaterPlansFit z.c (entry_lines es)
 
 -- the file is there and within the limit
 abbrev pub Fits : Contents → List ℕ → Type 0
@@ -152,120 +111,73 @@ fit_more c ls l h own number name has = on (Contains-append_cases ls (l ∷ []) 
   on (inl e) = h number name e
   on (inr e) = own name (ap (λ k. k.line) (one_of l (record { number = number; line = Plan name }) e))
 
-range_more : (m n : ℕ) (s : Settled) → m ≤ n → InRange m s → InRange n s
-range_more m n (prints text) le h = tt
-range_more m n (routes k x before) le h = (h.0, omega (arith, h.1, le))
+-- how many plans are accepted after these lines
+pub accepted_by : (z : Scene) (base : Standing) (es : List Entry) (at : Standing) → at.later ≡ base.later ++ map plan_in (plans_in es)
+    → accepted at ≡ accepted base + length (plans_in es)
+accepted_by z base es at e = omega (
+  arith,
+  ap length e ∙ length-append base.later (map plan_in (plans_in es)),
+  length-map (plans_in es) plan_in,
+)
 
-InBatch-more : (z : Scene) (ls : List Numbered) (ss : List Settled) (l : Numbered) (s : Settled) (number : ℕ) (plan : Network) (bound : ℕ)
-    → InBatch z ls ss number plan bound → InBatch z (ls ++ l ∷ []) (ss ++ s ∷ []) number plan bound
-InBatch-more z ls ss l s number plan bound h =
-    record {
-      line = h.line;
-      name = h.name;
-      accepted = h.accepted;
-      relays = h.relays;
-      at = At-more ls ss l s
-          (record { number = h.line; line = Plan h.name }) (prints (accepted_plan_line h.line number h.name bound)) h.at;
-    }
+abbrev IsEntryAt : Scene → Standing → List Entry → Entry → Type 0
+IsEntryAt z base b e = IsEntry z (accepted base + length (plans_in b)) e.line e.settled e.accepted
 
-Knows-more : (z : Scene) (pieces : List Piece) (ls : List Numbered) (ss : List Settled) (l : Numbered) (s : Settled) (number : ℕ)
-    (plan : Network) → Knows z pieces ls ss number plan → Knows z pieces (ls ++ l ∷ []) (ss ++ s ∷ []) number plan
-Knows-more z pieces ls ss l s number plan h = record { bound = h.bound; is_plan = h.is_plan; safe = h.safe; told = on h.told } where
-  on : IsLaterPlan z.c z.first pieces number plan h.bound ⊎ InBatch z ls ss number plan h.bound
-      → IsLaterPlan z.c z.first pieces number plan h.bound ⊎ InBatch z (ls ++ l ∷ []) (ss ++ s ∷ []) number plan h.bound
-  on (inl p) = inl p
-  on (inr p) = inr (InBatch-more z ls ss l s number plan h.bound p)
+each_more : (z : Scene) (base : Standing) (es : List Entry) (e : Entry)
+    → ((b : List Entry) (f : Entry) (a : List Entry) → es ≡ b ++ f ∷ a → IsEntryAt z base b f) → IsEntryAt z base es e
+    → (b : List Entry) (f : Entry) (a : List Entry) → es ++ e ∷ [] ≡ b ++ f ∷ a → IsEntryAt z base b f
+each_more z base es e each own b f a is = on (parted es (e ∷ []) b f a is) where
+  on : ((mid : List Entry) × (es ≡ b ++ f ∷ mid) × (a ≡ mid ++ e ∷ [])) ⊎ ((d : List Entry) × (b ≡ es ++ d) × (e ∷ [] ≡ d ++ f ∷ a))
+      → IsEntryAt z base b f
+  on (inl q) = each b f q.0 q.1
+  on (inr q) = let s = single e q.0 f a q.2 in
+      subst (λ c. IsEntryAt z base c f) (sym (q.1 ∙ ap (λ d. es ++ d) s.0 ∙ append-nil es)) (subst (λ g. IsEntryAt z base es g) s.1 own)
 
-each_more : (z : Scene) (ls : List Numbered) (ss : List Settled) (m n : ℕ) (l : Numbered) (s : Settled) → Same ls ss → m ≤ n
-    → ((l : Numbered) (s : Settled) → At ls ss l s → IsOf z.first l s × InRange m s) → IsOf z.first l s → InRange n s
-    → (k : Numbered) (t : Settled) → At (ls ++ l ∷ []) (ss ++ s ∷ []) k t → IsOf z.first k t × InRange n t
-each_more z ls ss m n l s same le each is range k t at = on (At-cases ls ss l s k t same at) where
-  on : At ls ss k t ⊎ ((l ≡ k) × (s ≡ t)) → IsOf z.first k t × InRange n t
-  on (inl h) = let e = each k t h in (e.0, range_more m n t le e.1)
-  on (inr h) = (subst (λ j. IsOf z.first j t) h.0 (subst (λ u. IsOf z.first l u) h.1 is), subst (InRange n) h.1 range)
-
--- a line that adds no plan
-pub Settles-line : (z : Scene) (pieces : List Piece) (base : Standing) (ls : List Numbered) (ss : List Settled) (at : Standing) (l : Numbered)
-    (s : Settled) → Settles z pieces base ls ss at → IsOf z.first l s → InRange (accepted at) s → LineFits z.c l
-    → Settles z pieces base (ls ++ l ∷ []) (ss ++ s ∷ []) at
-Settles-line z pieces base ls ss at l s h is range fits = record {
-  first = h.first;
-  same = Same-more ls ss l s h.same;
-  each = each_more z ls ss (accepted at) (accepted at) l s h.same (omega arith) h.each is range;
-  plans = λ k plan e. Knows-more z pieces ls ss l s (k + 2) plan (h.plans k plan e);
-  states = h.states;
-  more = h.more;
-  fit = fit_more z.c ls l h.fit fits;
+-- one more line
+Settles-more : (z : Scene) (base : Standing) (es : List Entry) (at at' : Standing) (l : Numbered) (s : Settled) (o : Option Published)
+    → Settles z base es at → at'.first ≡ at.first → at'.workers ≡ at.workers → at'.states ≡ at.states
+    → at'.later ≡ at.later ++ map plan_in (plans_in (new_entry l s o ∷ [])) → IsEntry z (accepted at) l s o → LineFits z.c l
+    → Settles z base (es ++ new_entry l s o ∷ []) at'
+Settles-more z base es at at' l s o h first workers states laters is fits = record {
+  first = first ∙ h.first;
+  workers = workers ∙ h.workers;
+  states = states ∙ h.states;
+  later = laters ∙ ap (λ ps. ps ++ map plan_in (plans_in (new_entry l s o ∷ []))) h.later
+      ∙ append_assoc base.later (map plan_in (plans_in es)) (map plan_in (plans_in (new_entry l s o ∷ [])))
+      ∙ ap (λ ps. base.later ++ ps) (sym (map-append plan_in (plans_in es) (plans_in (new_entry l s o ∷ [])))
+      ∙ ap (map plan_in) (sym (filter_map-append (λ e. e.accepted) es (new_entry l s o ∷ []))));
+  each = each_more z base es (new_entry l s o) h.each (subst (λ n. IsEntry z n l s o) (accepted_by z base es at h.later) is);
+  fit = subst (LaterPlansFit z.c) (sym (map-append (λ e. e.line) es (new_entry l s o ∷ []))) (fit_more z.c (entry_lines es) l h.fit fits);
 }
 
--- the places of a list with one more at its end
-get_more : {X : Type 0} (xs : List X) (x y : X) (k : ℕ) → slice_get (xs ++ x ∷ []) k ≡ Some y
-    → (slice_get xs k ≡ Some y) ⊎ ((k ≡ length xs) × (x ≡ y))
-get_more [] x y zero e = inr (refl, cc)
-get_more [] x y (suc k) e = cc
-get_more (u ∷ us) x y zero e = inl e
-get_more (u ∷ us) x y (suc k) e = on (get_more us x y k e) where
-  on : (slice_get us k ≡ Some y) ⊎ ((k ≡ length us) × (x ≡ y))
-      → (slice_get (u ∷ us) (suc k) ≡ Some y) ⊎ ((suc k ≡ length (u ∷ us)) × (x ≡ y))
-  on (inl h) = inl h
-  on (inr h) = inr (ap suc h.0, h.1)
+-- a line that adds no plan
+pub Settles-line : (z : Scene) (base : Standing) (es : List Entry) (at : Standing) (l : Numbered) (s : Settled) → Settles z base es at
+    → IsEntry z (accepted at) l s None → LineFits z.c l → Settles z base (es ++ new_entry l s None ∷ []) at
+Settles-line z base es at l s h is fits = Settles-more z base es at at l s None h refl refl refl (sym (append-nil at.later)) is fits
 
-length_more : {X : Type 0} (xs : List X) (x : X) → length (xs ++ x ∷ []) ≡ length xs + 1
-length_more xs x = length-append xs (x ∷ [])
-
-with_later : Standing → Network → Standing
-with_later at plan = record at { later = at.later ++ plan ∷ [] }
+-- a line whose plan is accepted
+Settles-plan : (z : Scene) (base : Standing) (es : List Entry) (at : Standing) (l : Numbered) (a : Published) → Settles z base es at
+    → l.line ≡ Plan a.name → IsAcceptedIn z.c a → IsPlan a.plan → IsTrue (same_nodes at.first a.plan)
+    → Settles z base
+    (es ++ new_entry l (prints (accepted_plan_line l.number (accepted at + 1) a.name a.bound)) (Some a) ∷ [])
+    (record at { later = at.later ++ a.plan ∷ [] })
+Settles-plan z base es at l a h is_line accepted_in is_plan relays =
+    Settles-more z base es at (record at { later = at.later ++ a.plan ∷ [] }) l
+    (prints (accepted_plan_line l.number (accepted at + 1) a.name a.bound)) (Some a) h refl refl refl refl (
+      record {
+        named = is_line;
+        accepted = accepted_in;
+        relays = subst (λ n. IsTrue (same_nodes n a.plan)) h.first relays;
+        told = refl;
+      },
+      is_plan,
+    )
+    (λ n e. subst (Fits z.c) (same_plan_name (sym is_line ∙ e)) (accepted_in.octets, accepted_in.file, accepted_in.within, tt)) where
+      same_plan_name : {m n : List ℕ} → Plan m ≡ Plan n → m ≡ n
+      same_plan_name e = cc
 
 other_role : {r : Role} {name : List ℕ} {x : Incoming} → r ≡ later name → r ≡ routed x → ⊥
 other_role e f = cc
-
--- a line whose plan is accepted
-Settles-plan : (z : Scene) (pieces : List Piece) (base : Standing) (ls : List Numbered) (ss : List Settled) (at : Standing) (l : Numbered)
-    (name : List ℕ) (plan : Network) (bound : ℕ) → Settles z pieces base ls ss at
-    → l.line ≡ Plan name → IsAcceptedIn z.c name plan bound → IsPlan plan → IsSafeFor plan bound → IsTrue (same_nodes at.first plan)
-    → role_of z.first l.line ≡ later name
-    → Settles z pieces base (ls ++ l ∷ []) (ss ++ prints (accepted_plan_line l.number (accepted at + 1) name bound) ∷ [])
-    (record at { later = at.later ++ plan ∷ [] })
-Settles-plan z pieces base ls ss at l name plan bound h is_line accepted_in is_plan safe relays role = record {
-  first = h.first;
-  same = Same-more ls ss l s h.same;
-  each = each_more z ls ss (accepted at) (length (at.later ++ plan ∷ []) + 1) l s h.same (omega (arith, length_more at.later plan)) h.each
-      (λ x e. not_routed (sym role ∙ e)) tt;
-  plans = λ k p e. on k p (get_more at.later plan p k e);
-  states = h.states;
-  more = omega (arith, h.more, length_more at.later plan);
-  fit = fit_more z.c ls l h.fit (λ n e. subst (Fits z.c) (same_plan_name (sym is_line ∙ e))
-      (accepted_in.octets, accepted_in.file, accepted_in.within, tt));
-} where
-  same_plan_name : {m n : List ℕ} → Plan m ≡ Plan n → m ≡ n
-  same_plan_name e = cc
-
-  s : Settled
-  s = prints (accepted_plan_line l.number (accepted at + 1) name bound)
-
-  not_routed : {x : Incoming} → later name ≡ routed x → ⊥
-  not_routed e = cc
-
-  is : l ≡ record { number = l.number; line = Plan name }
-  is = λ i. record { number = l.number; line = is_line i }
-
-  this : InBatch z (ls ++ l ∷ []) (ss ++ s ∷ []) (length at.later + 2) plan bound
-  this = record {
-    line = l.number;
-    name = name;
-    accepted = accepted_in;
-    relays = subst (λ n. IsTrue (same_nodes n plan)) h.first relays;
-    at = subst (λ t. At (ls ++ l ∷ []) (ss ++ s ∷ []) t (prints (accepted_plan_line l.number (length at.later + 2) name bound))) is
-        (subst (λ n. At (ls ++ l ∷ []) (ss ++ s ∷ []) l (prints (accepted_plan_line l.number n name bound))) (omega arith)
-        (At-last ls ss l s h.same));
-  }
-
-  on : (k : ℕ) (p : Network) → (slice_get at.later k ≡ Some p) ⊎ ((k ≡ length at.later) × (plan ≡ p))
-      → Knows z pieces (ls ++ l ∷ []) (ss ++ s ∷ []) (k + 2) p
-  on k p (inl e) = Knows-more z pieces ls ss l s (k + 2) p (h.plans k p e)
-  on k p (inr e) = subst (λ n. Knows z pieces (ls ++ l ∷ []) (ss ++ s ∷ []) (n + 2) p) (sym e.0)
-      (subst (λ q. Knows z pieces (ls ++ l ∷ []) (ss ++ s ∷ []) (length at.later + 2) q) e.1
-      (record { bound = bound; is_plan = is_plan; safe = safe; told = inr this }))
 
 aside_or : {r : Role} {x : Incoming} → r ≡ aside → r ≡ routed x → ⊥
 aside_or e f = cc
@@ -324,60 +236,90 @@ unnamed : (c : Contents) (first : Network) (l : Numbered) (r : Role) → role_of
     → LineFits c l
 unnamed c first l r is never name e = absurd (never name (sym is ∙ ap (role_of first) e))
 
-judged_through : (ends : Status → List ℕ → Type 0) (reads fronts : List ℕ
-    → Type 0) (z : Scene) (pieces : List Piece) (base : Standing) (ls : List Numbered) (ss : List Settled) (at : Standing) (l : Numbered)
-    (name : List ℕ) (acc : List ℕ)
-    (next : Standing → Settled → Work) → Settles z pieces base ls ss at → l.line ≡ Plan name → role_of z.first l.line ≡ later name
-    → ((at' : Standing) (s : Settled) → Settles z pieces base (ls ++ l ∷ []) (ss ++ s ∷ []) at'
-    → Through ends reads fronts (Some z.c) (next at' s) acc)
+-- a plan line that accepts no plan
+not_accepted : (z : Scene) (l : Numbered) (name : List ℕ) (text octets : List ℕ) → l.line ≡ Plan name → z.c name ≡ Some octets
+    → TellsRefusal z.first.plan l.number name (plan_of octets) text → IsRefused z.c z.first.plan l text
+not_accepted z l name text octets is_line there why n e = (
+  octets,
+  subst (λ m. (z.c m ≡ Some octets)) (same (sym is_line ∙ e)) there,
+  subst (λ m. TellsRefusal z.first.plan l.number m (plan_of octets) text) (same (sym is_line ∙ e)) why,
+) where
+  same : {m n : List ℕ} → Plan m ≡ Plan n → m ≡ n
+  same f = cc
+
+-- what a line of a batch is settled to, whatever follows
+abbrev Goes : (ends : Status → List ℕ → Type 0) (reads fronts : List ℕ → Type 0) → Scene → Standing → List Entry → Numbered → List ℕ
+    → (Standing → Settled → Work) → Type 0
+Goes ends reads fronts z base es l acc next = (at' : Standing) (s : Settled) (o : Option Published)
+    → Settles z base (es ++ new_entry l s o ∷ []) at' → Through ends reads fronts (Some z.c) (next at' s) acc
+
+judged_through : (ends : Status → List ℕ → Type 0) (reads fronts : List ℕ → Type 0) (z : Scene) (base : Standing) (es : List Entry)
+    (at : Standing) (l : Numbered) (name : List ℕ) (acc : List ℕ) (next : Standing → Settled → Work) → Settles z base es at
+    → l.line ≡ Plan name → role_of z.first.plan l.line ≡ later name → Goes ends reads fronts z base es l acc next
     → (octets : List ℕ) → z.c name ≡ Some octets → length octets ≤ 1048576 → (plan : Network) → plan_of octets ≡ Ok plan
     → IsTrue (same_nodes at.first plan) → (v : Verdict) → IsJudged plan v
     → Through ends reads fronts (Some z.c) (judged_later at l.number name plan v next) acc
-judged_through ends reads fronts z pieces base ls ss at l name acc next h is_line role go octets there few plan reads_plan relays
-    (Accepted a) j =
-    go (record at { later = at.later ++ plan ∷ [] }) (prints (accepted_plan_line l.number (accepted at + 1) name a.bound))
-    (Settles-plan z pieces base ls ss at l name plan a.bound h is_line
+judged_through ends reads fronts z base es at l name acc next h is_line role go octets there few plan reads_plan relays (Accepted a) j =
+    let p : Published = record { name = name; plan = plan; bound = a.bound } in
+    go (record at { later = at.later ++ plan ∷ [] }) (prints (accepted_plan_line l.number (accepted at + 1) name a.bound)) (Some p)
+    (Settles-plan z base es at l p h is_line
     (record { octets = octets; file = there; within = few; reads = reads_plan; safe = j.1.0; longest = a.longest; tight = j.1.1 })
-    j.0 j.1.0 relays role)
-judged_through ends reads fronts z pieces base ls ss at l name acc next h is_line role go octets there few plan reads_plan relays
+    j.0 relays)
+judged_through ends reads fronts z base es at l name acc next h is_line role go octets there few plan reads_plan relays
     (Refused same witness) j =
-    go at (prints (refused_plan_head l.number name ++ verdict_text plan (Refused same witness)))
-    (Settles-line z pieces base ls ss at l _ h (λ x e. other_role role e) tt (named_fits z.c l name is_line octets there few))
-judged_through ends reads fronts z pieces base ls ss at l name acc next h is_line role go octets there few plan reads_plan relays
-    (TooWide same) j =
-    go at (prints (refused_plan_head l.number name ++ verdict_text plan (TooWide same)))
-    (Settles-line z pieces base ls ss at l _ h (λ x e. other_role role e) tt (named_fits z.c l name is_line octets there few))
+    go at (prints (refused_plan_head l.number name ++ verdict_text plan (Refused same witness))) None
+    (Settles-line z base es at l _ h (
+      (λ x e. other_role role e),
+      not_accepted z l name _ octets is_line there (subst (λ r. TellsRefusal z.first.plan l.number name r
+          (refused_plan_head l.number name ++ verdict_text plan (Refused same witness))) (sym reads_plan)
+          (inr (Refused same witness, j.1, tt, refl))),
+    ) (named_fits z.c l name is_line octets there few))
+judged_through ends reads fronts z base es at l name acc next h is_line role go octets there few plan reads_plan relays (TooWide same) j =
+    go at (prints (refused_plan_head l.number name ++ verdict_text plan (TooWide same))) None
+    (Settles-line z base es at l _ h (
+      (λ x e. other_role role e),
+      not_accepted z l name _ octets is_line there (subst (λ r. TellsRefusal z.first.plan l.number name r
+          (refused_plan_head l.number name ++ verdict_text plan (TooWide same))) (sym reads_plan)
+          (inr (TooWide same, j.1, tt, refl))),
+    ) (named_fits z.c l name is_line octets there few))
 
-later_through : (ends : Status → List ℕ → Type 0) (reads fronts : List ℕ
-    → Type 0) (z : Scene) (pieces : List Piece) (base : Standing) (ls : List Numbered) (ss : List Settled) (at : Standing) (l : Numbered)
-    (name : List ℕ) (acc : List ℕ)
-    (next : Standing → Settled → Work) → Settles z pieces base ls ss at → l.line ≡ Plan name → role_of z.first l.line ≡ later name
-    → ((at' : Standing) (s : Settled) → Settles z pieces base (ls ++ l ∷ []) (ss ++ s ∷ []) at'
-    → Through ends reads fronts (Some z.c) (next at' s) acc)
+later_through : (ends : Status → List ℕ → Type 0) (reads fronts : List ℕ → Type 0) (z : Scene) (base : Standing) (es : List Entry)
+    (at : Standing) (l : Numbered) (name : List ℕ) (acc : List ℕ) (next : Standing → Settled → Work) → Settles z base es at
+    → l.line ≡ Plan name → role_of z.first.plan l.line ≡ later name → Goes ends reads fronts z base es l acc next
     → (octets : List ℕ) → z.c name ≡ Some octets → length octets ≤ 1048576
     → Through ends reads fronts (Some z.c) (later_work at l.number name (plan_of octets) next) acc
-later_through ends reads fronts z pieces base ls ss at l name acc next h is_line role go octets there few = by (plan_of octets) refl where
+later_through ends reads fronts z base es at l name acc next h is_line role go octets there few = by (plan_of octets) refl where
   of : (b : Bool) (plan : Network) → same_nodes at.first plan ≡ b → plan_of octets ≡ Ok plan
       → Through ends reads fronts (Some z.c) (cond b (judge plan (λ v. judged_later at l.number name plan v next))
       (next at (prints (other_nodes_line l.number name)))) acc
-  of true plan e is = λ v j. judged_through ends reads fronts z pieces base ls ss at l name acc next h is_line role go octets there
-      few plan is e v j
-  of false plan e is = go at (prints (other_nodes_line l.number name))
-      (Settles-line z pieces base ls ss at l _ h (λ x f. other_role role f) tt (named_fits z.c l name is_line octets there few))
+  of true plan e is = λ v j. judged_through ends reads fronts z base es at l name acc next h is_line role go octets there few plan is e v j
+  of false plan e is = go at (prints (other_nodes_line l.number name)) None
+      (Settles-line z base es at l _ h (
+        (λ x f. other_role role f),
+        not_accepted z l name _ octets is_line there (subst
+            (λ r. TellsRefusal z.first.plan l.number name r (other_nodes_line l.number name))
+            (sym is) (inl (subst (λ n. same_nodes n plan ≡ false) h.first e, refl))),
+      ) (named_fits z.c l name is_line octets there few))
 
   by : (r : Result Network PlanFault) → plan_of octets ≡ r → Through ends reads fronts (Some z.c) (later_work at l.number name r next) acc
-  by (Err fault) e = go at (prints (bad_plan_line l.number name fault))
-      (Settles-line z pieces base ls ss at l _ h (λ x f. other_role role f) tt (named_fits z.c l name is_line octets there few))
+  by (Err fault) e = go at (prints (bad_plan_line l.number name fault)) None
+      (Settles-line z base es at l _ h (
+        (λ x f. other_role role f),
+        not_accepted z l name _ octets is_line there
+            (subst (λ r. TellsRefusal z.first.plan l.number name r (bad_plan_line l.number name fault)) (sym e) refl),
+      ) (named_fits z.c l name is_line octets there few))
   by (Ok plan) e = of (same_nodes at.first plan) plan refl e
 
-line_through : (ends : Status → List ℕ → Type 0) (reads fronts : List ℕ
-    → Type 0) (z : Scene) (pieces : List Piece) (base : Standing) (ls : List Numbered) (ss : List Settled) (at : Standing) (l : Numbered)
-    (acc : List ℕ)
-    (next : Standing → Settled → Work) → MayStop ends reads fronts z.c (l ∷ []) acc → Settles z pieces base ls ss at
-    → ((at' : Standing) (s : Settled) → Settles z pieces base (ls ++ l ∷ []) (ss ++ s ∷ []) at'
-    → Through ends reads fronts (Some z.c) (next at' s) acc)
+-- no line but that of a plan names one
+names_none : (first : Network) (l : Numbered) (r : Role) (text : List ℕ) (c : Contents) → role_of first l.line ≡ r
+    → ((name : List ℕ) → r ≡ later name → ⊥) → IsRefused c first l text
+names_none first l r text c is never name e = absurd (never name (sym is ∙ ap (role_of first) e))
+
+line_through : (ends : Status → List ℕ → Type 0) (reads fronts : List ℕ → Type 0) (z : Scene) (base : Standing) (es : List Entry)
+    (at : Standing) (l : Numbered) (acc : List ℕ) (next : Standing → Settled → Work) → MayStop ends reads fronts z.c (l ∷ []) acc
+    → Settles z base es at → Goes ends reads fronts z base es l acc next
     → Through ends reads fronts (Some z.c) (settle_line at l (role_of at.first l.line) next) acc
-line_through ends reads fronts z pieces base ls ss at l acc next stop h go = by (role_of at.first l.line) refl where
+line_through ends reads fronts z base es at l acc next stop h go = by (role_of at.first l.line) refl where
   named : (name : List ℕ) → role_of at.first l.line ≡ later name → l.line ≡ Plan name
   named name e = of_later at.first l.line name e
 
@@ -388,38 +330,44 @@ line_through ends reads fronts z pieces base ls ss at l acc next stop h go = by 
     stop.2 l.number name (0, omega arith, λ i. record { number = l.number; line = named name role i })
         (octets, there, ltb-true 1048576 (length octets) e),
   )
-  long false name octets e role there =
-      later_through ends reads fronts z pieces base ls ss at l name acc next h (named name role)
+  long false name octets e role there = later_through ends reads fronts z base es at l name acc next h (named name role)
       (subst (λ n. role_of n l.line ≡ later name) h.first role) go octets there (ltb-false 1048576 (length octets) e)
+
+  is_first : (r : Role) → role_of at.first l.line ≡ r → role_of z.first.plan l.line ≡ r
+  is_first r e = subst (λ n. role_of n l.line ≡ r) h.first e
 
   by : (r : Role) → role_of at.first l.line ≡ r → Through ends reads fronts (Some z.c) (settle_line at l r next) acc
   by (later name) e = (stop.0, λ octets there. long (ltb 1048576 (length octets)) name octets refl e there)
-  by (routed x) e = go at (routes l.number x (accepted at))
-      (Settles-line z pieces base ls ss at l _ h (refl, subst (λ n. role_of n l.line ≡ routed x) h.first e) (omega arith, omega arith)
-      (unnamed z.c at.first l (routed x) e (λ n f. cc)))
-  by aside e = go at (prints (event_text at.first l []))
-      (Settles-line z pieces base ls ss at l _ h (λ x f. aside_or (subst (λ n. role_of n l.line ≡ aside) h.first e) f) tt
-      (unnamed z.c at.first l aside e (λ n f. cc)))
-  by (alone d) e = go at (prints (event_text at.first l []))
-      (Settles-line z pieces base ls ss at l _ h (λ x f. alone_or (subst (λ n. role_of n l.line ≡ alone d) h.first e) f) tt
-      (unnamed z.c at.first l (alone d) e (λ n f. cc)))
+  by (routed x) e = go at (routes l.number x (accepted at)) None
+      (Settles-line z base es at l _ h (refl, is_first (routed x) e, refl) (unnamed z.c at.first l (routed x) e (λ n f. cc)))
+  by aside e = go at (prints (event_text at.first l [])) None
+      (Settles-line z base es at l _ h (
+        (λ x f. aside_or (is_first aside e) f),
+        names_none z.first.plan l aside _ z.c (is_first aside e) (λ n f. cc),
+      ) (unnamed z.c at.first l aside e (λ n f. cc)))
+  by (alone d) e = go at (prints (event_text at.first l [])) None
+      (Settles-line z base es at l _ h (
+        (λ x f. alone_or (is_first (alone d) e) f),
+        names_none z.first.plan l (alone d) _ z.c (is_first (alone d) e) (λ n f. cc),
+      ) (unnamed z.c at.first l (alone d) e (λ n f. cc)))
 
-pub settle_through : (ends : Status → List ℕ → Type 0) (reads fronts : List ℕ
-    → Type 0) (z : Scene) (pieces : List Piece) (base : Standing) (all : List Numbered) (acc : List ℕ)
-    (next : Standing → List Settled → Work) → MayStop ends reads fronts z.c all acc
-    → ((at' : Standing) (ss' : List Settled) → Settles z pieces base all ss' at' → Through ends reads fronts (Some z.c) (next at' ss') acc)
-    → (lines : List Numbered) (ls : List Numbered) (ss : List Settled) (at : Standing) → ls ++ lines ≡ all → Settles z pieces base ls ss at
-    → Through ends reads fronts (Some z.c) (settle at ss lines next) acc
+pub settle_through : (ends : Status → List ℕ → Type 0) (reads fronts : List ℕ → Type 0) (z : Scene) (base : Standing)
+    (all : List Numbered) (acc : List ℕ) (next : Standing → List Settled → Work) → MayStop ends reads fronts z.c all acc
+    → ((at' : Standing) (es : List Entry) → entry_lines es ≡ all → Settles z base es at'
+    → Through ends reads fronts (Some z.c) (next at' (settled_of es)) acc)
+    → (lines : List Numbered) (es : List Entry) (at : Standing) → entry_lines es ++ lines ≡ all → Settles z base es at
+    → Through ends reads fronts (Some z.c) (settle at (settled_of es) lines next) acc
 unfolding settle
-settle_through ends reads fronts z pieces base all acc next stop go [] ls ss at e h =
-    go at ss (subst (λ k. Settles z pieces base k ss at) (sym (append-nil ls) ∙ e) h)
-settle_through ends reads fronts z pieces base all acc next stop go (l ∷ lines) ls ss at e h =
-    line_through ends reads fronts z pieces base ls ss at l acc (λ at' s. settle at' (ss ++ s ∷ []) lines next) (
+settle_through ends reads fronts z base all acc next stop go [] es at e h = go at es (sym (append-nil (entry_lines es)) ∙ e) h
+settle_through ends reads fronts z base all acc next stop go (l ∷ lines) es at e h =
+    line_through ends reads fronts z base es at l acc (λ at' s. settle at' (settled_of es ++ s ∷ []) lines next) (
       stop.0,
       stop.1,
       λ number name has long. stop.2 number name (subst (λ k. Contains k (record { number = number; line = Plan name }))
-          (append_assoc ls (l ∷ []) lines ∙ e)
-          (Contains-append_left (ls ++ l ∷ []) lines _ (Contains-append_right ls (l ∷ []) _ has))) long,
+          (append_assoc (entry_lines es) (l ∷ []) lines ∙ e)
+          (Contains-append_left (entry_lines es ++ l ∷ []) lines _ (Contains-append_right (entry_lines es) (l ∷ []) _ has))) long,
     ) h
-    (λ at' s h'. settle_through ends reads fronts z pieces base all acc next stop go lines (ls ++ l ∷ []) (ss ++ s ∷ []) at'
-    (append_assoc ls (l ∷ []) lines ∙ e) h')
+    (λ at' s o h'. subst (λ ss. Through ends reads fronts (Some z.c) (settle at' ss lines next) acc)
+    (map-append (λ f. f.settled) es (new_entry l s o ∷ []))
+    (settle_through ends reads fronts z base all acc next stop go lines (es ++ new_entry l s o ∷ []) at'
+    (ap (λ ls. ls ++ lines) (map-append (λ f. f.line) es (new_entry l s o ∷ [])) ∙ append_assoc (entry_lines es) (l ∷ []) lines ∙ e) h'))

@@ -3,7 +3,7 @@ use Rattle.std.proofs.Common.{◌≡◌, ℕ, ◌+◌, List, [], ◌∷◌, ◌+
 use Rattle.std.proofs.Common.{◌∙◌, ap, subst, append-nil, arith}
 use Rattle.std.specs.Prelude.{OnOk, IfOk}
 use Rattle.std.proofs.lemmas.List.{map-append}
-use Rattle.std.specs.Io.KnownBytes.{append_known, IsAtEnd}
+use Rattle.std.specs.Io.KnownBytes.{IsAtEnd}
 use Rattle.relay_net.specs.Batches.{Due}
 use Rattle.sccp_report.specs.Events.{event_text}
 use Rattle.sccp_report.specs.Roles.{alone, role_of}

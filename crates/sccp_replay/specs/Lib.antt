@@ -1,5 +1,7 @@
 -- The definitions of this crate, one file a subject.
 pub mod Account
+pub mod BatchEnds
+pub mod Fences
 pub mod Gathering
 pub mod Holding
 pub mod Incoming

@@ -2,7 +2,8 @@
 //! one worker or several, while later plans of the trace are judged and published.
 //!
 //! The crate above may rely on this: what a replay reads, prints and answers is its work (`replay_work`, `specs/Replay`), whatever
-//! the number of workers. `specs/Account` says in a reader's words what its text contains.
+//! the number of workers. `specs/Account` says in a reader's words what its text contains, and a law says when the workers' number
+//! does not count.
 #![tactic(auto)]
 
 mod alone;
@@ -13,6 +14,7 @@ mod host;
 mod incoming;
 mod joined;
 mod later_lines;
+mod laws;
 mod replayer;
 mod replaying;
 mod router;
@@ -24,5 +26,6 @@ mod tracing;
 mod workers;
 
 pub use host::Host;
+pub use laws::fenced_replays_are_those_of_one_worker;
 pub use replaying::replay;
 pub use workers::Workers;

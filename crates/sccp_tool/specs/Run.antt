@@ -97,7 +97,7 @@ TellsAnswer c task given taken taken' = Unit {0}
 -- what the sink took of a replay gives the bound of the first plan and, of each message that was routed, its whole journey
 abbrev pub TellsJourneys : Contents → Option Task → Status → Option (List ℕ) → Option (List ℕ) → Type 0
 TellsJourneys c (Some (Replay plan trace workers)) given taken taken' =
-    (text : List ℕ) × (taken' ≡ append_known taken text) × TellsReplay c plan trace given text
+    (text : List ℕ) × (taken' ≡ append_known taken text) × TellsReplay c plan trace workers given text
 TellsJourneys c task given taken taken' = Unit {0}
 
 -- each file is there that the words name, or that a line of the trace names as a later plan
