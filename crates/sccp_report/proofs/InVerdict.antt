@@ -24,7 +24,7 @@ pub longest_begins : (plan : Network) (v : Verified) → IsPlan plan → IsVerif
 longest_begins plan v is holds same = covered_node plan v.longest.spot is (subst (λ p. Covered p v.longest.spot) same holds.tight.covered)
 
 -- so does a route of a title that a cover has
-has_node : (plan : Network) (number : ℕ) (spot : Spot) → IsPlan plan → HasSpot plan number spot → spot.node < length plan.nodes
+pub has_node : (plan : Network) (number : ℕ) (spot : Spot) → IsPlan plan → HasSpot plan number spot → spot.node < length plan.nodes
 has_node plan number spot is has =
     let at = some_of (slice_get plan.covers number) (λ c. Covers c spot) has in
     covered_node plan spot is

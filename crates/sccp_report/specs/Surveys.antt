@@ -24,25 +24,35 @@ row_text row = selector_text row.selector ++ codes " " ++ or_dash decimal row.ss
 abbrev pub row_at : Network → RowPlace → Option Rule
 row_at plan place = option_and_then (λ node. slice_get node.table place.row) (slice_get plan.nodes place.node)
 
+-- the name of a node after these words
+unfoldable pub at_node : List ℕ → Network → ℕ → List ℕ
+at_node words plan node = words ++ node_text plan node
+
 -- a relay that no covered title gets to
 unfoldable pub unused_relay_line : Network → ℕ → List ℕ
-unused_relay_line plan node = codes "unused relay " ++ node_text plan node ++ codes "\n"
+unused_relay_line plan node = at_node (codes "unused relay ") plan node ++ codes "\n"
+
+-- the name of a node, and the place of a row in its table
+unfoldable pub at_row : List ℕ → Network → ℕ → ℕ → List ℕ
+at_row words plan node row = at_node words plan node ++ numbered (codes " ") row
+
+-- the last number of a line
+unfoldable pub last_number : List ℕ → ℕ → List ℕ
+last_number name number = numbered name number ++ codes "\n"
 
 -- a row that counts for no covered title: its relay, its place in the table, and what it is
 unfoldable pub unused_row_line : Network → RowPlace → List ℕ
 unused_row_line plan place =
-    codes "unused row " ++ node_text plan place.node ++ numbered (codes " ") place.row ++ codes " "
-    ++ option_map_or row_text (row_at plan place) [] ++ codes "\n"
+    at_row (codes "unused row ") plan place.node place.row ++ codes " " ++ option_map_or row_text (row_at plan place) [] ++ codes "\n"
 
 -- a target that no covered title takes: its relay, the place of its row, and its own among the row's targets
 unfoldable pub unused_target_line : Network → TargetPlace → List ℕ
 unused_target_line plan place =
-    codes "unused target " ++ node_text plan place.node ++ numbered (codes " ") place.row ++ numbered (codes " ") place.target
-    ++ codes "\n"
+    at_row (codes "unused target ") plan place.node place.row ++ last_number (codes " ") place.target
 
 -- a cover that adds nothing to another one
 unfoldable pub needless_line : Needless → List ℕ
-needless_line needless = numbered (codes "unused cover ") needless.cover ++ numbered (codes " within ") needless.within ++ codes "\n"
+needless_line needless = numbered (codes "unused cover ") needless.cover ++ last_number (codes " within ") needless.within
 
 -- a title of a cover at a relay that has no row for it, and what the relay does with it while nothing is prohibited
 unfoldable pub gap_line : Network → Gap → List ℕ
@@ -50,12 +60,20 @@ gap_line plan gap =
     numbered (codes "gap cover ") gap.cover ++ step_text plan (step plan gap.spot []) ++ codes " " ++ spot_text plan gap.spot
     ++ codes "\n"
 
+-- how many relays
+unfoldable pub relays_words : ℕ → List ℕ
+relays_words relays = codes "unused " ++ numbered (codes "relays ") relays
+
+-- how many targets and covers
+unfoldable pub covers_words : ℕ → ℕ → List ℕ
+covers_words targets covers = numbered (codes " targets ") targets ++ numbered (codes " covers ") covers
+
 -- how many of each
-unfoldable pub totals_line : Unused → List ℕ
+abbrev pub totals_line : Unused → List ℕ
 totals_line found =
-    numbered (codes "unused relays ") (length found.relays) ++ numbered (codes " rows ") (length found.rows)
-    ++ numbered (codes " targets ") (length found.targets) ++ numbered (codes " covers ") (length found.covers)
-    ++ numbered (codes " gaps ") (length found.gaps) ++ codes "\n"
+    relays_words (length found.relays) ++ numbered (codes " rows ") (length found.rows)
+    ++ covers_words (length found.targets) (length found.covers)
+    ++ last_number (codes " gaps ") (length found.gaps)
 
 -- a line for each, in the order of the plan, and how many there are
 abbrev pub unused_text : Network → Unused → List ℕ

@@ -4,8 +4,9 @@ ghost use Rattle.std.specs.List.{flat_map};
 ghost use Rattle.std.specs.Option.{option_copied, option_map_or};
 ghost use Rattle.plan_model.specs.Steps.{step};
 ghost use Rattle.sccp_report.specs.Hops.{step_text};
-ghost use Rattle.sccp_report.specs.Surveys.{row_text, row_at, unused_relay_line, unused_row_line, unused_target_line, needless_line};
-ghost use Rattle.sccp_report.specs.Surveys.{gap_line, totals_line, unused_text, survey_text, HasGapsIn};
+ghost use Rattle.sccp_report.specs.Surveys.{row_text, row_at, at_node, at_row, last_number, unused_relay_line, unused_row_line};
+ghost use Rattle.sccp_report.specs.Surveys.{unused_target_line, needless_line, gap_line, relays_words, covers_words, totals_line};
+ghost use Rattle.sccp_report.specs.Surveys.{unused_text, survey_text, HasGapsIn};
 
 use crate::hop::{put_spot, put_step};
 use crate::node::put_node;
@@ -50,12 +51,44 @@ fn put_row_at(text: &mut Text, plan: &Plan, place: RowPlace) -> Result<(), OutOf
     }
 }
 
+/// Appends the name of a node after these words.
+#[tactic(auto, unfolding(crate::specs::Surveys::at_node))]
+fn put_at_node(text: &mut Text, words: &[u8], plan: &Plan, node: u8) -> Result<(), OutOfMemory>
+    ensures { OnOk result (text.new ≡ text.old ++ at_node words.now plan.now node) }
+{
+    text.put(words)?;
+    put_node(text, plan, node)
+}
+
+/// Appends the name of a node after these words, and the place of a row in its table.
+#[tactic(auto, unfolding(crate::specs::Surveys::at_row))]
+fn put_at_row(
+    text: &mut Text,
+    words: &[u8],
+    plan: &Plan,
+    node: u8,
+    row: u16,
+) -> Result<(), OutOfMemory>
+    ensures { OnOk result (text.new ≡ text.old ++ at_row words.now plan.now node row) }
+{
+    put_at_node(text, words, plan, node)?;
+    text.put_numbered(b" ", u32::from(row))
+}
+
+/// Appends the last number of a line.
+#[tactic(auto, unfolding(crate::specs::Surveys::last_number))]
+fn put_last_number(text: &mut Text, name: &[u8], number: usize) -> Result<(), OutOfMemory>
+    ensures { OnOk result (text.new ≡ text.old ++ last_number name.now number) }
+{
+    text.put_counted(name, number)?;
+    text.put(b"\n")
+}
+
 #[tactic(auto, unfolding(crate::specs::Surveys::unused_relay_line))]
 fn put_relay(text: &mut Text, plan: &Plan, node: u8) -> Result<(), OutOfMemory>
     ensures { OnOk result (text.new ≡ text.old ++ unused_relay_line plan.now node) }
 {
-    text.put(b"unused relay ")?;
-    put_node(text, plan, node)?;
+    put_at_node(text, b"unused relay ", plan, node)?;
     text.put(b"\n")
 }
 
@@ -63,9 +96,7 @@ fn put_relay(text: &mut Text, plan: &Plan, node: u8) -> Result<(), OutOfMemory>
 fn put_unused_row(text: &mut Text, plan: &Plan, place: RowPlace) -> Result<(), OutOfMemory>
     ensures { OnOk result (text.new ≡ text.old ++ unused_row_line plan.now place) }
 {
-    text.put(b"unused row ")?;
-    put_node(text, plan, place.node)?;
-    text.put_numbered(b" ", u32::from(place.row))?;
+    put_at_row(text, b"unused row ", plan, place.node, place.row)?;
     text.put(b" ")?;
     put_row_at(text, plan, place)?;
     text.put(b"\n")
@@ -75,11 +106,8 @@ fn put_unused_row(text: &mut Text, plan: &Plan, place: RowPlace) -> Result<(), O
 fn put_target(text: &mut Text, plan: &Plan, place: TargetPlace) -> Result<(), OutOfMemory>
     ensures { OnOk result (text.new ≡ text.old ++ unused_target_line plan.now place) }
 {
-    text.put(b"unused target ")?;
-    put_node(text, plan, place.node)?;
-    text.put_numbered(b" ", u32::from(place.row))?;
-    text.put_numbered(b" ", u32::from(place.target))?;
-    text.put(b"\n")
+    put_at_row(text, b"unused target ", plan, place.node, place.row)?;
+    put_last_number(text, b" ", usize::from(place.target))
 }
 
 #[tactic(auto, unfolding(crate::specs::Surveys::needless_line))]
@@ -87,8 +115,7 @@ fn put_needless(text: &mut Text, needless: Needless) -> Result<(), OutOfMemory>
     ensures { OnOk result (text.new ≡ text.old ++ needless_line needless) }
 {
     text.put_numbered(b"unused cover ", u32::from(needless.cover))?;
-    text.put_numbered(b" within ", u32::from(needless.within))?;
-    text.put(b"\n")
+    put_last_number(text, b" within ", usize::from(needless.within))
 }
 
 /// Appends what a relay does with a title while nothing is prohibited.
@@ -113,16 +140,35 @@ fn put_gap(alloc: Global, text: &mut Text, plan: &Plan, gap: &Gap) -> Result<(),
     text.put(b"\n")
 }
 
-#[tactic(auto, unfolding(crate::specs::Surveys::totals_line))]
+/// Appends how many relays are unused.
+#[tactic(auto, unfolding(crate::specs::Surveys::relays_words))]
+fn put_relay_count(text: &mut Text, relays: usize) -> Result<(), OutOfMemory>
+    ensures { OnOk result (text.new ≡ text.old ++ relays_words relays) }
+{
+    text.put(b"unused ")?;
+    text.put_counted(b"relays ", relays)
+}
+
+/// Appends how many targets and covers are unused.
+#[tactic(auto, unfolding(crate::specs::Surveys::covers_words))]
+fn put_cover_counts(text: &mut Text, targets: usize, covers: usize) -> Result<(), OutOfMemory>
+    ensures { OnOk result (text.new ≡ text.old ++ covers_words targets covers) }
+{
+    text.put_counted(b" targets ", targets)?;
+    text.put_counted(b" covers ", covers)
+}
+
 fn put_totals(text: &mut Text, found: &Unused) -> Result<(), OutOfMemory>
     ensures { OnOk result (text.new ≡ text.old ++ totals_line found.now) }
 {
-    text.put_counted(b"unused relays ", found.relays.as_slice().len())?;
+    put_relay_count(text, found.relays.as_slice().len())?;
     text.put_counted(b" rows ", found.rows.as_slice().len())?;
-    text.put_counted(b" targets ", found.targets.as_slice().len())?;
-    text.put_counted(b" covers ", found.covers.as_slice().len())?;
-    text.put_counted(b" gaps ", found.gaps.as_slice().len())?;
-    text.put(b"\n")
+    put_cover_counts(
+        text,
+        found.targets.as_slice().len(),
+        found.covers.as_slice().len(),
+    )?;
+    put_last_number(text, b" gaps ", found.gaps.as_slice().len())
 }
 
 fn put_relays(text: &mut Text, plan: &Plan, relays: &[u8]) -> Result<(), OutOfMemory>
