@@ -3,7 +3,6 @@ use Rattle.std.specs.Prelude.{ℕ, ◌≡◌, ◌⊎◌, ◌+◌, ◌-◌, ◌<�
 use Rattle.std.specs.Prelude.{IsSomeAnd, slice_get}
 use Rattle.std.proofs.Common.{suc, sym, ◌∙◌, ap, subst, inr, ⊎_elim, arith, drop-cons, add-one}
 use Rattle.std.proofs.lemmas.Bool.{cases_lt}
-use Rattle.std.proofs.lemmas.Result.{on_ok_weaker}
 use Rattle.plan_model.specs.declared.cover.Cover.{Cover}
 use Rattle.plan_model.specs.Network.{Network}
 use Rattle.plan_classes.specs.declared.leads.Image.TheVariants.{Next}
@@ -18,6 +17,11 @@ use Rattle.plan_margin.specs.Searching.{IsTurn, IsOutageSet, IsWithUp, IsWithLos
 use Rattle.plan_margin.specs.Ways.{Stage, AtClass, AtClasses, AtTargets, AtTarget, Ways, Uncounted, Counted, InParts, ByRow, Each}
 use Rattle.plan_margin.specs.Ways.{IsClosed, IsTaken, IfUp, Both, Onward, IsFirstSet, HasWays, HasManyWays}
 use Rattle.plan_margin.specs.Ways.{Counts, CountsUp, CountsLost, IfWide}
+
+-- a fact on a result from another one
+on_ok_map : {E : Type 0} (r : Result Found E) (P Q : Type 0) → (P → Q) → OnOk r P → OnOk r Q
+on_ok_map (Ok f) P Q g h = g h
+on_ok_map (Err e) P Q g h = h
 
 -- nothing is counted
 pub counts_none : {E : Type 0} (r : Result Found E) (plan : Network) (set : OutageSet) (left : ℕ) (stage : Stage) (count : ℕ)
@@ -34,15 +38,13 @@ pub counts_parts : {E : Type 0} (r : Result Found E) (plan : Network) (set : Out
     → (Decided plan c → ⊥) → OnOk r (Counts plan set left (AtClasses (parts_of c)) (old + 1) new)
     → OnOk r (Counts plan set left (AtClass c) old new)
 counts_parts r plan set left c old new some undecided =
-    on_ok_weaker {P = Counts plan set left (AtClasses (parts_of c)) (old + 1) new}
-    {Q = Counts plan set left (AtClass c) old new} r
+    on_ok_map r (Counts plan set left (AtClasses (parts_of c)) (old + 1) new) (Counts plan set left (AtClass c) old new)
     (λ h. record { met = 1 + h.met; tree = InParts some undecided h.tree; sum = omega (arith, h.sum) })
 
 pub counts_row : {E : Type 0} (r : Result Found E) (plan : Network) (set : OutageSet) (left : ℕ) (c : Titles) (old new : ℕ) → 0 < left
     → Decided plan c → OnOk r (Counts plan set left (AtTargets c 0) (old + 1) new) → OnOk r (Counts plan set left (AtClass c) old new)
 counts_row r plan set left c old new some decided =
-    on_ok_weaker {P = Counts plan set left (AtTargets c 0) (old + 1) new}
-    {Q = Counts plan set left (AtClass c) old new} r
+    on_ok_map r (Counts plan set left (AtTargets c 0) (old + 1) new) (Counts plan set left (AtClass c) old new)
     (λ h. record { met = 1 + h.met; tree = ByRow some decided h.tree; sum = omega (arith, h.sum) })
 
 -- What is counted of the parts before a place. Whatever is counted of the others comes to it.
@@ -96,16 +98,14 @@ pub counts_closed : {E : Type 0} (r : Result Found E) (plan : Network) (set : Ou
     → IsTurn plan c place set Lost → OnOk r (Counts plan set left (AtTargets c (place + 1)) old new)
     → OnOk r (Counts plan set left (AtTargets c place) old new)
 counts_closed r plan set left c place old new turn =
-    on_ok_weaker {P = Counts plan set left (AtTargets c (place + 1)) old new}
-    {Q = Counts plan set left (AtTargets c place) old new} r
+    on_ok_map r (Counts plan set left (AtTargets c (place + 1)) old new) (Counts plan set left (AtTargets c place) old new)
     (λ h. record { met = h.met; tree = IsClosed turn h.tree; sum = h.sum })
 
 pub counts_taken : {E : Type 0} (r : Result Found E) (plan : Network) (set : OutageSet) (left : ℕ) (c : Titles) (place old new : ℕ)
     → IsTurn plan c place set Taken → OnOk r (Counts plan set left (AtTarget c place) old new)
     → OnOk r (Counts plan set left (AtTargets c place) old new)
 counts_taken r plan set left c place old new turn =
-    on_ok_weaker {P = Counts plan set left (AtTarget c place) old new}
-    {Q = Counts plan set left (AtTargets c place) old new} r
+    on_ok_map r (Counts plan set left (AtTarget c place) old new) (Counts plan set left (AtTargets c place) old new)
     (λ h. record { met = h.met; tree = IsTaken turn h.tree; sum = h.sum })
 
 -- a target that is taken in some outages and closed in others
@@ -113,8 +113,7 @@ pub counts_if_up : {E : Type 0} (r : Result Found E) (plan : Network) (set up : 
     (place point old new : ℕ) → IsWithUp set point up → OnOk r (Counts plan up left (AtTarget c place) old new)
     → OnOk r (CountsUp plan set left c place point old new)
 counts_if_up r plan set up left c place point old new made =
-    on_ok_weaker {P = Counts plan up left (AtTarget c place) old new}
-    {Q = CountsUp plan set left c place point old new} r
+    on_ok_map r (Counts plan up left (AtTarget c place) old new) (CountsUp plan set left c place point old new)
     (λ h. record { up = up; made = made; counts = h })
 
 pub counts_if_lost : {E : Type 0} (r : Result Found E) (plan : Network) (set lost : OutageSet) (left : ℕ) (c : Titles)
@@ -122,8 +121,7 @@ pub counts_if_lost : {E : Type 0} (r : Result Found E) (plan : Network) (set los
     → OnOk r (Counts plan lost left (AtTargets c (place + 1)) old new)
     → OnOk r ((new ≡ old) ⊎ CountsLost plan set left c place point old new)
 counts_if_lost r plan set lost left c place point old new is room made =
-    on_ok_weaker {P = Counts plan lost left (AtTargets c (place + 1)) old new}
-    {Q = (new ≡ old) ⊎ CountsLost plan set left c place point old new} r
+    on_ok_map r (Counts plan lost left (AtTargets c (place + 1)) old new) ((new ≡ old) ⊎ CountsLost plan set left c place point old new)
     (λ h. inr (record {
       lost = lost;
       room = ⊎_elim (λ (lt : length set.lost < set.most). lt)
