@@ -21,7 +21,7 @@ use Rattle.sccp_work.specs.Questions.{survey_of}
 use Rattle.sccp_work.specs.Work.{answered, Ends}
 use Rattle.sccp_work.specs.Writing.{Writes}
 use Rattle.sccp_work.specs.declared.status.Status.{Status}
-use Rattle.sccp_work.specs.declared.status.Status.TheVariants.{Done, Usage, BadPlan, TooWide, TooLong}
+use Rattle.sccp_work.specs.declared.status.Status.TheVariants.{Done, Usage, BadPlan, TooLong}
 use Rattle.sccp_work.specs.declared.stop.Stop.{Stop}
 
 -- ---- the survey is printed
