@@ -29,15 +29,26 @@ Fields in [] are only there if the line has them. A.B is the key B of the dict A
   bad_plan           [which] FAULT                                every command that reads a plan
   bad_trace_line     line fault                                   show, import, replay
   unknown_node       [line]                                       route, connect, send-on; with a line: replay
-  accepted           [which] bound                                verify; with which ("old" or "new"): change
-  refused            [which] KIND cover steady                    verify, replay, load, connect; with which: change
-  too_wide           [which]                                      the same
+  accepted           [which] bound                                verify, margin; with which ("old" or "new"): change
+  refused            [which] KIND cover steady                    verify, margin, replay, load, connect; with which: change
+  too_wide           [which]                                      the same, and unused
   cover_accepted     cover bound                                  covers
   cover_refused      KIND cover steady                            covers
-  cover_too_wide     cover                                        covers
+  cover_too_wide     cover [points]                               covers; with points: margin
   covers_accepted    bound                                        covers
   covers_counted     accepted refused too_wide                    covers: how many, if not all are accepted
-  hop                [which] node title held step ..              verify, covers, route, replay, load, connect, change
+  unused_relay       node                                         unused
+  unused_row         node row selector ssn prefix                 unused: ssn is None if the row has none
+  unused_target      node row target                              unused
+  unused_cover       cover within                                 unused: within is the other cover
+  gap                cover cause node title                       unused
+  unused_counted     relays rows targets covers gaps              unused: how many
+  cover_stopped      cover points                                 margin: points is how many
+  cover_survives     cover points                                 margin
+  cover_survives_any cover                                        margin
+  covers_survive     points                                       margin: if each cover survives them
+  margins_counted    least stopped too_wide                       margin: otherwise
+  hop                [which] node title held step ..              verify, covers, margin, route, replay, load, connect, change
   change_accepted    bound                                        change
   change_refused     KIND old_cover new_cover                     change
   change_too_wide                                                 change
@@ -83,7 +94,7 @@ FAULT is fault, with place.node, place.row, place.cover and place.key as far as 
 place.rows, "strip too long" or "kind two" with place.row. "limit" has of, and "not toml" and "no cover" have no more.
 WHY is fault, and for "bad pointer" and "bad part" number, for "address" number and why, for "field" name.
 
-title of a hop is title.selector, title.ssn and title.digits. step is "sent" with next and target, "ended" with point, ssn and
+title of a hop or a gap is title.selector, title.ssn and title.digits. step is "sent" with next and target, "ended" with point, ssn and
 target, "blocked" or "no row" with cause, or "overgrown". title of an address is None, or title.selector and title.digits, or
 title.raw (its kind) and title.octets.
 
@@ -92,9 +103,10 @@ service; or "cut". segment is "more", "full", "whole" with whole, or "dropped" w
 service.way: "sent" with service.to, "closed" with service.mark, or "via" with service.via and service.end. That is "ended" with
 service.point, service.ssn and service.arrived; "local" with service.ssn; "lost" with service.cause; "management"; "cut"; or None.
 
-read_groups puts hops into the list "hops" of the record before them, if that is accepted, refused, cover_refused, change_accepted,
-change_refused or plan_refused; other hops, as those of `route`, become {"form": "route", "hops": [..]}. The lines of a message become the list "parts"
-of the record message. The records sends go into the list "sends" of the record before them, if it is of the same line of the trace.
+read_groups puts hops into the list "hops" of the record before them, if that is accepted, refused, cover_refused, cover_stopped,
+change_accepted, change_refused or plan_refused; other hops, as those of `route`, become {"form": "route", "hops": [..]}. The lines of a
+message become the list "parts" of the record message. The records sends go into the list "sends" of the record before them, if it is of the
+same line of the trace.
 """
 import json
 import re
@@ -179,7 +191,7 @@ SELECTOR = Type(f"(?:[12]:{WHOLE}|3:{WHOLE}:{WHOLE}|4:{WHOLE}:{WHOLE}:{WHOLE})")
 TYPES = {
     "node": NAME, "next": NAME, "place.node": NUMBER,
     "point": POINT, "to": POINT, "origin": POINT,
-    "octets": OCTETS, "data": OCTETS, "whole": OCTETS, "arrived": OCTETS, "digits": DIGITS,
+    "octets": OCTETS, "data": OCTETS, "whole": OCTETS, "arrived": OCTETS, "digits": DIGITS, "prefix": DIGITS,
     "held": MARKS, "marks": MARKS, "mark": Type(MARK, read_mark, mark_text), "via": NAMES,
     "selector": SELECTOR,
     "file": Type("[!-~]{1,255}"),
@@ -187,6 +199,7 @@ TYPES = {
     "rows": Type(f"{WHOLE} {WHOLE}", *listed(" ", int, str)),
     "shapes": Type(f"{SHAPE}(?: \\| {SHAPE})*", *listed(" | ")),
     # Types that the patterns name.
+    "number": NUMBER,
     "of_connection": one_of(CONNECTION_ORIENTED),
     "status_word": one_of("ssa, ssp, sst, sor, sog, ssc"),
     "key_word": one_of("version, node, cover, name, point, subsystems, concerned, row, selector, prefix, first, backup, targets, ssn, "
@@ -244,10 +257,10 @@ def causes(table, other):
     return f"({'|'.join(with_texts)}|{{cause:{other}}}{{text:=null:}})"
 
 
-EVERY = "show-hex show cuts route verify covers change replay load send-on connect import"
-FILES = "show route verify covers change replay send-on connect import"
+EVERY = "show-hex show cuts route verify covers unused margin change replay load send-on connect import"
+FILES = "show route verify covers unused margin change replay send-on connect import"
 COMMANDS = frozenset(EVERY.split())
-JUDGED = "verify replay load connect"
+JUDGED = "verify margin replay load connect"
 SHOWN = "show-hex show"
 
 # Each form: its name, and each of its patterns after the commands that print such lines.
@@ -255,17 +268,29 @@ TABLE = [
     ("usage", (EVERY, "usage: {shapes}")),
     ("too_long", (FILES, "too long")),
     ("read_fault", (FILES, "read fault")),
-    ("bad_plan", ("route verify covers replay send-on connect import", "<BAD_PLAN>"), ("change", "<WHICH><BAD_PLAN>")),
+    ("bad_plan", ("route verify covers unused margin replay send-on connect import", "<BAD_PLAN>"), ("change", "<WHICH><BAD_PLAN>")),
     ("bad_trace_line", ("show import replay", "bad trace line {line} {fault:line_fault}")),
     ("unknown_node", ("route connect send-on", "unknown node"), ("replay", "{line} unknown node")),
-    ("accepted", ("verify", "accepted bound {bound}"), ("change", "<WHICH>accepted bound {bound}")),
+    ("accepted", ("verify margin", "accepted bound {bound}"), ("change", "<WHICH>accepted bound {bound}")),
     ("refused", (JUDGED, "refused <KIND> cover {cover} <STEADY>"), ("change", "<WHICH>refused <KIND> cover {cover} <STEADY>")),
-    ("too_wide", (JUDGED, "too wide"), ("change", "<WHICH>too wide")),
+    ("too_wide", (f"{JUDGED} unused", "too wide"), ("change", "<WHICH>too wide")),
     ("cover_accepted", ("covers", "cover {cover} accepted bound {bound}")),
     ("cover_refused", ("covers", "cover {cover} refused <KIND> <STEADY>")),
-    ("cover_too_wide", ("covers", "cover {cover} too wide")),
+    ("cover_too_wide", ("covers", "cover {cover} too wide"), ("margin", "cover {cover} too wide at {points}")),
     ("covers_accepted", ("covers", "all accepted bound {bound}")),
     ("covers_counted", ("covers", "accepted {accepted} refused {refused} too wide {too_wide}")),
+    ("unused_relay", ("unused", "unused relay {node}")),
+    ("unused_row", ("unused", "unused row {node} {row} {selector} ({ssn:=null:-}|{ssn}) {prefix}")),
+    ("unused_target", ("unused", "unused target {node} {row} {target}")),
+    ("unused_cover", ("unused", "unused cover {cover} within {within}")),
+    ("gap", ("unused", "gap cover {cover} no row {cause} at {node} <TITLE>")),
+    ("unused_counted",
+     ("unused", "unused relays {relays} rows {rows:number} targets {targets} covers {covers} gaps {gaps}")),
+    ("cover_stopped", ("margin", "cover {cover} stopped by {points}")),
+    ("cover_survives", ("margin", "cover {cover} survives {points}")),
+    ("cover_survives_any", ("margin", "cover {cover} survives any")),
+    ("covers_survive", ("margin", "all survive {points}")),
+    ("margins_counted", ("margin", "least {least} stopped {stopped} too wide {too_wide}")),
     ("hop", (f"{JUDGED} covers route change", "<HOP>"), ("change", "<WHICH><HOP>")),
     ("change_accepted", ("change", "change accepted bound {bound}")),
     ("change_refused", ("change", "change refused <KIND> covers {old_cover} {new_cover}")),
@@ -489,7 +514,7 @@ def write_line(record):
 
 # ---- Lines that belong together
 
-HAVE_HOPS = ("accepted", "refused", "cover_refused", "change_accepted", "change_refused", "plan_refused", "route")
+HAVE_HOPS = ("accepted", "refused", "cover_refused", "cover_stopped", "change_accepted", "change_refused", "plan_refused", "route")
 OF_MESSAGES = [name for name, (commands, _), *_ in TABLE if commands == SHOWN and name != "message"]
 
 

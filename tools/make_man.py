@@ -83,7 +83,7 @@ def pieces(lines):
 
 def summary(name, text):
     """What the first section says of a command, without its name."""
-    name_again, _, rest = " ".join(text["NAME"]).partition(" - ")
+    name_again, _, rest = " ".join(" ".join(text["NAME"]).split()).partition(" - ")
     if name_again != name or not rest:
         raise Fault(f"docs/help/{name}.txt: NAME is not '{name} - ' and what it does")
     return rest

@@ -97,7 +97,7 @@ class Route:
     def __init__(self, record):
         self.verdict = without_hops(record)
         self.hops = [Hop(number, hop) for number, hop in enumerate(record["hops"])]
-        self.is_bad = "refused" in record["form"]
+        self.is_bad = "refused" in record["form"] or record["form"] == "cover_stopped"
 
     def line(self):
         return "" if self.verdict["form"] == "route" else line_of(self.verdict)

@@ -1,11 +1,14 @@
 #!/usr/bin/env python3
 """Writes what the program says of a plan as one HTML page, which needs no other file and no network.
 
-  tools/report.py PLAN [--change NEW] [--trace TRACE [--workers N]] [-o FILE]
+  tools/report.py PLAN [--losses N] [--change NEW] [--trace TRACE [--workers N]] [-o FILE]
 
 The page has the verdict of `verify`, the relays with their rows, the covers, and the printed route as a picture and as a table with
-what to mend. Of a plan that is not accepted it has the same of each bad cover, as `covers` prints it. With --change it has the answer on the changeover from PLAN to NEW, and with --trace what a replay came to, by one
-worker unless N are asked for. Pictures are drawn by dot of Graphviz; without it the page has the tables only.
+what to mend. Of a plan that is not accepted it has the same of each bad cover, as `covers` prints it. Of any plan it has what
+`unused` lists, each row with its line in the file, and of an accepted one what `margin` prints of up to three lost points, unless
+another number is given by --losses, with the titles that are stopped. With --change it has the answer on the changeover from PLAN
+to NEW, and with --trace what a replay came to, by one worker unless N are asked for. Pictures are drawn by dot of Graphviz;
+without it the page has the tables only.
 
   -o FILE         the page; standard output if it is absent
   --program FILE  the program to run, in place of ./sccp of this repository
@@ -28,9 +31,10 @@ import plan_file  # noqa: E402
 import replay_counts  # noqa: E402
 from html_page import Dot, Raw, code, counted, document, joined, section, table, tag, whole  # noqa: E402
 from report_replay import replay  # noqa: E402
-from report_words import bad_parts, cover_words, first_line, length_words, marks_words, row_words, verdict_line  # noqa: E402
+from report_routes import FOCUS, route_parts  # noqa: E402
+from report_use import margins, unused  # noqa: E402
+from report_words import bad_parts, cover_words, first_line, length_words, verdict_line  # noqa: E402
 
-FOCUS = 20  # edges of a plan above which its route is drawn by itself as well
 MOST_DRAWN = 300  # edges of a plan above which it is not drawn as a whole
 
 
@@ -81,6 +85,10 @@ class Report:
         if any(record["form"] == "bad_plan" for record in self.verified):
             self.plan, self.unshown = None, "The program does not take the file for a plan."
         self.each = self.ask(["covers", words.plan]) if first_line(self.verified)["form"] in ("refused", "too_wide") else []
+        is_plan = first_line(self.verified)["form"] in ("accepted", "refused", "too_wide")
+        is_accepted = first_line(self.verified)["form"] == "accepted"
+        self.unused = self.ask(["unused", words.plan]) if is_plan else []
+        self.margins = self.ask(["margin", words.plan, str(words.losses)]) if is_accepted else []
         self.changed = self.ask(["change", words.plan, words.change]) if words.change else []
         self.counts = self.replay() if words.trace else None
 
@@ -106,7 +114,7 @@ class Report:
 
     def unread(self):
         """Printed lines of no known form."""
-        groups = self.verified + self.each + self.changed
+        groups = self.verified + self.each + self.unused + self.margins + self.changed
         return [record["text"] for record in groups if record["form"] == "text"] + (self.counts.unread if self.counts else [])
 
 
@@ -126,28 +134,6 @@ def top(report):
     return joined(inner, "\n")
 
 
-def hops_table(route):
-    has_which = any(hop.which for hop in route.hops)
-    head = [("hop",)] + (["plan"] if has_which else []) + ["relay", "title", "held prohibited", "what happens", "row that counts"]
-    rows = []
-    for hop in route.hops:
-        title = code(f"{hop.title.selector} {hop.title.ssn} {hop.title.digits or '-'}")
-        if hop.step:
-            cells = [whole(hop.outcome()), row_words(hop.step.row)]
-        else:
-            cells = [joined([code(lines.write_line(hop.record)), " (the plan has another step here)"]), Raw("")]
-        rows.append([hop.number] + ([hop.which or ""] if has_which else []) + [tag("b", hop.relay), title, whole(marks_words(hop.held))] + cells)
-    return tag("div", table(head, rows, bad=[len(rows) - 1] if route.is_bad else []), class_="hops")
-
-
-def route_parts(report, plans, route):
-    """The picture of a route, and its hops."""
-    edges = {edge for plan in plans.values() for edge in picture.Edges(plan).rows}
-    drawn = picture.draw(plans, route, rows=len(edges) <= FOCUS, words=False) if plans else ""
-    said = f"The route over {', '.join(dict.fromkeys(hop.relay for hop in route.hops))}"
-    return [report.dot.svg(drawn, said) if drawn else Raw(""), hops_table(route)]
-
-
 def route_section(report):
     """The route that verify prints: a bad one, or a longest one of an accepted plan."""
     route = picture.first_route(picture.routes_in(report.verified))
@@ -157,10 +143,10 @@ def route_section(report):
     route.find_steps(plans)
     verdict, inner = route.verdict, []
     if not route.is_bad:
-        return section("A longest route", tag("p", f"No covered title takes more hops than this one, {counted(len(route.hops), 'hop')}."), *route_parts(report, plans, route))
+        return section("A longest route", tag("p", f"No covered title takes more hops than this one, {counted(len(route.hops), 'hop')}."), *route_parts(report.dot, plans, route))
     if report.plan and verdict["cover"] < len(report.plan.covers):
         inner.append(tag("p", cover_words(report.plan.covers[verdict["cover"]])))
-    return section(f"Bad route of a title of cover {verdict['cover']}", *inner, bad_parts(verdict, route), *route_parts(report, plans, route))
+    return section(f"Bad route of a title of cover {verdict['cover']}", *inner, bad_parts(verdict, route), *route_parts(report.dot, plans, route))
 
 
 def bad_covers(report):
@@ -173,7 +159,7 @@ def bad_covers(report):
         route.find_steps({None: report.plan} if report.plan else {})
         inner = [tag("p", cover_words(report.plan.covers[route.verdict["cover"]]))] if report.plan else []
         plans = {None: report.plan} if report.plan else {}
-        made.append(section(f"Bad route of a title of cover {route.verdict['cover']}", *inner, bad_parts(route.verdict, route), *route_parts(report, plans, route)))
+        made.append(section(f"Bad route of a title of cover {route.verdict['cover']}", *inner, bad_parts(route.verdict, route), *route_parts(report.dot, plans, route)))
     return joined(made, "\n") if made else Raw("")
 
 
@@ -193,7 +179,7 @@ def changeover(report):
             inner.append(bad_parts(route.verdict, route))
         else:
             inner.append(tag("p", f"No title that both plans cover takes more hops than this one, {counted(len(route.hops), 'hop')}."))
-        inner += route_parts(report, plans, route)
+        inner += route_parts(report.dot, plans, route)
     return section("Changeover", *inner)
 
 
@@ -273,7 +259,7 @@ def calls(report):
 
 
 # The sections in their order: each is a function of the report, and gives nothing if there is nothing to say.
-SECTIONS = [top, route_section, bad_covers, changeover, replay, relays, covers, whole_plan, calls]
+SECTIONS = [top, route_section, bad_covers, margins, changeover, replay, relays, covers, unused, whole_plan, calls]
 
 
 def page(report):
@@ -289,9 +275,13 @@ def dot_of(words):
     return Dot(words.dot or shutil.which("dot"))
 
 
+USAGE = "report.py PLAN [--losses N] [--change NEW] [--trace TRACE [--workers N]] [-o FILE] [--program FILE] [--dot FILE]"
+
+
 def parsed(words):
-    parser = argparse.ArgumentParser(add_help=False, allow_abbrev=False, usage="report.py PLAN [--change NEW] [--trace TRACE [--workers N]] [-o FILE] [--program FILE] [--dot FILE]")
+    parser = argparse.ArgumentParser(add_help=False, allow_abbrev=False, usage=USAGE)
     parser.add_argument("plan")
+    parser.add_argument("--losses", type=int, default=3, choices=range(100), metavar="N")
     parser.add_argument("--change")
     parser.add_argument("--trace")
     parser.add_argument("--workers", type=int, default=1, choices=range(1, 17), metavar="N")

@@ -78,6 +78,32 @@ TYPED = {
         ("all accepted bound 2", record("covers_accepted", bound=2)),
         ("accepted 2 refused 3 too wide 0", record("covers_counted", accepted=2, refused=3, too_wide=0)),
     ],
+    "unused": [
+        ("unused relay c", record("unused_relay", node="c")),
+        ("unused row b 0 4:0:1:4 - 49", record("unused_row", node="b", row=0, selector="4:0:1:4", ssn=None, prefix="49")),
+        ("unused row b 4095 2:255 6 -", record("unused_row", node="b", row=4095, selector="2:255", ssn=6, prefix="")),
+        ("unused row b 1 1:4 255 49ABCDEF", record("unused_row", node="b", row=1, selector="1:4", ssn=255, prefix="49ABCDEF")),
+        ("unused target b 1 7", record("unused_target", node="b", row=1, target=7)),
+        ("unused cover 1 within 0", record("unused_cover", cover=1, within=0)),
+        ("gap cover 3 no row 1 at a 4:0:1:4 6 49A", record("gap", cover=3, cause=1, node="a", title=TITLE)),
+        ("gap cover 0 no row 0 at a 2:255 0 -",
+         record("gap", cover=0, cause=0, node="a", title={"selector": "2:255", "ssn": 0, "digits": ""})),
+        ("unused relays 1 rows 12 targets 0 covers 255 gaps 256",
+         record("unused_counted", relays=1, rows=12, targets=0, covers=255, gaps=256)),
+        ("too wide", record("too_wide")),
+    ],
+    "margin": [
+        ("accepted bound 14", record("accepted", bound=14)),
+        ("refused overgrown cover 3 steady no", record("refused", kind="overgrown", cover=3, steady=False)),
+        ("too wide", record("too_wide")),
+        ("cover 0 stopped by 3", record("cover_stopped", cover=0, points=3)),
+        ("at a 4:0:1:4 6 49A held point:2-0-1 blocked 5", hop("blocked", cause=5) | {"held": [POINT]}),
+        ("cover 255 survives 0", record("cover_survives", cover=255, points=0)),
+        ("cover 2 survives any", record("cover_survives_any", cover=2)),
+        ("cover 2 too wide at 99", record("cover_too_wide", cover=2, points=99)),
+        ("all survive 1", record("covers_survive", points=1)),
+        ("least 1 stopped 2 too wide 0", record("margins_counted", least=1, stopped=2, too_wide=0)),
+    ],
     "load": [
         ("refused long cover 0 steady no", record("refused", kind="long", cover=0, steady=False)),
         ("ended 55101", record("count", of="ended", number=55101)),
@@ -208,6 +234,20 @@ FAULTY = {
     "covers": [
         "accepted bound 2", "too wide", "refused long cover 0 steady yes", "cover 0 refused loop steady yes", "cover accepted bound 2",
         "cover 0 refused long cover 0 steady yes", "cover 01 too wide", "all accepted", "accepted 2 refused 3", "all accepted bound 2 ",
+    ],
+    "unused": [
+        "accepted bound 2", "unused relay", "unused relay c 0", "unused row b 4:0:1:4 - 49", "unused row b 0 4:0:1:4 -",
+        "unused row b 0 4:0:1:4 49",
+        "unused row b 00 4:0:1:4 - 49", "unused row b 0 5:0 - 49", "unused row b 0 4:0:1:4 - 4a", "unused target b 1", "unused cover 1",
+        "unused cover 1 within", "gap cover 3 no row at a 4:0:1:4 6 49", "gap cover 3 at a 4:0:1:4 6 49", "gap no row 1 at a 4:0:1:4 6 49",
+        "gap cover 3 no row 1 at a 4:0:1:4 - 49", "unused relays 1 rows 1 targets 1 covers 1",
+        "unused relays 1 rows 1 2 targets 1 covers 1 gaps 1",
+        "cover 0 too wide",
+    ],
+    "margin": [
+        "cover 0 stopped by any", "cover 0 stopped 3", "cover stopped by 3", "cover 0 survives", "cover 0 survives 01", "all survive any",
+        "cover 0 too wide", "cover 0 too wide at",
+        "cover 0 accepted bound 2", "least 1 stopped 2", "least any stopped 2 too wide 0", "all accepted bound 2",
     ],
     "change": [
         "accepted bound 2", "too wide", "refused long cover 0 steady yes", "bad plan no cover",
@@ -389,6 +429,9 @@ class Streams(unittest.TestCase):
         read = lines.read_line
         self.assertEqual([{**read(bad), "hops": [read(first), read(second)]}], groups("verify", bad, first, second))
         self.assertEqual([{"form": "route", "hops": [read(first), read(second)]}], groups("route", first, second))
+        stopped = ["accepted bound 1", "cover 0 stopped by 0", first, second, "cover 1 survives any", "least 0 stopped 1 too wide 0"]
+        kept, of, hop_one, hop_two, any_points, least = (read(line, "margin") for line in stopped)
+        self.assertEqual([kept, {**of, "hops": [hop_one, hop_two]}, any_points, least], groups("margin", *stopped))
         mixed = ["old accepted bound 1", "new accepted bound 2", "change accepted bound 2", "old " + first, "new " + second]
         old, new, kept, *hops = map(read, mixed)
         self.assertEqual([old, new, {**kept, "hops": hops}], groups("change", *mixed))

@@ -90,7 +90,8 @@ class Answers:
         self.calls, self.more = [], more or {}
 
     def lines(self, words):
-        printed = {("covers", *words[1:]): [], **STORED, **self.more}[tuple(words)]
+        of_plans = {(command, *words[1:]): [] for command in ("covers", "unused", "margin")}
+        printed = {**of_plans, **STORED, **self.more}[tuple(words)]
         self.calls.append({"words": words, "lines": len(printed), "status": 0})
         return iter(printed)
 
@@ -119,7 +120,7 @@ class Balance(html.parser.HTMLParser):
 
 
 def words_of(plan, **given):
-    return types.SimpleNamespace(**{"plan": plan, "change": None, "trace": None, "workers": 1, "output": None} | given)
+    return types.SimpleNamespace(**{"plan": plan, "losses": 3, "change": None, "trace": None, "workers": 1, "output": None} | given)
 
 
 def hops_in(graph):
@@ -170,6 +171,55 @@ class Cases(unittest.TestCase):
         made = self.page_of(words_of(plan), Answers({("verify", plan): ["refused loop 0 cover 0 steady yes", *of_first]}))
         self.assertEqual(["0", "1", "3"], re.findall(r"Bad route of a title of cover (\d+)", made))
         self.assertEqual(3, made.count("To mend it:"))
+
+    def test_unused_by_relay(self):
+        """A page has each unused place with the line of its row in the file, each needless cover, and each title without a row."""
+        plan = "plans/left_over.toml"
+        made = self.page_of(words_of(plan), Answers({("verify", plan): ["refused no row 1 cover 3 steady yes", "at a 4:0:1:4 6 470000000000 held none no row 1"]}))
+        with open(plan, encoding="utf-8") as file:
+            headers = [number for number, line in enumerate(file, 1) if line.strip() == "[[node.row]]"]
+        for said in ("Unused: 1 relay, 1 row, 1 target, 1 cover. ", "<td><b>c</b></td>", "the relay: no covered title gets to it",
+                     f'<td><b>b</b></td><td class="n">0</td><td class="n">{headers[1]}</td><td><code>4:0:1:4</code></td><td><code>49</code></td>',
+                     f'<td><b>b</b></td><td class="n">1</td><td class="n">{headers[2]}</td>', "the 2nd target, <code>1-0-5/6</code>",
+                     '<td class="n">1</td><td class="n">0</td>', "<code>4:0:1:4 6 470000000000</code>", "Titles that no cover has"):
+            self.assertIn(said, made)
+
+    def test_pages_of_what_is_unused(self):
+        calls = [words for words in STORED if words[:1] == ("unused",) and len(words) == 2 and os.path.isfile(words[1]) and words[1].startswith("plans/")]
+        self.assertGreater(len(calls), 12)
+        for _, plan in calls:
+            with self.subTest(plan):
+                made = self.page_of(words_of(plan), Answers({("verify", plan): STORED.get(("verify", plan), ["accepted bound 1"])}))
+                is_idle = STORED["unused", plan] == ["unused relays 0 rows 0 targets 0 covers 0 gaps 0"]
+                self.assertEqual(is_idle, "Nothing: some covered title uses each relay" in made)
+
+    def test_lost_points(self):
+        """A page has the margin of each cover, and the titles that are stopped, those of the fewest points first."""
+        calls = [words for words in STORED if words[:1] == ("margin",) and len(words) == 3 and os.path.isfile(words[1])]
+        calls = [words for words in calls if STORED[words][0].startswith("accepted")]
+        self.assertGreater(len(calls), 12)
+        for call in calls:
+            with self.subTest(" ".join(call)):
+                answers = Answers({("verify", call[1]): STORED[call][:1], ("margin", call[1], str(int(call[2]))): STORED[call]})
+                made = self.page_of(words_of(call[1], losses=int(call[2])), answers)
+                stopped = [line.split(" ") for line in STORED[call] if " stopped by " in line]
+                by_points = sorted((int(words[4]), int(words[1])) for words in stopped)
+                self.assertEqual([str(cover) for _, cover in by_points], re.findall(r"A title of cover (\d+)", made))
+                self.assertNotIn("another step", made)
+        plan = "plans/mates.toml"
+        made = self.page_of(words_of(plan, losses=9), Answers({("verify", plan): ["accepted bound 2"]}))
+        for said in ("The least number of lost points that stop a covered title is 1. ", "2 covers are stopped.", "any number", "2; 3 points can stop a title",
+                     "0; 1 point can stop a title", "blocked at relay b.", "blocked, cause 5"):
+            self.assertIn(said, made)
+
+    def test_searches_that_are_given_up(self):
+        plan = "plans/q.toml"
+        made = self.page_of(words_of(plan), Answers({("unused", plan): ["too wide"], ("margin", plan, "3"): [
+            "accepted bound 1", "cover 0 too wide at 3", "cover 1 too wide at 0", "least 3 stopped 0 too wide 2"]}))
+        for said in ("No answer: too wide. ", "stop a covered title is 3 or more. ", "The search was given up for 2 covers.", "2; for 3 the search was given up", "not known"):
+            self.assertIn(said, made)
+        made = self.page_of(words_of(plan), Answers({("margin", plan, "3"): ["accepted bound 1", "cover 0 survives 3"]}))
+        self.assertIn("The program ended before its last line.", made)
 
     def test_pages_of_all_changes(self):
         calls = [words for words in STORED if words[:1] == ("change",) and len(words) == 3 and all(map(os.path.isfile, words[1:]))]
@@ -324,7 +374,7 @@ class Pages(unittest.TestCase):
         return path
 
     def stub(self, printed, status=0):
-        path = self.write("stub", f"#!/bin/sh\n[ \"$1\" = --version ] && exit 64\n[ \"$1\" = covers ] && exit 1\ncat <<'EOF'\n{printed}\nEOF\nexit {status}\n")
+        path = self.write("stub", f"#!/bin/sh\n[ \"$1\" = --version ] && exit 64\ncase $1 in covers | unused | margin) exit 1 ;; esac\ncat <<'EOF'\n{printed}\nEOF\nexit {status}\n")
         os.chmod(path, os.stat(path).st_mode | stat.S_IXUSR)
         return path
 
