@@ -86,7 +86,7 @@ fn first_other<R: Threads + Wait + Sync>(
 }
 
 /// Words, and the call on the files that fails.
-const FAILING: [(&str, u64); 19] = [
+const FAILING: [(&str, u64); 25] = [
     ("show f", 0),
     ("show f", 1),
     ("show f", 2),
@@ -98,6 +98,12 @@ const FAILING: [(&str, u64); 19] = [
     ("covers f", 0),
     ("covers f", 2),
     ("covers g", 9),
+    ("unused f", 0),
+    ("unused f", 2),
+    ("unused g", 9),
+    ("margin f 1", 0),
+    ("margin f 1", 2),
+    ("margin g 1", 9),
     ("route f b 4:0:1:4 6 49", 0),
     ("route f b 4:0:1:4 6 49", 1),
     ("route f b 4:0:1:4 6 49", 2),
@@ -131,13 +137,15 @@ fn at_failing_sink<R: Threads + Wait + Sync>(
 }
 
 /// Words that write something at once.
-const WRITING: [&str; 8] = [
+const WRITING: [&str; 10] = [
     "show-hex 00",
     "show-hex 0",
     "show f",
     "show g",
     "verify f",
     "covers f",
+    "unused f",
+    "margin f 1",
     "route f a 4:0:1:4 6 49",
     "replay f g 1",
 ];
