@@ -9,6 +9,8 @@ cuts HEX
 route PLAN NODE SELECTOR SSN DIGITS
 verify PLAN
 covers PLAN
+unused PLAN
+margin PLAN LOSSES
 change OLD NEW
 replay PLAN TRACE WORKERS
 load NUMBER SIZE WORKERS
