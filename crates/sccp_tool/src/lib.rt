@@ -4,9 +4,10 @@
 //! is shown, and captured ones become a trace (RFC 4666).
 //!
 //! A plan of relays is verified, as a whole or each cover by itself, and a title is followed through it (Q.714 section 2). What no
-//! covered title uses is listed. A trace of traffic and failures is replayed over it (Q.714 sections 2 to 5). A connection is made over it and released (Q.714 section 3). What leaves a relay
-//! is printed, a long message in segments (Q.714 section 4.1). Of two plans it is said whether relays may hold either.
-//! Of each cover it is said how many points can be lost before one of its titles is stopped.
+//! covered title uses is listed. Of each cover it is said how many points can be lost before one of its titles is stopped. A trace
+//! of traffic and failures is replayed over the plan (Q.714 sections 2 to 5). A connection is made over it and released (Q.714
+//! section 3). What leaves a relay is printed, a long message in segments (Q.714 section 4.1). Of two plans it is said whether
+//! relays may hold either.
 //!
 //! A load is made from a number, and what becomes of its messages is counted.
 //!
