@@ -13,8 +13,7 @@ loop-target-init c = record {
 
 pub look_target-requires-clause-ranks : goal.look_target-requires-clause-ranks
 look_target-requires-clause-ranks c =
-    ranks_grown c.args.plan.now
-    (c.args.stop.now.depth + 1) c.args.hop.now.met c.loop-target.hop.met c.args.hop.now.stops c.loop-target.hop.stops
+    ranks_grown c.args.plan.now (c.args.stop.now.depth + 1) c.args.hop.now.met c.loop-target.hop.met c.args.hop.now.stops c.loop-target.hop.stops
     c.loop-target.invariant.grows c.requires.ranks
 
 pub look_target-requires-clause-seen : goal.look_target-requires-clause-seen
@@ -34,8 +33,7 @@ loop-target-preserved c = record {
 
 pub returns-clause-followed : goal.returns-clause-followed
 returns-clause-followed c =
-    followed_all c.args.plan.now c.loop-target.seen c.loop-target.hop.met c.args.stop.now.class.now c.args.stop.now.depth
-    c.args.stop.now.place.row
+    followed_all c.args.plan.now c.loop-target.seen c.loop-target.hop.met c.args.stop.now.class.now c.args.stop.now.depth c.args.stop.now.place.row
     c.loop-target.target
     c.args.stop.now.row.now c.requires.stop.row (omega (arith, c.target_count-target-end.ensures, c.loop-target-test.false))
     c.loop-target.invariant.followed
