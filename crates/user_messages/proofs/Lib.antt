@@ -9,3 +9,5 @@ mod Chains
 mod Stories
 mod Come
 mod Steps
+mod Caches
+mod Outcomes

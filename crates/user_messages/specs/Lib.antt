@@ -3,4 +3,5 @@ pub mod Chunks
 pub mod UserMessages
 pub mod Gathering
 pub mod Runs
+pub mod Waiting
 pub mod Captures
