@@ -1,0 +1,12 @@
+mod Worked
+mod Data
+mod Unanswered
+mod Plain
+mod Reasoned
+mod Left
+mod Steps
+mod Told
+mod Once
+mod Waited
+mod Places
+mod Said

@@ -1,0 +1,11 @@
+//! What is said of a message before anything changes.
+use crate::verdict::Verdict;
+use crate::waiting::Waiting;
+
+/// The verdict, the place of the arrival that explains the message, and the arrival that begins to wait.
+#[derive(Drop)]
+pub(crate) struct Judged {
+    pub verdict: Verdict,
+    pub place: Option<usize>,
+    pub begins: Option<Waiting>,
+}

@@ -1,0 +1,10 @@
+//! What is said of a captured message.
+use crate::verdict::Verdict;
+use crate::waiting::Waiting;
+
+/// The verdict on a message, and the arrival that is given up since too many others wait.
+#[derive(Drop)]
+pub struct Line {
+    pub verdict: Verdict,
+    pub given_up: Option<Waiting>,
+}
