@@ -4,3 +4,7 @@ pub mod ToldLemmas
 pub mod StepLemmas
 pub mod PieceLemmas
 pub mod ReaderLemmas
+pub mod WordLemmas
+pub mod SpelledLemmas
+pub mod PcapLemmas
+pub mod FrontLemmas

@@ -4,5 +4,6 @@ pub mod Packets
 pub mod Units
 pub mod Steps
 pub mod Told
+pub mod Spelled
 pub mod Views
 pub mod Standings
