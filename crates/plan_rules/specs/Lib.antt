@@ -4,4 +4,5 @@ pub mod Target
 pub mod Rule
 pub mod Rows
 pub mod Order
+pub mod Keys
 pub mod Tables
