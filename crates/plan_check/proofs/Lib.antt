@@ -3,6 +3,7 @@ pub mod Causes
 pub mod Covering
 pub mod Fullness
 pub mod Greatest
+pub mod Hashed
 pub mod Listed
 pub mod Orders
 pub mod Soundness

@@ -26,11 +26,11 @@ has_rank (e ∷ es) =
       | false ↦ h
     ])
 
--- this number of classes of the table, no two the same, and each with what holds of every class that has a rank
-pub listed : (P : Titles → Type 0) (ranks : List (Titles × ℕ)) (count : ℕ) → ((c : Titles) (r : ℕ) → rank_in ranks c ≡ Some r → P c)
-    → IsStrictlySortedBy class_cmp (classes_in ranks) → count ≤ length ranks
+-- this number of classes of a table that has no class twice, each with what holds of every class that has a rank
+pub listed_once : (P : Titles → Type 0) (ranks : List (Titles × ℕ)) (count : ℕ) → ((c : Titles) (r : ℕ) → rank_in ranks c ≡ Some r → P c)
+    → AllPairs (λ c d. c ≢ d) (classes_in ranks) → count ≤ length ranks
     → (cs : List Titles) × (length cs ≡ count) × AllPairs (λ c d. c ≢ d) cs × All P cs
-listed P ranks count each ordered le = (
+listed_once P ranks count each differ le = (
   take count (classes_in ranks),
   short,
   apart,
@@ -45,13 +45,21 @@ listed P ranks count each ordered le = (
 
     apart : (i j : ℕ) (d : Titles) → i < j → j < length (take count (classes_in ranks))
         → get_or (take count (classes_in ranks)) i d ≡ get_or (take count (classes_in ranks)) j d → ⊥
-    apart i j d lt in' same =
-        let less : class_cmp (get_or (classes_in ranks) i d) (get_or (classes_in ranks) j d) ≡ Less =
-        Less-from_sorted class_cmp (classes_in ranks) i j d ordered lt (omega (arith, short, long)) in
-        let one : get_or (classes_in ranks) i d ≡ get_or (classes_in ranks) j d =
-        sym (get_or-take count (classes_in ranks) i d (omega (arith, short))) ∙ same
-        ∙ get_or-take count (classes_in ranks) j d (omega (arith, short)) in
-        let equal : class_cmp (get_or (classes_in ranks) i d) (get_or (classes_in ranks) j d) ≡ Equal =
-        ap (class_cmp (get_or (classes_in ranks) i d)) (sym one) ∙ own_order (get_or (classes_in ranks) i d) in
-        let clash : Less ≡ Equal = sym less ∙ equal in
-        absurd (cc)
+    apart i j d lt in' same = differ i j d lt (omega (arith, short, long))
+        (sym (get_or-take count (classes_in ranks) i d (omega (arith, short))) ∙ same
+        ∙ get_or-take count (classes_in ranks) j d (omega (arith, short)))
+
+-- classes of which each is below those that follow it
+in_order : (cs : List Titles) → IsStrictlySortedBy class_cmp cs → AllPairs (λ c d. c ≢ d) cs
+in_order cs ordered i j d lt in' same =
+    let less : class_cmp (get_or cs i d) (get_or cs j d) ≡ Less = Less-from_sorted class_cmp cs i j d ordered lt in' in
+    let equal : class_cmp (get_or cs i d) (get_or cs j d) ≡ Equal =
+    ap (class_cmp (get_or cs i d)) (sym same) ∙ own_order (get_or cs i d) in
+    let clash : Less ≡ Equal = sym less ∙ equal in
+    absurd (cc)
+
+-- the same of a table in order
+pub listed : (P : Titles → Type 0) (ranks : List (Titles × ℕ)) (count : ℕ) → ((c : Titles) (r : ℕ) → rank_in ranks c ≡ Some r → P c)
+    → IsStrictlySortedBy class_cmp (classes_in ranks) → count ≤ length ranks
+    → (cs : List Titles) × (length cs ≡ count) × AllPairs (λ c d. c ≢ d) cs × All P cs
+listed P ranks count each ordered le = listed_once P ranks count each (in_order (classes_in ranks) ordered) le

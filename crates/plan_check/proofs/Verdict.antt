@@ -1,11 +1,8 @@
 -- the first fault of a check, and what no fault shows
-use Rattle.std.specs.Prelude.{ℕ, ◌≡◌, List, Option, Some, None, IsSome, refl}
-use Rattle.std.specs.List.{All}
+use Rattle.std.specs.Prelude.{ℕ, ◌≡◌, ◌≤◌, List, Option, Some, None, IsSome, refl}
 use Rattle.std.proofs.Common.{subst}
-use Rattle.sccp_base.specs.Marks.{IsMarking}
 use Rattle.plan_model.specs.Network.{Network, IsPlan}
-use Rattle.plan_model.specs.Verdicts.{Tight}
-use Rattle.plan_model.proofs.Spots.{in_range}
+use Rattle.plan_model.specs.Verdicts.{Safe, Tight}
 use Rattle.plan_classes.specs.Titles.{Titles}
 use Rattle.plan_classes.specs.Classes.{start_of}
 use Rattle.plan_check.specs.declared.longest.Longest.{Longest}
@@ -14,7 +11,6 @@ use Rattle.plan_check.specs.declared.check_fault.CheckFault.TheVariants.{NoStart
 use Rattle.plan_check.specs.Ranking.{rank_in}
 use Rattle.plan_check.specs.Ranked.{IsRanked}
 use Rattle.plan_check.specs.Checks.{IsTableFault, IsCheckFault, Passes}
-use Rattle.plan_check.specs.Verified.{IsVerified, verified}
 use Rattle.plan_check.proofs.Causes.{ranked_faultless}
 use Rattle.plan_check.proofs.Greatest.{starts_ranked, same_greatest}
 use Rattle.plan_check.proofs.Soundness.{ranked_safe}
@@ -44,16 +40,9 @@ faultless plan ranks longest NotTight h bound passes = absurd
     (same_greatest plan (rank_in ranks) bound h.bound passes.start h.start) passes.tight))
 faultless plan ranks longest OutOfMemory h bound passes = refl
 
--- a plan that passes is safe, its bound is from 1 to 14, and its longest route is in range
-pub passed_verified : (plan : Network) (ranks : List (Titles × ℕ)) (longest : Longest) (bound : ℕ) → IsPlan plan
-    → All IsMarking longest.markings → Passes plan ranks longest bound → IsVerified (verified plan bound longest)
-passed_verified plan ranks longest bound is marked passes =
+-- a plan that passes is safe for its bound, which is from 1 to 14
+pub passed_safe : (plan : Network) (ranks : List (Titles × ℕ)) (longest : Longest) (bound : ℕ) → IsPlan plan
+    → Passes plan ranks longest bound → (1 ≤ bound) × (bound ≤ 14) × Safe plan bound
+passed_safe plan ranks longest bound is passes =
     let first = passes.ranked (start_of passes.start.number passes.start.cover) bound passes.start.reached in
-    record {
-      plan = is;
-      some = first.low;
-      few = first.high;
-      safe = ranked_safe plan (rank_in ranks) bound is passes.ranked passes.start.each;
-      tight = passes.tight;
-      range = in_range plan longest.spot longest.markings is passes.tight.covered marked;
-    }
+    (first.low, first.high, ranked_safe plan (rank_in ranks) bound is passes.ranked passes.start.each)

@@ -9,6 +9,7 @@ ghost use Rattle.plan_check.specs.Checks.{Passes, IsCheckFault};
 ghost use Rattle.plan_check.specs.Verified.{IsVerified};
 
 use crate::accepted::Accepted;
+use crate::accepting::accept;
 use crate::check_fault::CheckFault;
 use crate::classes::test_classes;
 use crate::longest::Longest;
@@ -16,7 +17,7 @@ use crate::ranks::Ranks;
 use crate::starts::greatest_start;
 use crate::unchecked::Unchecked;
 use plan_model::{Plan, Spot, route};
-use sccp_base::{Marking, OutOfMemory};
+use sccp_base::OutOfMemory;
 use std::alloc::Global;
 
 /// Whether some cover has the spot, which then is at a node of the plan.
@@ -76,9 +77,8 @@ pub fn check(
     ensures fault { IfErr result (λ u. IsCheckFault plan ranks.now longest u.fault) }
     ensures complete { (bound : ℕ) → Passes plan ranks.now longest bound → IfErr result (λ u. u.fault ≡ CheckFault.OutOfMemory) }
 {
-    Marking::vouch(longest.markings.as_slice());
     match bound_of(alloc, &plan, ranks, &longest) {
-        Ok(bound) => Ok(Accepted::new(plan, bound, longest)),
+        Ok(bound) => Ok(accept(plan, bound, longest)),
         Err(fault) => Err(Unchecked { plan, fault }),
     }
 }

@@ -6,23 +6,27 @@
 #![tactic(auto)]
 
 mod accepted;
+mod accepting;
 mod check_fault;
 mod checking;
 mod classes;
 mod laws;
 mod leading;
 mod longest;
+mod rank_table;
 mod ranks;
 mod ranks_fault;
 mod starts;
 mod unchecked;
 
 pub use accepted::Accepted;
+pub use accepting::accept;
 pub use check_fault::CheckFault;
 pub use checking::check;
 pub use laws::ranked_plans_are_safe;
 pub use leading::allows;
 pub use longest::Longest;
+pub use rank_table::RankTable;
 pub use ranks::Ranks;
 pub use ranks_fault::RanksFault;
 pub use unchecked::Unchecked;

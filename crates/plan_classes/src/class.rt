@@ -3,6 +3,7 @@ ghost use Rattle.std.specs.Prelude.{◌≡◌, ◌+◌, ◌<◌, ◌≤◌, ◌�
 
 use plan_model::Spot;
 use sccp_base::{Digits, Selector};
+use std::hash::{Hash, Hasher};
 use std::marker::Model;
 
 /// The titles at a relay, under a selector and a subsystem number. Their digits are the known ones and then `least` to `most`
@@ -172,5 +173,33 @@ impl Class {
             most: self.most - 1,
             ..*self
         }
+    }
+}
+
+// The cover's number is hashed too: a table may have the classes of many covers that are equal otherwise.
+impl Hash for Class {
+    ghost use Rattle.std.specs.Prelude.{[], ◌∷◌, ◌++◌};
+    ghost use Rattle.std.specs.Hash as fed;
+    ghost use Rattle.std.proofs.Common.{rules};
+    ghost use Rattle.std.specs.Cmp.Rules.{hashing};
+
+    ghost hash_input = { λ c. fed.u16 c.cover ++ c.known
+        ∷ (c.node ∷ c.selector.kind ∷ c.selector.translation ∷ c.selector.plan ∷ c.selector.nature ∷ c.ssn ∷ c.least ∷ c.most ∷ []) ∷ [] };
+
+    ghost respects_eq = { Prim.search (hashing, rules) };
+
+    fn hash<H: Hasher>(&self, state: &mut H) {
+        state.write_u16(self.cover);
+        state.write(self.known.as_slice());
+        state.write(&[
+            self.node,
+            self.selector.kind(),
+            self.selector.translation(),
+            self.selector.plan(),
+            self.selector.nature(),
+            self.ssn,
+            self.least,
+            self.most,
+        ]);
     }
 }

@@ -7,13 +7,13 @@ use Rattle.plan_model.specs.declared.cover.Cover.{Cover}
 use Rattle.plan_model.specs.declared.spot.Spot.{Spot}
 use Rattle.plan_model.specs.Network.{Network, IsPlan}
 use Rattle.plan_model.specs.Covered.{Covered}
-use Rattle.plan_model.specs.Verdicts.{HasSpot, Tight}
+use Rattle.plan_model.specs.Verdicts.{HasSpot, Safe, Tight}
 use Rattle.plan_classes.specs.Titles.{Titles, IsMember, spot_of}
 use Rattle.plan_classes.specs.Classes.{start_of}
 use Rattle.plan_classes.specs.Classes.Reachable.{Start}
 use Rattle.plan_check.specs.Ranking.{rank_in}
-use Rattle.plan_check.specs.Ranked.{RanksUpTo, IsRankedClass, StartsBelow, IsGreatestStart}
-use Rattle.plan_check.proofs.Soundness.{some_of}
+use Rattle.plan_check.specs.Ranked.{RanksUpTo, IsRankedClass, StartsBelow}
+use Rattle.plan_check.proofs.Soundness.{some_of, ranked_safe}
 use Rattle.plan_check.specs.Verified.{Verified, IsVerified}
 use Rattle.plan_verify.specs.declared.verdict.Verdict.TheVariants.{Accepted}
 use Rattle.plan_verify.specs.Lawful.{IsLawful}
@@ -107,11 +107,13 @@ starts_end plan ranks n greatest is sound all below = (each, some)
         (λ (past : (length plan.covers ≤ 0) × (slice_get plan.covers 0 ≡ None)). absurd (omega (arith, past.0, is.some_cover)))
         (slice_get_cases plan.covers 0).1
 
-pub greatest_is : (plan : Network) (ranks : List (Titles × ℕ)) (g : Greatest) → StartsBelow plan (rank_in ranks) g.rank
-    → HasStart plan ranks g → IsGreatestStart plan (rank_in ranks) g.rank
-greatest_is plan ranks g each has =
+-- ranks of the starts show that the plan is safe for the greatest of them, which is from 1 to 14
+pub starts_safe : (plan : Network) (ranks : List (Titles × ℕ)) (g : Greatest) → IsPlan plan → IsSound plan ranks
+    → StartsBelow plan (rank_in ranks) g.rank → HasStart plan ranks g → (1 ≤ g.rank) × (g.rank ≤ 14) × Safe plan g.rank
+starts_safe plan ranks g is sound each has =
     let s = some_of (slice_get plan.covers g.cover) (λ cover. rank_in ranks (start_of g.cover cover) ≡ Some g.rank) has in
-    record { each = each; number = g.cover; cover = s.0; at = s.1; reached = s.2 }
+    let ranked = sound.ranked (start_of g.cover s.0) g.rank s.2 in
+    (ranked.low, ranked.high, ranked_safe plan (rank_in ranks) g.rank is sound.ranked each)
 
 -- a title of a start whose route is as long as the bound shows that the bound is tight
 pub tight_from : (plan : Network) (number bound : ℕ) (c : Titles) (t : Trace) (s : Spot) → IsPlan plan → IsStartOf plan number c

@@ -7,7 +7,7 @@ ghost use Rattle.plan_verify.specs.Traces.{IsWay};
 
 use crate::high::{high_part, high_target};
 use crate::trace::{Trace, carry, least_title};
-use plan_check::Ranks;
+use plan_check::RankTable;
 use plan_classes::{Class, decided, parts};
 use plan_model::Plan;
 use sccp_base::OutOfMemory;
@@ -17,7 +17,7 @@ use std::alloc::Global;
 pub(crate) fn descend(
     alloc: Global,
     plan: &Plan,
-    ranks: &Ranks,
+    ranks: &RankTable,
     class: &Class,
     hops: u8,
 ) -> Result<Trace, OutOfMemory>

@@ -6,7 +6,7 @@ ghost use Rattle.plan_verify.specs.Searching.{IsSound, IsOutcome};
 use crate::found::Found;
 use crate::outcome::{Greatest, Outcome};
 use crate::search::explore;
-use plan_check::Ranks;
+use plan_check::RankTable;
 use plan_classes::start;
 use plan_model::Plan;
 use sccp_base::OutOfMemory;
@@ -16,7 +16,7 @@ use std::alloc::Global;
 pub(crate) fn explore_starts(
     alloc: Global,
     plan: &Plan,
-    ranks: &mut Ranks,
+    ranks: &mut RankTable,
 ) -> Result<Outcome, OutOfMemory>
     requires { ranks.old ≡ [] }
     ensures plan { IsPlan plan.now }

@@ -16,7 +16,7 @@ use crate::starts::explore_starts;
 use crate::trace::Trace;
 use crate::verdict::Verdict;
 use crate::witness::Witness;
-use plan_check::{CheckFault, Longest, Ranks, check};
+use plan_check::{Longest, RankTable, accept};
 use plan_classes::start;
 use plan_model::Plan;
 use sccp_base::OutOfMemory;
@@ -29,7 +29,7 @@ pub fn verify(alloc: Global, plan: Plan) -> Result<Verdict, OutOfMemory>
     ensures same { IfOk result (λ verdict. plan_of verdict ≡ plan) }
     ensures lawful { IfOk result (IsLawful plan) }
 {
-    let mut ranks = Ranks::new(alloc);
+    let mut ranks = RankTable::new(alloc);
     match explore_starts(alloc, &plan, &mut ranks) {
         Ok(outcome) => judge(alloc, plan, ranks, outcome),
         Err(fault) => {
@@ -41,7 +41,12 @@ pub fn verify(alloc: Global, plan: Plan) -> Result<Verdict, OutOfMemory>
 }
 
 /// The verdict by what the search found of all covers.
-fn judge(alloc: Global, plan: Plan, ranks: Ranks, outcome: Outcome) -> Result<Verdict, OutOfMemory>
+fn judge(
+    alloc: Global,
+    plan: Plan,
+    ranks: RankTable,
+    outcome: Outcome,
+) -> Result<Verdict, OutOfMemory>
     requires plan { IsPlan plan }
     requires sound { IsSound plan ranks }
     requires outcome { IsOutcome plan ranks outcome }
@@ -49,7 +54,7 @@ fn judge(alloc: Global, plan: Plan, ranks: Ranks, outcome: Outcome) -> Result<Ve
     ensures lawful { IfOk result (IsLawful plan) }
 {
     let verdict = match outcome {
-        Outcome::Ranked(greatest) => accept(alloc, plan, &ranks, greatest),
+        Outcome::Ranked(greatest) => accept_ranked(alloc, plan, &ranks, greatest),
         Outcome::Refuted(number, trace) => refuse(alloc, plan, number, trace),
         Outcome::TooMany => Ok(Verdict::TooWide(plan)),
     };
@@ -85,10 +90,10 @@ fn refute(alloc: Global, plan: &Plan, number: u16, trace: Trace) -> Result<Witne
 }
 
 /// The plan with the greatest rank of a start as its bound.
-fn accept(
+fn accept_ranked(
     alloc: Global,
     plan: Plan,
-    ranks: &Ranks,
+    ranks: &RankTable,
     greatest: Greatest,
 ) -> Result<Verdict, OutOfMemory>
     requires plan { IsPlan plan }
@@ -99,38 +104,10 @@ fn accept(
     ensures lawful { IfOk result (IsLawful plan) }
 {
     match longest(alloc, &plan, ranks, greatest) {
-        Ok(longest) => accept_with(alloc, plan, ranks, greatest, longest),
+        Ok(longest) => Ok(Verdict::Accepted(accept(plan, greatest.rank, longest))),
         Err(fault) => {
             drop(plan);
             Err(fault)
-        }
-    }
-}
-
-/// The plan with that bound and the longest route.
-fn accept_with(
-    alloc: Global,
-    plan: Plan,
-    ranks: &Ranks,
-    greatest: Greatest,
-    longest: Longest,
-) -> Result<Verdict, OutOfMemory>
-    requires sound { IsSound plan ranks.now }
-    requires starts { StartsBelow plan (rank_in ranks.now) greatest.rank }
-    requires start { HasStart plan ranks.now greatest }
-    requires tight { Tight plan greatest.rank longest.spot longest.markings }
-    ensures same { IfOk result (λ verdict. plan_of verdict ≡ plan) }
-    ensures lawful { IfOk result (IsLawful plan) }
-{
-    match check(alloc, plan, ranks, longest) {
-        Ok(accepted) => Ok(Verdict::Accepted(accepted)),
-        Err(unchecked) => {
-            let fault = unchecked.fault;
-            drop(unchecked);
-            match fault {
-                CheckFault::OutOfMemory => Err(OutOfMemory),
-                _ => unreachable!(),
-            }
         }
     }
 }
@@ -139,7 +116,7 @@ fn accept_with(
 fn longest(
     alloc: Global,
     plan: &Plan,
-    ranks: &Ranks,
+    ranks: &RankTable,
     greatest: Greatest,
 ) -> Result<Longest, OutOfMemory>
     requires plan { IsPlan plan.now }

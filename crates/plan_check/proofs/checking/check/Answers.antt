@@ -1,17 +1,22 @@
-use Rattle.std.specs.List.{All}
-use Rattle.std.proofs.Common.{subst}
-use Rattle.sccp_base.specs.Marks.{IsMarking}
-use Rattle.plan_check.proofs.Verdict.{passed_verified, faultless}
+use Rattle.plan_check.proofs.Verdict.{passed_safe, faultless}
 use Rattle.plan_check.proofs.checking.check.Goals as goal
 
-pub new-requires : goal.new-requires
-new-requires c = passed_verified c.args.plan c.args.ranks.now c.args.longest c.in-Ok.bound c.bound_of.ensures.plan
-    (subst (All IsMarking) c.as_slice.ensures c.vouch.ensures) c.in-Ok.ensures.passed
+pub accept-requires-clause-some : goal.accept-requires-clause-some
+accept-requires-clause-some c =
+    (passed_safe c.args.plan c.args.ranks.now c.args.longest c.in-Ok.bound c.bound_of.ensures.plan c.in-Ok.ensures.passed).0
+
+pub accept-requires-clause-few : goal.accept-requires-clause-few
+accept-requires-clause-few c =
+    (passed_safe c.args.plan c.args.ranks.now c.args.longest c.in-Ok.bound c.bound_of.ensures.plan c.in-Ok.ensures.passed).1
+
+pub accept-requires-clause-safe : goal.accept-requires-clause-safe
+accept-requires-clause-safe c =
+    (passed_safe c.args.plan c.args.ranks.now c.args.longest c.in-Ok.bound c.bound_of.ensures.plan c.in-Ok.ensures.passed).2
 
 pub returns-in-Ok-clause-safe : goal.returns-in-Ok-clause-safe
 returns-in-Ok-clause-safe c =
-    rw c.new.ensures.value (passed_verified c.args.plan c.args.ranks.now c.args.longest c.in-Ok.bound c.bound_of.ensures.plan
-    (subst (All IsMarking) c.as_slice.ensures c.vouch.ensures) c.in-Ok.ensures.passed).safe
+    rw c.accept.ensures.value
+    (passed_safe c.args.plan c.args.ranks.now c.args.longest c.in-Ok.bound c.bound_of.ensures.plan c.in-Ok.ensures.passed).2
 
 pub returns-in-Err-clause-complete : goal.returns-in-Err-clause-complete
 returns-in-Err-clause-complete c =
