@@ -4,7 +4,7 @@
 Each title of each cover is followed hop by hop, over every set of the marks that the targets of its row have, for fourteen hops.
 So it is known which relays, rows and targets titles use, and of which covers a title finds no row. Of two covers it is asked
 title by title whether all titles of the one are titles of the other. All lines have to be as this has them, but of the title that
-a gap shows only that it is one: several are lawful.
+a gap shows only that it is one after the fewest hops: there may be several.
 
   tools/check_unused.py [--plans N] [--seed N] [--program FILE]
 
@@ -35,18 +35,21 @@ class Used:
         small_plans.CHOICES.clear()
         self.plan = plan
         self.relays, self.rows, self.targets = set(), set(), set()
-        self.gaps = collections.defaultdict(set)  # of each cover, the titles that find no row
+        self.gaps = collections.defaultdict(set)  # of each cover, the titles that find no row after the fewest hops
         for number, cover in enumerate(plan.covers):
             here = set(spots_of(cover))
             for _ in range(MOST_HOPS):
-                here = {further for spot in here for further in self.look(number, spot)}
+                is_first = number not in self.gaps
+                here = {further for spot in here for further in self.look(number, spot, is_first)}
 
-    def look(self, number, spot):
-        """Notes what a title of this cover uses at a relay, and gives what it may be at the next one."""
+    def look(self, number, spot, is_first):
+        """Notes what a title of this cover uses at a relay, and gives what it may be at the next one. A gap counts if the cover had none
+        after fewer hops."""
         self.relays.add(spot.node)
         row, _ = row_of(self.plan, spot)
         if row is None:
-            self.gaps[number].add(spot)
+            if is_first:
+                self.gaps[number].add(spot)
             return set()
         place = next(place for place, other in enumerate(self.plan.nodes[spot.node].rows) if other is row)
         self.rows.add((spot.node, place))
@@ -88,7 +91,7 @@ def wanted_lines(plan, used):
 
 
 def is_gap(plan, used, number, line):
-    """Whether a line shows a title of this cover that finds no row."""
+    """Whether a line shows a title of this cover that finds no row after the fewest hops."""
     words = line.split(" ")
     if len(words) != 11 or words[:2] != ["gap", "cover"] or words[3:5] != ["no", "row"] or words[6] != "at":
         return False

@@ -1,11 +1,10 @@
 -- classes that are put at a hop
-use Rattle.std.specs.Prelude.{ℕ, ◌≡◌, ◌+◌, ◌<◌, ◌⊎◌, Bool, true, false, List, [], ◌∷◌, ◌++◌, length, take, get_or, Option, Some, None}
+use Rattle.std.specs.Prelude.{ℕ, ◌≡◌, ◌+◌, ◌<◌, ◌⊎◌, Bool, true, false, List, length, take, get_or, Option, Some, None}
 use Rattle.std.specs.Prelude.{is_some, if◌then◌else◌, refl}
-use Rattle.std.specs.List.{All, Contains}
+use Rattle.std.specs.List.{All}
 use Rattle.std.specs.Ordering.{is_eq}
-use Rattle.std.proofs.Common.{sym, ◌∙◌, ap, subst, inl, inr, ⊎_elim, arith, append_assoc}
-use Rattle.std.proofs.lemmas.List.{append-nil}
-use Rattle.std.proofs.lemmas.List.Elements.{All-nil, All-append, All-weaker, All-more, Contains-append_left, Contains-push}
+use Rattle.std.proofs.Common.{sym, ◌∙◌, ap, subst, inl, inr, ⊎_elim, arith}
+use Rattle.std.proofs.lemmas.List.Elements.{All-weaker, All-more}
 use Rattle.plan_model.specs.Network.{Network}
 use Rattle.plan_classes.specs.Titles.{Titles, parts_of}
 use Rattle.plan_classes.specs.Classes.{Decided}
@@ -46,56 +45,40 @@ pub ranked_more : (before after : List (Titles × ℕ)) (c : Titles) (depth : �
     → ((d : Titles) (r : ℕ) → rank_in before d ≡ Some r → rank_in after d ≡ Some r) → IsRankedBy before c depth → IsRankedBy after c depth
 ranked_more before after c depth kept h = (h.0, kept c h.0 h.1, h.2)
 
-put_more : (plan : Network) (depth : ℕ) (before after : List (Titles × ℕ)) (here there more : List Titles) (c : Titles)
-    → ((d : Titles) (r : ℕ) → rank_in before d ≡ Some r → rank_in after d ≡ Some r) → there ≡ here ++ more
-    → IsPut plan depth before here c → IsPut plan depth after there c
-put_more plan depth before after here there more c kept same (inl h) =
-    inl (h.0, subst (λ xs. Contains xs c) (sym same) (Contains-append_left here more c h.1))
-put_more plan depth before after here there more c kept same (inr h) =
+put_more : (plan : Network) (depth : ℕ) (before after : List (Titles × ℕ)) (c : Titles)
+    → ((d : Titles) (r : ℕ) → rank_in before d ≡ Some r → rank_in after d ≡ Some r) → IsPut plan depth before c → IsPut plan depth after c
+put_more plan depth before after c kept (inl h) = inl h
+put_more plan depth before after c kept (inr h) =
     inr (
       h.0,
       All-weaker (λ part. IsRankedBy before part depth) (λ part. IsRankedBy after part depth)
           (λ part p. ranked_more before after part depth kept p) (parts_of c) h.1,
     )
 
-pub grows_none : (plan : Network) (depth : ℕ) (met : List (Titles × ℕ)) (here : List Titles) → Grows plan depth met here met here
-grows_none plan depth met here =
-    record {
-      more = [];
-      stops = sym (append-nil here);
-      each = All-nil (λ c. Decided plan c × (rank_in met c ≡ Some depth));
-      kept = λ c r e. e;
-      added = λ c r e. inl e;
-    }
+pub grows_none : (plan : Network) (depth : ℕ) (met : List (Titles × ℕ)) → Grows plan depth met met
+grows_none plan depth met = record { kept = λ c r e. e; added = λ c r e. inl e }
 
-pub grows_on : (plan : Network) (depth : ℕ) (a b c : List (Titles × ℕ)) (x y z : List Titles) → Grows plan depth a x b y
-    → Grows plan depth b y c z → Grows plan depth a x c z
-grows_on plan depth a b c x y z g h =
+pub grows_on : (plan : Network) (depth : ℕ) (a b c : List (Titles × ℕ)) → Grows plan depth a b → Grows plan depth b c → Grows plan depth a c
+grows_on plan depth a b c g h =
     record {
-      more = g.more ++ h.more;
-      stops = h.stops ∙ (ap (λ (xs : List Titles). xs ++ h.more) g.stops ∙ append_assoc x g.more h.more);
-      each = All-append (λ d. Decided plan d × (rank_in c d ≡ Some depth)) g.more h.more
-          (All-weaker (λ d. Decided plan d × (rank_in b d ≡ Some depth)) (λ d. Decided plan d × (rank_in c d ≡ Some depth))
-          (λ d p. (p.0, h.kept d depth p.1)) g.more g.each) h.each;
       kept = λ d r e. h.kept d r (g.kept d r e);
       added = λ d r e. ⊎_elim
           (λ (was : rank_in b d ≡ Some r). ⊎_elim
           (λ (old : rank_in a d ≡ Some r). inl old)
-          (λ (new : (r ≡ depth) × Meets plan depth d × IsPut plan depth b y d).
-          inr (new.0, new.1, put_more plan depth b c y z h.more d h.kept h.stops new.2))
+          (λ (new : (r ≡ depth) × Meets plan depth d × IsPut plan depth b d).
+          inr (new.0, new.1, put_more plan depth b c d h.kept new.2))
           (g.added d r was))
-          (λ (new : (r ≡ depth) × Meets plan depth d × IsPut plan depth c z d). inr new)
+          (λ (new : (r ≡ depth) × Meets plan depth d × IsPut plan depth c d). inr new)
           (h.added d r e);
     }
 
 -- the ranks of the larger table are met as they say
-pub ranks_grown : (plan : Network) (depth : ℕ) (a b : List (Titles × ℕ)) (x y : List Titles) → Grows plan depth a x b y
-    → AreRanks plan depth a
+pub ranks_grown : (plan : Network) (depth : ℕ) (a b : List (Titles × ℕ)) → Grows plan depth a b → AreRanks plan depth a
     → AreRanks plan depth b
-ranks_grown plan depth a b x y g ranks c r e =
+ranks_grown plan depth a b g ranks c r e =
     ⊎_elim
     (λ (old : rank_in a c ≡ Some r). ranks c r old)
-    (λ (new : (r ≡ depth) × Meets plan depth c × IsPut plan depth b y c).
+    (λ (new : (r ≡ depth) × Meets plan depth c × IsPut plan depth b c).
     (omega (arith, new.0), subst (λ n. Meets plan n c) (sym new.0) new.1))
     (g.added c r e)
 
@@ -109,47 +92,32 @@ absent : (met : List (Titles × ℕ)) (c : Titles) (r : ℕ) → rank_in met c �
 absent met c r none e = let clash : None ≡ Some r = sym none ∙ e in absurd (cc)
 
 -- a decided class was put
-pub whole_grows : (plan : Network) (depth : ℕ) (a b : List (Titles × ℕ)) (x y : List Titles) (c : Titles) → rank_in a c ≡ None
-    → Decided plan c → Meets plan depth c → y ≡ x ++ c ∷ [] → Puts a b c depth → Grows plan depth a x b y
-whole_grows plan depth a b x y c fresh decided meets same puts =
+pub whole_grows : (plan : Network) (depth : ℕ) (a b : List (Titles × ℕ)) (c : Titles) → rank_in a c ≡ None → Decided plan c
+    → Meets plan depth c → Puts a b c depth → Grows plan depth a b
+whole_grows plan depth a b c fresh decided meets puts =
     record {
-      more = c ∷ [];
-      stops = same;
-      each = λ k d lt. let e : 0 ≡ k = omega (arith, lt) in
-          subst (λ n. Decided plan (get_or (c ∷ []) n d) × (rank_in b (get_or (c ∷ []) n d) ≡ Some depth)) e
-          (decided, puts_own a b c depth puts);
       kept = λ d r e. puts_kept a b c d depth r puts (λ s h. absurd (absent a c s fresh h)) e;
       added = λ d r e. ⊎_elim
-          (λ (new : (c ≡ d) × (depth ≡ r)). inr (
-            sym new.1,
-            subst (Meets plan depth) new.0 meets,
-            subst (IsPut plan depth b y) new.0 (inl (decided, subst (λ xs. Contains xs c) (sym same) (Contains-push x c))),
-          ))
+          (λ (new : (c ≡ d) × (depth ≡ r)).
+          inr (sym new.1, subst (Meets plan depth) new.0 meets, subst (IsPut plan depth b) new.0 (inl decided)))
           (λ (old : rank_in a d ≡ Some r). inl old)
           (puts_case a b c d depth r puts e);
     }
 
 -- the parts of an undecided class were put, and then the class has its rank
-pub parts_grow : (plan : Network) (depth : ℕ) (a b e : List (Titles × ℕ)) (x y : List Titles) (c : Titles) → rank_in a c ≡ None
-    → (Decided plan c → ⊥) → Meets plan depth c → Grows plan depth a x b y → All (λ part. IsRankedBy b part depth) (parts_of c)
-    → Puts b e c depth → Grows plan depth a x e y
-parts_grow plan depth a b e x y c fresh undecided meets g parts puts =
+pub parts_grow : (plan : Network) (depth : ℕ) (a b e : List (Titles × ℕ)) (c : Titles) → rank_in a c ≡ None
+    → (Decided plan c → ⊥) → Meets plan depth c → Grows plan depth a b → All (λ part. IsRankedBy b part depth) (parts_of c)
+    → Puts b e c depth → Grows plan depth a e
+parts_grow plan depth a b e c fresh undecided meets g parts puts =
     record {
-      more = g.more;
-      stops = g.stops;
-      each = All-weaker (λ d. Decided plan d × (rank_in b d ≡ Some depth)) (λ d. Decided plan d × (rank_in e d ≡ Some depth))
-          (λ d p. (p.0, stays d depth p.1)) g.more g.each;
       kept = λ d r h. stays d r (g.kept d r h);
       added = λ d r h. ⊎_elim
-          (λ (new : (c ≡ d) × (depth ≡ r)). inr (
-            sym new.1,
-            subst (Meets plan depth) new.0 meets,
-            subst (IsPut plan depth e y) new.0 (inr (undecided, ranked)),
-          ))
+          (λ (new : (c ≡ d) × (depth ≡ r)).
+          inr (sym new.1, subst (Meets plan depth) new.0 meets, subst (IsPut plan depth e) new.0 (inr (undecided, ranked))))
           (λ (was : rank_in b d ≡ Some r). ⊎_elim
           (λ (old : rank_in a d ≡ Some r). inl old)
-          (λ (put : (r ≡ depth) × Meets plan depth d × IsPut plan depth b y d).
-          inr (put.0, put.1, put_more plan depth b e y y [] d stays (sym (append-nil y)) put.2))
+          (λ (put : (r ≡ depth) × Meets plan depth d × IsPut plan depth b d).
+          inr (put.0, put.1, put_more plan depth b e d stays put.2))
           (g.added d r was))
           (puts_case b e c d depth r puts h);
     }
@@ -157,7 +125,7 @@ parts_grow plan depth a b e x y c fresh undecided meets g parts puts =
     own : (s : ℕ) → rank_in b c ≡ Some s → s ≡ depth
     own s h = ⊎_elim
         (λ (old : rank_in a c ≡ Some s). absurd (absent a c s fresh old))
-        (λ (new : (s ≡ depth) × Meets plan depth c × IsPut plan depth b y c). new.0)
+        (λ (new : (s ≡ depth) × Meets plan depth c × IsPut plan depth b c). new.0)
         (g.added c s h)
 
     stays : (d : Titles) (r : ℕ) → rank_in b d ≡ Some r → rank_in e d ≡ Some r

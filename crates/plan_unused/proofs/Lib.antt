@@ -5,5 +5,6 @@ pub mod Meeting
 pub mod Growing
 pub mod Noting
 pub mod InOrder
+pub mod Visiting
 pub mod Walked
 pub mod Settling

@@ -1,13 +1,13 @@
 -- stops that were looked at, and the walk from hop to hop
-use Rattle.std.specs.Prelude.{ℕ, ◌≡◌, ◌+◌, ◌<◌, ◌≤◌, ◌⊎◌, IsTrue, IsSome, List, [], ◌∷◌, ◌++◌, length, take, get_or, Option}
+use Rattle.std.specs.Prelude.{ℕ, ◌≡◌, ◌+◌, ◌<◌, ◌≤◌, ◌⊎◌, IsTrue, IsSome, List, [], ◌∷◌, length, get_or, Option}
 use Rattle.std.specs.Prelude.{Some, None}
 use Rattle.std.specs.Prelude.{IsSomeAnd, slice_get, refl}
-use Rattle.std.specs.List.{All, Contains}
+use Rattle.std.specs.List.{All}
 use Rattle.std.specs.Option.{option_and_then, option_map_or}
 use Rattle.std.proofs.Common.{zero, suc, sym, ◌∙◌, ap, subst, inl, inr, ⊎_elim, arith}
 use Rattle.std.proofs.lemmas.Bool.{cases_lt}
 use Rattle.std.proofs.lemmas.Option.{slice_get_within, get_or_from_slice_get}
-use Rattle.std.proofs.lemmas.List.Elements.{All-contains, All-weaker, All-more}
+use Rattle.std.proofs.lemmas.List.Elements.{All-weaker}
 use Rattle.std.proofs.lemmas.List.Sums.{sum_by-cons}
 use Rattle.sccp_base.specs.Selector.{Numbers}
 use Rattle.sccp_base.proofs.Among.{All-among, Among-slice_get}
@@ -31,7 +31,7 @@ use Rattle.plan_unused.specs.Fitting.{fitting, HasFitting}
 use Rattle.plan_unused.specs.Meets.{Meets}
 use Rattle.plan_unused.specs.Meets.Meets.{Start}
 use Rattle.plan_unused.specs.Walks.{row_at, target_at, has_relay, has_row, has_target, gap_in, IsSeen, IsMore, IsRankedBy, AreRanks, IsPut}
-use Rattle.plan_unused.specs.Walks.{Grows, MayEnter, MayLook, IsFollowed, IsSettled, IsWalk}
+use Rattle.plan_unused.specs.Walks.{Grows, MayEnter, IsFollowed, IsSettled, IsWalk}
 use Rattle.plan_unused.proofs.Fits.{some_is}
 use Rattle.plan_unused.proofs.Meeting.{meets_class}
 use Rattle.plan_unused.proofs.Growing.{ranked_more, ranks_grown}
@@ -237,30 +237,25 @@ starts_more plan before after n s keeps ranked is so_far number cover lt at =
     (cases_lt number n)
 
 -- what is known of a class that was put
-put_known : (plan : Network) (depth r : ℕ) (met : List (Titles × ℕ)) (stops : List Titles) (seen : Seen) (c : Titles) → r ≡ depth
-    → IsPut plan depth met stops c → (Decided plan c × (IsSettled plan seen met c r ⊎ ((r ≡ depth) × Contains stops c)))
+put_known : (plan : Network) (depth r : ℕ) (met : List (Titles × ℕ)) (seen : Seen) (c : Titles) → r ≡ depth → IsPut plan depth met c
+    → (Decided plan c × (IsSettled plan seen met c r ⊎ (r ≡ depth)))
     ⊎ ((Decided plan c → ⊥) × All (λ part. IsRankedBy met part r) (parts_of c))
-put_known plan depth r met stops seen c same (inl h) = inl (h.0, inr (same, h.1))
-put_known plan depth r met stops seen c same (inr h) =
+put_known plan depth r met seen c same (inl h) = inl (h, inr same)
+put_known plan depth r met seen c same (inr h) =
     inr (h.0, subst (λ n. All (λ part. IsRankedBy met part n) (parts_of c)) (sym same) h.1)
 
-only_more : {X : Type 0} (P : X → Type 0) (xs more : List X) → xs ≡ [] ++ more → All P more → All P xs
-only_more P xs more e h = subst (All P) (sym e) h
-
-pub walk_first : (plan : Network) (met : List (Titles × ℕ)) (stops : List Titles) (count : ℕ) (seen : Seen)
-    → Grows plan 0 [] [] met stops → length plan.covers ≤ count
+pub walk_first : (plan : Network) (met : List (Titles × ℕ)) (count : ℕ) (seen : Seen) → Grows plan 0 [] met → length plan.covers ≤ count
     → ((number : ℕ) (cover : Cover) → number < count → slice_get plan.covers number ≡ Some cover → IsRankedBy met (start_of number cover) 0)
-    → IsSeen plan seen → IsWalk plan 0 met stops seen
-walk_first plan met stops count seen g le starts sound =
+    → IsSeen plan seen → IsWalk plan 0 met seen
+walk_first plan met count seen g le starts sound =
     record {
-      ranks = ranks_grown plan 0 [] met [] stops g (no_ranks plan 0);
+      ranks = ranks_grown plan 0 [] met g (no_ranks plan 0);
       sound = sound;
       starts = λ number cover at. starts number cover
           (let lt : number < length plan.covers = slice_get_within plan.covers number cover at in omega (arith, lt, le)) at;
-      stops = only_more (λ c. Decided plan c × (rank_in met c ≡ Some 0)) stops g.more g.stops g.each;
       known = λ c r e. ⊎_elim
           (λ (old : rank_in [] c ≡ Some r). absurd (nothing_ranked c r old))
-          (λ (new : (r ≡ 0) × Meets plan 0 c × IsPut plan 0 met stops c). put_known plan 0 r met stops seen c new.0 new.2)
+          (λ (new : (r ≡ 0) × Meets plan 0 c × IsPut plan 0 met c). put_known plan 0 r met seen c new.0 new.2)
           (g.added c r e);
     }
 
@@ -268,50 +263,49 @@ walk_first plan met stops count seen g le starts sound =
 pub deeper_ranks : (plan : Network) (depth : ℕ) (met : List (Titles × ℕ)) → AreRanks plan depth met → AreRanks plan (depth + 1) met
 deeper_ranks plan depth met ranks c r e = let h = ranks c r e in (omega (arith, h.0), h.1)
 
-pub may_look : (plan : Network) (depth : ℕ) (met : List (Titles × ℕ)) (here : List Titles) (seen : Seen) (i : ℕ) (c : Titles) → IsPlan plan
-    → depth < 14 → IsWalk plan depth met here seen → i < length here → c ≡ get_or here i c → MayLook plan depth c
-may_look plan depth met here seen i c is few walk lt at =
-    let stop = subst (λ (x : Titles). Decided plan x × (rank_in met x ≡ Some depth)) (sym at) (walk.stops i c lt) in
-    let meets = (walk.ranks c depth stop.1).1 in
-    record { sound = is; node = (meets_class plan is depth c meets).1; decided = stop.0; meets = meets; few = few }
+pub ranked_earlier : (plan : Network) (depth : ℕ) (before after : List (Titles × ℕ)) (c : Titles) → Grows plan (depth + 1) before after
+    → rank_in after c ≡ Some depth → rank_in before c ≡ Some depth
+ranked_earlier plan depth before after c g at =
+    ⊎_elim
+    (λ (old : rank_in before c ≡ Some depth). old)
+    (λ (new : (depth ≡ depth + 1) × Meets plan (depth + 1) c × IsPut plan (depth + 1) after c). absurd (omega (arith, new.0)))
+    (g.added c depth at)
 
-pub settled_next : (plan : Network) (depth : ℕ) (s t : Seen) (before after : List (Titles × ℕ)) (here : List Titles) (i : ℕ) (c : Titles)
-    → i < length here → c ≡ get_or here i c → IsMore s t → Keeps before after → IsSettled plan t after c depth
-    → All (λ x. IsSettled plan s before x depth) (take i here) → All (λ x. IsSettled plan t after x depth) (take (i + 1) here)
-settled_next plan depth s t before after here i c lt at more keeps own so_far =
-    All-more (λ x. IsSettled plan t after x depth) here i c lt
-    (All-weaker (λ x. IsSettled plan s before x depth) (λ x. IsSettled plan t after x depth)
-    (λ x h. settled_more plan s t before after x depth more keeps h) (take i here) so_far)
-    (subst (λ x. IsSettled plan t after x depth) at own)
+-- a class that has this hop as its rank, also after classes were put at the next one
+pub may_visit : (plan : Network) (depth : ℕ) (before after : List (Titles × ℕ)) (seen : Seen) (c : Titles) → IsPlan plan
+    → IsWalk plan depth before seen → Grows plan (depth + 1) before after → rank_in after c ≡ Some depth → MayEnter plan depth c
+may_visit plan depth before after seen c is walk g at =
+    let meets : Meets plan depth c = (walk.ranks c depth (ranked_earlier plan depth before after c g at)).1 in
+    record { node = (meets_class plan is depth c meets).1; meets = meets }
 
-pub walk_next : (plan : Network) (depth : ℕ) (before after : List (Titles × ℕ)) (here there : List Titles) (s t : Seen)
-    → IsWalk plan depth before here s → Grows plan (depth + 1) before [] after there → IsSeen plan t → IsMore s t
-    → All (λ x. IsSettled plan t after x depth) here → IsWalk plan (depth + 1) after there t
-walk_next plan depth before after here there s t walk g sound more settled =
+pub walk_next : (plan : Network) (depth : ℕ) (before after : List (Titles × ℕ)) (s t : Seen) → IsWalk plan depth before s
+    → Grows plan (depth + 1) before after → IsSeen plan t → IsMore s t
+    → ((c : Titles) → rank_in before c ≡ Some depth → Decided plan c → IsSettled plan t after c depth)
+    → IsWalk plan (depth + 1) after t
+walk_next plan depth before after s t walk g sound more settled =
     record {
-      ranks = ranks_grown plan (depth + 1) before after [] there g (deeper_ranks plan depth before walk.ranks);
+      ranks = ranks_grown plan (depth + 1) before after g (deeper_ranks plan depth before walk.ranks);
       sound = sound;
       starts = λ number cover at. ranked_more before after (start_of number cover) 0 g.kept (walk.starts number cover at);
-      stops = only_more (λ c. Decided plan c × (rank_in after c ≡ Some (depth + 1))) there g.more g.stops g.each;
-      known = λ c r e. ⊎_elim (λ (old : rank_in before c ≡ Some r). was c r (walk.known c r old))
-          (λ (new : (r ≡ depth + 1) × Meets plan (depth + 1) c × IsPut plan (depth + 1) after there c).
-          put_known plan (depth + 1) r after there t c new.0 new.2)
+      known = λ c r e. ⊎_elim (λ (old : rank_in before c ≡ Some r). was c r old (walk.known c r old))
+          (λ (new : (r ≡ depth + 1) × Meets plan (depth + 1) c × IsPut plan (depth + 1) after c).
+          put_known plan (depth + 1) r after t c new.0 new.2)
           (g.added c r e);
     }
   where
-    was : (c : Titles) (r : ℕ) → (Decided plan c × (IsSettled plan s before c r ⊎ ((r ≡ depth) × Contains here c)))
+    was : (c : Titles) (r : ℕ) → rank_in before c ≡ Some r → (Decided plan c × (IsSettled plan s before c r ⊎ (r ≡ depth)))
         ⊎ ((Decided plan c → ⊥) × All (λ part. IsRankedBy before part r) (parts_of c))
-        → (Decided plan c × (IsSettled plan t after c r ⊎ ((r ≡ depth + 1) × Contains there c)))
+        → (Decided plan c × (IsSettled plan t after c r ⊎ (r ≡ depth + 1)))
         ⊎ ((Decided plan c → ⊥) × All (λ part. IsRankedBy after part r) (parts_of c))
-    was c r (inl h) = inl (
+    was c r at (inl h) = inl (
       h.0,
       inl (⊎_elim
           (λ (k : IsSettled plan s before c r). settled_more plan s t before after c r more g.kept k)
-          (λ (k : (r ≡ depth) × Contains here c). subst (IsSettled plan t after c) (sym k.0)
-          (All-contains (λ x. IsSettled plan t after x depth) here c settled k.1))
+          (λ (k : r ≡ depth). subst (IsSettled plan t after c) (sym k)
+          (settled c (subst (λ (n : ℕ). rank_in before c ≡ Some n) k at) h.0))
           h.1),
     )
-    was c r (inr h) = inr (
+    was c r at (inr h) = inr (
       h.0,
       All-weaker (λ part. IsRankedBy before part r) (λ part. IsRankedBy after part r)
           (λ part p. ranked_more before after part r g.kept p) (parts_of c) h.1,

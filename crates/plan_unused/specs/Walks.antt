@@ -1,6 +1,6 @@
 -- What the walk from hop to hop keeps.
-use Rattle.std.specs.Prelude.{ℕ, ◌≡◌, ◌+◌, ◌<◌, ◌≤◌, ◌⊎◌, Bool, IsTrue, IsSome, List, ◌++◌, length, Option, Some, None, slice_get}
-use Rattle.std.specs.List.{All, Contains}
+use Rattle.std.specs.Prelude.{ℕ, ◌≡◌, ◌+◌, ◌<◌, ◌≤◌, ◌⊎◌, Bool, IsTrue, IsSome, List, length, Option, Some, None, slice_get}
+use Rattle.std.specs.List.{All}
 use Rattle.std.specs.Ordering.{nat_cmp, ordering_then}
 use Rattle.std.specs.declared.cmp.Ordering.{Ordering}
 use Rattle.std.specs.BTreeMap as map
@@ -75,20 +75,15 @@ IsRankedBy met c depth = (r : ℕ) × (rank_in met c ≡ Some r) × (r ≤ depth
 abbrev pub AreRanks : Network → ℕ → List (Titles × ℕ) → Type 0
 AreRanks plan depth met = (c : Titles) (r : ℕ) → rank_in met c ≡ Some r → (r ≤ depth) × Meets plan r c
 
--- the class is a stop if it is decided, and otherwise its parts have ranks
-abbrev pub IsPut : Network → ℕ → List (Titles × ℕ) → List Titles → Titles → Type 0
-IsPut plan depth met stops c = (Decided plan c × Contains stops c)
-    ⊎ ((Decided plan c → ⊥) × All (λ part. IsRankedBy met part depth) (parts_of c))
+-- the class is decided, or its parts have ranks
+abbrev pub IsPut : Network → ℕ → List (Titles × ℕ) → Titles → Type 0
+IsPut plan depth met c = Decided plan c ⊎ ((Decided plan c → ⊥) × All (λ part. IsRankedBy met part depth) (parts_of c))
 
 -- Classes were put at this depth. Ranks are kept, and each class with a new one was put.
-pub record Grows (plan : Network) (depth : ℕ) (before : List (Titles × ℕ)) (here : List Titles) (after : List (Titles × ℕ))
-    (there : List Titles) : Type 0 where
-  pub more : List Titles
-  pub stops : there ≡ here ++ more
-  pub each : All (λ c. Decided plan c × (rank_in after c ≡ Some depth)) more
+pub record Grows (plan : Network) (depth : ℕ) (before after : List (Titles × ℕ)) : Type 0 where
   pub kept : (c : Titles) (r : ℕ) → rank_in before c ≡ Some r → rank_in after c ≡ Some r
   pub added : (c : Titles) (r : ℕ) → rank_in after c ≡ Some r → (rank_in before c ≡ Some r)
-      ⊎ ((r ≡ depth) × Meets plan depth c × IsPut plan depth after there c)
+      ⊎ ((r ≡ depth) × Meets plan depth c × IsPut plan depth after c)
 
 -- a class that may be put at this depth
 pub record MayEnter (plan : Network) (depth : ℕ) (c : Titles) : Type 0 where
@@ -124,12 +119,11 @@ pub record IsSettled (plan : Network) (seen : Seen) (met : List (Titles × ℕ))
   pub onward : depth < 13 → (t : ℕ) (next : Titles) → Reaches plan c t → HasFitting plan c t next → IsRankedBy met next (depth + 1)
   pub gap : class_row plan c ≡ None → IsSome (gap_in seen c.cover)
 
--- what the walk has before it looks at the stops of a hop
-pub record IsWalk (plan : Network) (depth : ℕ) (met : List (Titles × ℕ)) (here : List Titles) (seen : Seen) : Type 0 where
+-- What the walk has before it looks at the stops of a hop. A decided class that was met before this hop is settled, and an undecided
+-- one has parts that were met no later.
+pub record IsWalk (plan : Network) (depth : ℕ) (met : List (Titles × ℕ)) (seen : Seen) : Type 0 where
   pub ranks : AreRanks plan depth met
   pub sound : IsSeen plan seen
   pub starts : (number : ℕ) (cover : Cover) → slice_get plan.covers number ≡ Some cover → IsRankedBy met (start_of number cover) 0
-  pub stops : All (λ c. Decided plan c × (rank_in met c ≡ Some depth)) here
-  pub known : (c : Titles) (r : ℕ) → rank_in met c ≡ Some r
-      → (Decided plan c × (IsSettled plan seen met c r ⊎ ((r ≡ depth) × Contains here c)))
+  pub known : (c : Titles) (r : ℕ) → rank_in met c ≡ Some r → (Decided plan c × (IsSettled plan seen met c r ⊎ (r ≡ depth)))
       ⊎ ((Decided plan c → ⊥) × All (λ part. IsRankedBy met part r) (parts_of c))

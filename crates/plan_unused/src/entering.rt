@@ -9,51 +9,48 @@ ghost use Rattle.plan_unused.specs.declared.halt.Halt.TheVariants as halts;
 ghost use Rattle.plan_unused.specs.Meets.{Meets, MeetsAtLeast};
 ghost use Rattle.plan_unused.specs.Walks.{IsRankedBy, AreRanks, Grows, MayEnter};
 
+use crate::first_hops::FirstHops;
 use crate::halt::Halt;
-use crate::open_hop::OpenHop;
-use plan_check::RanksFault;
 use plan_classes::{Class, decided, parts};
 use plan_model::Plan;
 use std::alloc::Global;
 
-/// Puts a class at a hop: itself among the stops if it is decided, and otherwise its parts. A class that was met before is not put
-/// again.
+/// Puts a class at a hop, and its parts, too, if it is undecided. A class that was met before is not put again.
 #[cycle(enter)]
 pub(crate) fn enter(
     alloc: Global,
     plan: &Plan,
     class: &Class,
     depth: u8,
-    hop: &mut OpenHop,
+    met: &mut FirstHops,
 ) -> Result<(), Halt>
     requires may { MayEnter plan.now depth class.now }
-    requires ranks { AreRanks plan.now depth hop.old.met }
-    ensures grows { OnOk result (Grows plan.now depth hop.old.met hop.old.stops hop.new.met hop.new.stops) }
-    ensures ranked { OnOk result (IsRankedBy hop.new.met class.now depth) }
+    requires ranks { AreRanks plan.now depth met.old }
+    ensures grows { OnOk result (Grows plan.now depth met.old met.new) }
+    ensures ranked { OnOk result (IsRankedBy met.new class.now depth) }
     ensures wide { result ≡ Err halts.Wide → MeetsAtLeast plan.now most_classes }
 {
-    if hop.met.get(class).is_some() {
+    if met.get(class).is_some() {
         return Ok(());
     }
     if decided(plan, class) {
-        enter_whole(plan, class, depth, hop)
+        enter_whole(plan, class, depth, met)
     } else {
-        enter_parts(alloc, plan, class, depth, hop)
+        enter_parts(alloc, plan, class, depth, met)
     }
 }
 
 /// Puts a decided class that was not met before.
-fn enter_whole(plan: &Plan, class: &Class, depth: u8, hop: &mut OpenHop) -> Result<(), Halt>
-    requires fresh { rank_in hop.old.met class.now ≡ None }
+fn enter_whole(plan: &Plan, class: &Class, depth: u8, met: &mut FirstHops) -> Result<(), Halt>
+    requires fresh { rank_in met.old class.now ≡ None }
     requires decided { Decided plan.now class.now }
     requires may { MayEnter plan.now depth class.now }
-    requires ranks { AreRanks plan.now depth hop.old.met }
-    ensures grows { OnOk result (Grows plan.now depth hop.old.met hop.old.stops hop.new.met hop.new.stops) }
-    ensures ranked { OnOk result (IsRankedBy hop.new.met class.now depth) }
+    requires ranks { AreRanks plan.now depth met.old }
+    ensures grows { OnOk result (Grows plan.now depth met.old met.new) }
+    ensures ranked { OnOk result (IsRankedBy met.new class.now depth) }
     ensures wide { result ≡ Err halts.Wide → MeetsAtLeast plan.now most_classes }
 {
-    hop.stops.push(*class)?;
-    rank(plan, class, depth, hop)
+    rank(plan, class, depth, met)
 }
 
 /// Puts the parts of an undecided class that was not met before.
@@ -63,35 +60,30 @@ fn enter_parts(
     plan: &Plan,
     class: &Class,
     depth: u8,
-    hop: &mut OpenHop,
+    met: &mut FirstHops,
 ) -> Result<(), Halt>
-    requires fresh { rank_in hop.old.met class.now ≡ None }
+    requires fresh { rank_in met.old class.now ≡ None }
     requires undecided { Decided plan.now class.now → ⊥ }
     requires more { 0 < class.now.most }
     requires may { MayEnter plan.now depth class.now }
-    requires ranks { AreRanks plan.now depth hop.old.met }
-    ensures grows { OnOk result (Grows plan.now depth hop.old.met hop.old.stops hop.new.met hop.new.stops) }
-    ensures ranked { OnOk result (IsRankedBy hop.new.met class.now depth) }
+    requires ranks { AreRanks plan.now depth met.old }
+    ensures grows { OnOk result (Grows plan.now depth met.old met.new) }
+    ensures ranked { OnOk result (IsRankedBy met.new class.now depth) }
     ensures wide { result ≡ Err halts.Wide → MeetsAtLeast plan.now most_classes }
 {
     let parts = parts(alloc, class)?;
     for part in parts.as_slice() {
-        enter(alloc, plan, part, depth, hop)?;
+        enter(alloc, plan, part, depth, met)?;
     }
-    rank(plan, class, depth, hop)
+    rank(plan, class, depth, met)
 }
 
 /// Gives a class its rank.
-fn rank(plan: &Plan, class: &Class, depth: u8, hop: &mut OpenHop) -> Result<(), Halt>
-    requires ranks { AreRanks plan.now depth hop.old.met }
-    ensures puts { OnOk result ((c : Titles) → rank_in hop.new.met c
-        ≡ (if is_eq (class_cmp class.now c) then Some depth else rank_in hop.old.met c)) }
-    ensures stops { hop.new.stops ≡ hop.old.stops }
+fn rank(plan: &Plan, class: &Class, depth: u8, met: &mut FirstHops) -> Result<(), Halt>
+    requires ranks { AreRanks plan.now depth met.old }
+    ensures puts { OnOk result ((c : Titles) → rank_in met.new c
+        ≡ (if is_eq (class_cmp class.now c) then Some depth else rank_in met.old c)) }
     ensures wide { result ≡ Err halts.Wide → MeetsAtLeast plan.now most_classes }
 {
-    match hop.met.put(*class, depth) {
-        Ok(()) => Ok(()),
-        Err(RanksFault::Full) => Err(Halt::Wide),
-        Err(RanksFault::OutOfMemory) => Err(Halt::OutOfMemory),
-    }
+    met.put(*class, depth)
 }

@@ -7,12 +7,12 @@
 
 mod entering;
 mod finding;
+mod first_hops;
 mod fitting;
 mod halt;
 mod laws;
 mod listing;
 mod looking;
-mod open_hop;
 mod rows;
 mod seen;
 mod stop;

@@ -10,9 +10,9 @@ ghost use Rattle.plan_unused.specs.Walks.{has_relay, gap_in, IsSeen, IsMore, IsR
 ghost use Rattle.plan_unused.specs.Walks.{IsStop, IsFollowed, IsSettled};
 
 use crate::entering::enter;
+use crate::first_hops::FirstHops;
 use crate::fitting::fitting_by;
 use crate::halt::Halt;
-use crate::open_hop::OpenHop;
 use crate::rows::class_node;
 use crate::seen::Seen;
 use crate::stop::Stop;
@@ -31,16 +31,16 @@ pub(crate) fn look(
     plan: &Plan,
     class: &Class,
     depth: u8,
-    hop: &mut OpenHop,
+    met: &mut FirstHops,
     seen: &mut Seen,
 ) -> Result<(), Halt>
     requires may { MayLook plan.now depth class.now }
-    requires ranks { AreRanks plan.now (depth + 1) hop.old.met }
+    requires ranks { AreRanks plan.now (depth + 1) met.old }
     requires seen { IsSeen plan.now seen.old }
-    ensures grows { OnOk result (Grows plan.now (depth + 1) hop.old.met hop.old.stops hop.new.met hop.new.stops) }
+    ensures grows { OnOk result (Grows plan.now (depth + 1) met.old met.new) }
     ensures seen { OnOk result (IsSeen plan.now seen.new) }
     ensures more { OnOk result (IsMore seen.old seen.new) }
-    ensures settled { OnOk result (IsSettled plan.now seen.new hop.new.met class.now depth) }
+    ensures settled { OnOk result (IsSettled plan.now seen.new met.new class.now depth) }
     ensures wide { result ≡ Err halts.Wide → MeetsAtLeast plan.now most_classes }
 {
     let node = class_node(plan, class);
@@ -58,7 +58,7 @@ pub(crate) fn look(
                 },
                 depth,
             };
-            look_row(alloc, plan, &stop, hop, seen)
+            look_row(alloc, plan, &stop, met, seen)
         }
         None => Ok(note_gap(plan, class, seen)?),
     }
@@ -83,21 +83,21 @@ fn look_row(
     alloc: Global,
     plan: &Plan,
     stop: &Stop<'_>,
-    hop: &mut OpenHop,
+    met: &mut FirstHops,
     seen: &mut Seen,
 ) -> Result<(), Halt>
     requires stop { IsStop plan.now stop.now }
-    requires ranks { AreRanks plan.now (stop.now.depth + 1) hop.old.met }
+    requires ranks { AreRanks plan.now (stop.now.depth + 1) met.old }
     requires seen { IsSeen plan.now seen.old }
-    ensures grows { OnOk result (Grows plan.now (stop.now.depth + 1) hop.old.met hop.old.stops hop.new.met hop.new.stops) }
+    ensures grows { OnOk result (Grows plan.now (stop.now.depth + 1) met.old met.new) }
     ensures seen { OnOk result (IsSeen plan.now seen.new) }
     ensures more { OnOk result (IsMore seen.old seen.new) }
-    ensures settled { OnOk result (IsSettled plan.now seen.new hop.new.met stop.now.class.now stop.now.depth) }
+    ensures settled { OnOk result (IsSettled plan.now seen.new met.new stop.now.class.now stop.now.depth) }
     ensures wide { result ≡ Err halts.Wide → MeetsAtLeast plan.now most_classes }
 {
     seen.note_relay(plan, stop.place.node)?;
     seen.note_row(plan, stop.place)?;
-    look_targets(alloc, plan, stop, hop, seen)
+    look_targets(alloc, plan, stop, met, seen)
 }
 
 /// Notes which targets of a stop's row its titles take, and puts what they are sent on as.
@@ -105,21 +105,21 @@ fn look_targets(
     alloc: Global,
     plan: &Plan,
     stop: &Stop<'_>,
-    hop: &mut OpenHop,
+    met: &mut FirstHops,
     seen: &mut Seen,
 ) -> Result<(), Halt>
     requires stop { IsStop plan.now stop.now }
-    requires ranks { AreRanks plan.now (stop.now.depth + 1) hop.old.met }
+    requires ranks { AreRanks plan.now (stop.now.depth + 1) met.old }
     requires seen { IsSeen plan.now seen.old }
-    ensures grows { OnOk result (Grows plan.now (stop.now.depth + 1) hop.old.met hop.old.stops hop.new.met hop.new.stops) }
+    ensures grows { OnOk result (Grows plan.now (stop.now.depth + 1) met.old met.new) }
     ensures seen { OnOk result (IsSeen plan.now seen.new) }
     ensures more { OnOk result (IsMore seen.old seen.new) }
     ensures followed { OnOk result ((t : ℕ)
-        → IsFollowed plan.now seen.new hop.new.met stop.now.class.now stop.now.depth stop.now.place.row t) }
+        → IsFollowed plan.now seen.new met.new stop.now.class.now stop.now.depth stop.now.place.row t) }
     ensures wide { result ≡ Err halts.Wide → MeetsAtLeast plan.now most_classes }
 {
     for target in 0..stop.row.target_count() {
-        look_target(alloc, plan, stop, target, hop, seen)?;
+        look_target(alloc, plan, stop, target, met, seen)?;
     }
     Ok(())
 }
@@ -130,17 +130,17 @@ fn look_target(
     plan: &Plan,
     stop: &Stop<'_>,
     target: u8,
-    hop: &mut OpenHop,
+    met: &mut FirstHops,
     seen: &mut Seen,
 ) -> Result<(), Halt>
     requires stop { IsStop plan.now stop.now }
     requires target { target < length stop.now.row.now.targets }
-    requires ranks { AreRanks plan.now (stop.now.depth + 1) hop.old.met }
+    requires ranks { AreRanks plan.now (stop.now.depth + 1) met.old }
     requires seen { IsSeen plan.now seen.old }
-    ensures grows { OnOk result (Grows plan.now (stop.now.depth + 1) hop.old.met hop.old.stops hop.new.met hop.new.stops) }
+    ensures grows { OnOk result (Grows plan.now (stop.now.depth + 1) met.old met.new) }
     ensures seen { OnOk result (IsSeen plan.now seen.new) }
     ensures more { OnOk result (IsMore seen.old seen.new) }
-    ensures followed { OnOk result (IsFollowed plan.now seen.new hop.new.met stop.now.class.now stop.now.depth stop.now.place.row target) }
+    ensures followed { OnOk result (IsFollowed plan.now seen.new met.new stop.now.class.now stop.now.depth stop.now.place.row target) }
     ensures wide { result ≡ Err halts.Wide → MeetsAtLeast plan.now most_classes }
 {
     if !reaches_by(plan, stop.class, stop.row, target) {
@@ -154,7 +154,7 @@ fn look_target(
             target,
         },
     )?;
-    follow(alloc, plan, stop, target, hop)
+    follow(alloc, plan, stop, target, met)
 }
 
 /// Puts what the titles of a stop are sent on as under a reached target, unless this is the last hop.
@@ -163,22 +163,22 @@ fn follow(
     plan: &Plan,
     stop: &Stop<'_>,
     target: u8,
-    hop: &mut OpenHop,
+    met: &mut FirstHops,
 ) -> Result<(), Halt>
     requires stop { IsStop plan.now stop.now }
     requires target { target < length stop.now.row.now.targets }
     requires reached { Reaches plan.now stop.now.class.now target }
-    requires ranks { AreRanks plan.now (stop.now.depth + 1) hop.old.met }
-    ensures grows { OnOk result (Grows plan.now (stop.now.depth + 1) hop.old.met hop.old.stops hop.new.met hop.new.stops) }
+    requires ranks { AreRanks plan.now (stop.now.depth + 1) met.old }
+    ensures grows { OnOk result (Grows plan.now (stop.now.depth + 1) met.old met.new) }
     ensures onward { OnOk result (stop.now.depth < 13 → (next : Titles) → HasFitting plan.now stop.now.class.now target next
-        → IsRankedBy hop.new.met next (stop.now.depth + 1)) }
+        → IsRankedBy met.new next (stop.now.depth + 1)) }
     ensures wide { result ≡ Err halts.Wide → MeetsAtLeast plan.now most_classes }
 {
     if stop.depth >= LAST_HOP {
         return Ok(());
     }
     match fitting_by(plan, stop.class, stop.row, target) {
-        Some(next) => enter(alloc, plan, &next, stop.depth + 1, hop),
+        Some(next) => enter(alloc, plan, &next, stop.depth + 1, met),
         None => Ok(()),
     }
 }

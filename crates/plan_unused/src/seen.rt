@@ -68,7 +68,7 @@ impl Seen {
         Ok(())
     }
 
-    /// Notes a title of a cover without a row.
+    /// Notes a title of a cover without a row. The first one that is noted of a cover stays, so it is one with the fewest hops.
     pub(crate) fn note_gap(
         &mut self,
         plan: &Plan,
@@ -81,6 +81,9 @@ impl Seen {
         ensures more { OnOk result (IsMore self.old self.new) }
         ensures noted { OnOk result (IsSome (gap_in self.new cover)) }
     {
+        if self.gaps.contains_key(&cover) {
+            return Ok(());
+        }
         self.gaps.insert(cover, spot)?;
         Ok(())
     }

@@ -39,7 +39,7 @@ pub struct Unused {
     pub targets: List<TargetPlace>,
     /// Covers that add nothing to another one.
     pub covers: List<Needless>,
-    /// For each cover of which some title gets to a relay without a row for it, one such title.
+    /// For each cover of which some title gets to a relay without a row for it, one such title, after the fewest hops.
     pub gaps: List<Gap>,
 }
 

@@ -1,21 +1,22 @@
 //! The walk from hop to hop.
-ghost use Rattle.std.specs.Prelude.{◌≡◌, ◌+◌, ◌<◌, Err, IfOk};
+ghost use Rattle.std.specs.Prelude.{◌≡◌, ◌+◌, ◌<◌, Err, IfOk, OnOk};
 ghost use Rattle.plan_model.specs.Limits.{most_classes};
 ghost use Rattle.plan_model.specs.Network.{IsPlan};
+ghost use Rattle.plan_classes.specs.Classes.{Decided};
 ghost use Rattle.plan_unused.specs.declared.halt.Halt.TheVariants as halts;
 ghost use Rattle.plan_unused.specs.declared.seen.Seen.{Seen};
 ghost use Rattle.plan_unused.specs.Meets.{MeetsAtLeast};
-ghost use Rattle.plan_unused.specs.Walks.{IsSeen, IsWhole, IsWalk};
+ghost use Rattle.plan_unused.specs.Walks.{IsSeen, IsMore, IsWhole, IsWalk, IsSettled, AreRanks, Grows, MayEnter};
 
 use crate::entering::enter;
+use crate::first_hops::FirstHops;
 use crate::halt::Halt;
 use crate::looking::look;
-use crate::open_hop::OpenHop;
 use crate::seen::Seen;
-use plan_classes::start;
+use plan_classes::{Class, decided, start};
 use plan_model::Plan;
-use sccp_base::List;
 use std::alloc::Global;
+use std::ops::Bound;
 
 /// How many hops a title makes at most.
 const MOST_HOPS: u8 = 14;
@@ -27,48 +28,72 @@ pub(crate) fn walk(alloc: Global, plan: &Plan) -> Result<Seen, Halt>
     ensures wide { result ≡ Err halts.Wide → MeetsAtLeast plan.now most_classes }
 {
     let mut seen = Seen::new(alloc);
-    let mut hop = first_hop(alloc, plan)?;
+    let mut met = first_hop(alloc, plan)?;
     for depth in 0..MOST_HOPS {
-        hop = next_hop(alloc, plan, depth, hop, &mut seen)?;
+        next_hop(alloc, plan, depth, &mut met, &mut seen)?;
     }
     Ok(seen)
 }
 
 /// The titles of the covers, put at the first hop.
-fn first_hop(alloc: Global, plan: &Plan) -> Result<OpenHop, Halt>
-    ensures walk { IfOk result (λ hop. (seen : Seen) → IsSeen plan.now seen → IsWalk plan.now 0 hop.met hop.stops seen) }
+fn first_hop(alloc: Global, plan: &Plan) -> Result<FirstHops, Halt>
+    ensures walk { IfOk result (λ met. (seen : Seen) → IsSeen plan.now seen → IsWalk plan.now 0 met seen) }
     ensures sound { IsPlan plan.now }
     ensures wide { result ≡ Err halts.Wide → MeetsAtLeast plan.now most_classes }
 {
-    let mut hop = OpenHop::new(alloc);
+    let mut met = FirstHops::new(alloc);
     let count = plan.covers().as_slice().len() as u16;
     for number in 0..count {
-        enter(alloc, plan, &start(plan, number), 0, &mut hop)?;
+        enter(alloc, plan, &start(plan, number), 0, &mut met)?;
     }
-    Ok(hop)
+    Ok(met)
 }
 
-/// Looks at the stops of a hop: what they are sent on as are the stops of the next one.
+/// Looks at the stops of a hop, the decided classes that were first met at it. What they are sent on as is put at the next one.
 fn next_hop(
     alloc: Global,
     plan: &Plan,
     depth: u8,
-    hop: OpenHop,
+    met: &mut FirstHops,
     seen: &mut Seen,
-) -> Result<OpenHop, Halt>
+) -> Result<(), Halt>
     requires sound { IsPlan plan.now }
     requires depth { depth < 14 }
-    requires walk { IsWalk plan.now depth hop.met hop.stops seen.old }
-    ensures walk { IfOk result (λ next. IsWalk plan.now (depth + 1) next.met next.stops seen.new) }
+    requires walk { IsWalk plan.now depth met.old seen.old }
+    ensures walk { OnOk result (IsWalk plan.now (depth + 1) met.new seen.new) }
     ensures wide { result ≡ Err halts.Wide → MeetsAtLeast plan.now most_classes }
 {
-    let OpenHop { met, stops: here } = hop;
-    let mut next = OpenHop {
-        met,
-        stops: List::new(alloc),
-    };
-    for class in here.as_slice() {
-        look(alloc, plan, class, depth, &mut next, seen)?;
+    let mut from = Bound::Unbounded;
+    'classes: while let Some(class) = met.first_at(depth, from) {
+        look_if_stop(alloc, plan, &class, depth, met, seen)?;
+        from = Bound::Excluded(class);
     }
-    Ok(next)
+    Ok(())
+}
+
+/// As `look`, of a class that may be undecided. Such a class is no stop, and its parts were put at a hop by themselves.
+fn look_if_stop(
+    alloc: Global,
+    plan: &Plan,
+    class: &Class,
+    depth: u8,
+    met: &mut FirstHops,
+    seen: &mut Seen,
+) -> Result<(), Halt>
+    requires sound { IsPlan plan.now }
+    requires depth { depth < 14 }
+    requires may { MayEnter plan.now depth class.now }
+    requires ranks { AreRanks plan.now (depth + 1) met.old }
+    requires seen { IsSeen plan.now seen.old }
+    ensures grows { OnOk result (Grows plan.now (depth + 1) met.old met.new) }
+    ensures seen { OnOk result (IsSeen plan.now seen.new) }
+    ensures more { OnOk result (IsMore seen.old seen.new) }
+    ensures settled { OnOk result (Decided plan.now class.now → IsSettled plan.now seen.new met.new class.now depth) }
+    ensures wide { result ≡ Err halts.Wide → MeetsAtLeast plan.now most_classes }
+{
+    if decided(plan, class) {
+        look(alloc, plan, class, depth, met, seen)
+    } else {
+        Ok(())
+    }
 }

@@ -1,6 +1,6 @@
-use Rattle.std.proofs.Common.{◌∙◌, List, subst, sym, arith, rules, take_all}
+use Rattle.std.proofs.Common.{◌∙◌, subst, arith, rules, take_all}
 use Rattle.std.specs.List.{All}
-use Rattle.plan_classes.specs.Titles.{Titles, IsPart}
+use Rattle.plan_classes.specs.Titles.{IsPart}
 use Rattle.plan_classes.proofs.Parting.{part_of}
 use Rattle.plan_unused.specs.Walks.{IsRankedBy, Grows}
 use Rattle.plan_unused.specs.Meets.Meets.{Part}
@@ -10,11 +10,11 @@ use Rattle.plan_unused.proofs.Noting.{on_ok}
 use Rattle.plan_unused.proofs.entering.+enter.Goals as goal
 
 pub enter-returns-then-is_some-clause-grows : goal.enter-returns-then-is_some-clause-grows
-enter-returns-then-is_some-clause-grows t c = grows_none c.args.plan.now c.args.depth c.args.hop.now.met c.args.hop.now.stops
+enter-returns-then-is_some-clause-grows t c = grows_none c.args.plan.now c.args.depth c.args.met.now
 
 pub enter-returns-then-is_some-clause-ranked : goal.enter-returns-then-is_some-clause-ranked
 enter-returns-then-is_some-clause-ranked t c =
-    was_ranked c.args.plan.now c.args.depth c.args.hop.now.met c.args.class.now c.get.result c.requires.ranks c.get.ensures
+    was_ranked c.args.plan.now c.args.depth c.args.met.now c.args.class.now c.get.result c.requires.ranks c.get.ensures
     c.if-is_some.ensures
 
 pub enter_parts-enter-requires : goal.enter_parts-enter-requires
@@ -30,47 +30,45 @@ enter_parts-enter-requires t c =
               (part_at c.args.class.now _ _ c.loop-part.part-index _ c.in_ok-parts.ensures.value c.as_slice-part-items.ensures
               c.loop-part-test.true c.part-item.is);
         },
-        ranks_grown c.args.plan.now c.args.depth c.args.hop.now.met c.loop-part.hop.met c.args.hop.now.stops c.loop-part.hop.stops
+        ranks_grown c.args.plan.now c.args.depth c.args.met.now c.loop-part.met
             c.loop-part.invariant.grows c.requires.ranks,
       ),
     )
 
 pub enter_parts-loop-part-init : goal.enter_parts-loop-part-init
 enter_parts-loop-part-init t c = record {
-  grows = grows_none c.args.plan.now c.args.depth c.args.hop.now.met c.args.hop.now.stops;
+  grows = grows_none c.args.plan.now c.args.depth c.args.met.now;
   ranked = λ k d lt. absurd (omega (arith, lt));
 }
 
 pub enter_parts-loop-part-preserved : goal.enter_parts-loop-part-preserved
 enter_parts-loop-part-preserved t c =
     record {
-      grows = grows_on c.args.plan.now c.args.depth c.args.hop.now.met c.loop-part.hop.met c.enter.new.hop.met c.args.hop.now.stops
-          c.loop-part.hop.stops c.enter.new.hop.stops c.loop-part.invariant.grows c.in_ok-enter.ensures.grows;
-      ranked = parts_ranked c.loop-part.hop.met c.enter.new.hop.met c.as_slice-part-items.result.now c.loop-part.part-index _ c.args.depth
+      grows = grows_on c.args.plan.now c.args.depth c.args.met.now c.loop-part.met c.enter.new.met c.loop-part.invariant.grows
+          c.in_ok-enter.ensures.grows;
+      ranked = parts_ranked c.loop-part.met c.enter.new.met c.as_slice-part-items.result.now c.loop-part.part-index _ c.args.depth
           c.loop-part-test.true c.part-item.is c.in_ok-enter.ensures.grows.kept c.in_ok-enter.ensures.ranked c.loop-part.invariant.ranked;
     }
 
 pub enter_parts-rank-requires : goal.enter_parts-rank-requires
 enter_parts-rank-requires t c = record {
-  ranks = ranks_grown c.args.plan.now c.args.depth c.args.hop.now.met c.loop-part.hop.met c.args.hop.now.stops c.loop-part.hop.stops
+  ranks = ranks_grown c.args.plan.now c.args.depth c.args.met.now c.loop-part.met
       c.loop-part.invariant.grows c.requires.ranks;
 }
 
 pub enter_parts-returns-clause-grows : goal.enter_parts-returns-clause-grows
 enter_parts-returns-clause-grows t c =
-    on_ok c.rank.result (Puts c.loop-part.hop.met c.rank.new.hop.met c.args.class.now c.args.depth)
-    (Grows c.args.plan.now c.args.depth c.args.hop.now.met c.args.hop.now.stops c.rank.new.hop.met c.rank.new.hop.stops)
-    (λ puts. subst (λ (stops : List Titles). Grows c.args.plan.now c.args.depth c.args.hop.now.met c.args.hop.now.stops c.rank.new.hop.met
-    stops) (sym c.rank.ensures.stops)
-    (parts_grow c.args.plan.now c.args.depth c.args.hop.now.met c.loop-part.hop.met c.rank.new.hop.met c.args.hop.now.stops
-    c.loop-part.hop.stops c.args.class.now c.requires.fresh c.requires.undecided c.requires.may.meets c.loop-part.invariant.grows
-    (subst (All (λ part. IsRankedBy c.loop-part.hop.met part c.args.depth)) (take_all c.loop-part.part-index
+    on_ok c.rank.result (Puts c.loop-part.met c.rank.new.met c.args.class.now c.args.depth)
+    (Grows c.args.plan.now c.args.depth c.args.met.now c.rank.new.met)
+    (λ puts. parts_grow c.args.plan.now c.args.depth c.args.met.now c.loop-part.met c.rank.new.met c.args.class.now c.requires.fresh
+    c.requires.undecided c.requires.may.meets c.loop-part.invariant.grows
+    (subst (All (λ part. IsRankedBy c.loop-part.met part c.args.depth)) (take_all c.loop-part.part-index
     c.as_slice-part-items.result.now c.loop-part-test.false ∙ (c.as_slice-part-items.ensures ∙ c.in_ok-parts.ensures.value))
-    c.loop-part.invariant.ranked) puts))
+    c.loop-part.invariant.ranked) puts)
     c.rank.ensures.puts
 
 pub enter_parts-returns-clause-ranked : goal.enter_parts-returns-clause-ranked
 enter_parts-returns-clause-ranked t c =
-    on_ok c.rank.result (Puts c.loop-part.hop.met c.rank.new.hop.met c.args.class.now c.args.depth)
-    (IsRankedBy c.rank.new.hop.met c.args.class.now c.args.depth)
-    (put_ranked c.loop-part.hop.met c.rank.new.hop.met c.args.class.now c.args.depth) c.rank.ensures.puts
+    on_ok c.rank.result (Puts c.loop-part.met c.rank.new.met c.args.class.now c.args.depth)
+    (IsRankedBy c.rank.new.met c.args.class.now c.args.depth)
+    (put_ranked c.loop-part.met c.rank.new.met c.args.class.now c.args.depth) c.rank.ensures.puts

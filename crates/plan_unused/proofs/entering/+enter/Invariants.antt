@@ -13,6 +13,6 @@ decreases-enter_parts l = 2 * l.class.now.most
 -- the parts so far have ranks
 abbrev pub invariant-enter_parts-loop-part : goal.invariant-enter_parts-loop-part
 invariant-enter_parts-loop-part l = record {
-  grows : Grows l.plan l.depth l.fn.hop.met l.fn.hop.stops l.hop.met l.hop.stops;
-  ranked : All (λ part. IsRankedBy l.hop.met part l.depth) (take l.part-index l.part-items);
+  grows : Grows l.plan l.depth l.fn.met l.met;
+  ranked : All (λ part. IsRankedBy l.met part l.depth) (take l.part-index l.part-items);
 }

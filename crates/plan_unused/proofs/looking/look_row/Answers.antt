@@ -13,7 +13,8 @@ note_relay-requires-clause-uses c =
 pub note_row-requires-clause-uses : goal.note_row-requires-clause-uses
 note_row-requires-clause-uses c =
     subst (λ (n : ℕ). UsesRow c.args.plan.now n c.args.stop.now.place.row) (sym c.requires.stop.node)
-    (uses_row c.args.plan.now c.args.stop.now.depth c.args.stop.now.class.now c.args.stop.now.place.row c.args.stop.now.row.now c.requires.stop.may c.requires.stop.row c.requires.stop.at)
+    (uses_row c.args.plan.now c.args.stop.now.depth c.args.stop.now.class.now c.args.stop.now.place.row c.args.stop.now.row.now
+    c.requires.stop.may c.requires.stop.row c.requires.stop.at)
 
 pub returns-clause-more : goal.returns-clause-more
 returns-clause-more c =
@@ -25,11 +26,14 @@ returns-clause-more c =
 pub returns-clause-settled : goal.returns-clause-settled
 returns-clause-settled c =
     ok_both c.look_targets.result (IsMore c.note_row.new.self c.look_targets.new.seen)
-    ((t : ℕ) → IsFollowed c.args.plan.now c.look_targets.new.seen c.look_targets.new.hop.met c.args.stop.now.class.now c.args.stop.now.depth c.args.stop.now.place.row
+    ((t : ℕ) → IsFollowed c.args.plan.now c.look_targets.new.seen c.look_targets.new.met c.args.stop.now.class.now c.args.stop.now.depth
+    c.args.stop.now.place.row
     t)
-    (IsSettled c.args.plan.now c.look_targets.new.seen c.look_targets.new.hop.met c.args.stop.now.class.now c.args.stop.now.depth)
-    (λ more followed. settled_row c.args.plan.now c.look_targets.new.seen c.look_targets.new.hop.met c.args.stop.now.class.now c.args.stop.now.depth
+    (IsSettled c.args.plan.now c.look_targets.new.seen c.look_targets.new.met c.args.stop.now.class.now c.args.stop.now.depth)
+    (λ more followed. settled_row c.args.plan.now c.look_targets.new.seen c.look_targets.new.met c.args.stop.now.class.now
+    c.args.stop.now.depth
     c.args.stop.now.place c.args.stop.now.row.now c.requires.stop.may.sound c.requires.stop.node c.requires.stop.row c.requires.stop.at
-    (more.relays c.args.stop.now.place.node (c.in_ok-note_row.ensures.more.relays c.args.stop.now.place.node c.in_ok-note_relay.ensures.noted))
+    (more.relays c.args.stop.now.place.node
+    (c.in_ok-note_row.ensures.more.relays c.args.stop.now.place.node c.in_ok-note_relay.ensures.noted))
     (more.rows c.args.stop.now.place c.in_ok-note_row.ensures.noted) followed)
     c.look_targets.ensures.more c.look_targets.ensures.followed

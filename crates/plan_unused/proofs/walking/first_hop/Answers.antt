@@ -9,19 +9,17 @@ enter-requires-clause-may c = may_start c.args.plan.now c.loop-number.number _ c
 
 pub enter-requires-clause-ranks : goal.enter-requires-clause-ranks
 enter-requires-clause-ranks c =
-    ranks_grown c.args.plan.now 0 [] c.loop-number.hop.met [] c.loop-number.hop.stops c.loop-number.invariant.grows
-    (no_ranks c.args.plan.now 0)
+    ranks_grown c.args.plan.now 0 [] c.loop-number.met c.loop-number.invariant.grows (no_ranks c.args.plan.now 0)
 
 pub loop-number-preserved : goal.loop-number-preserved
 loop-number-preserved c = record {
-  grows = grows_on c.args.plan.now 0 [] c.loop-number.hop.met c.enter.new.hop.met [] c.loop-number.hop.stops c.enter.new.hop.stops
-      c.loop-number.invariant.grows c.in_ok-enter.ensures.grows;
-  starts = starts_more c.args.plan.now c.loop-number.hop.met c.enter.new.hop.met c.loop-number.number c.start.result
+  grows = grows_on c.args.plan.now 0 [] c.loop-number.met c.enter.new.met c.loop-number.invariant.grows c.in_ok-enter.ensures.grows;
+  starts = starts_more c.args.plan.now c.loop-number.met c.enter.new.met c.loop-number.number c.start.result
       c.in_ok-enter.ensures.grows.kept c.in_ok-enter.ensures.ranked c.start.ensures.value c.loop-number.invariant.starts;
 }
 
 pub returns-clause-walk : goal.returns-clause-walk
 returns-clause-walk c = λ seen sound.
-    walk_first c.args.plan.now c.loop-number.hop.met c.loop-number.hop.stops c.loop-number.number seen c.loop-number.invariant.grows
+    walk_first c.args.plan.now c.loop-number.met c.loop-number.number seen c.loop-number.invariant.grows
     (subst (λ (xs : List Cover). length xs ≤ c.loop-number.number) (c.as_slice.ensures ∙ c.covers.ensures.value) c.loop-number-test.false)
     c.loop-number.invariant.starts sound

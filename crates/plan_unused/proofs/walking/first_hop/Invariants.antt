@@ -7,7 +7,7 @@ use Rattle.plan_unused.proofs.walking.first_hop.Given as goal
 -- the starts so far have ranks
 abbrev pub invariant-loop-number : goal.invariant-loop-number
 invariant-loop-number l = record {
-  grows : Grows l.plan 0 [] [] l.hop.met l.hop.stops;
+  grows : Grows l.plan 0 [] l.met;
   starts : (number : ℕ) (cover : Cover) → number < l.number → slice_get l.plan.covers number ≡ Some cover
-      → IsRankedBy l.hop.met (start_of number cover) 0;
+      → IsRankedBy l.met (start_of number cover) 0;
 }

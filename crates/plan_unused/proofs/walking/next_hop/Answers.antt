@@ -1,45 +1,49 @@
-use Rattle.std.proofs.Common.{◌+◌, [], List, sym, subst, take_all}
-use Rattle.std.specs.List.{All}
-use Rattle.plan_classes.specs.Titles.{Titles}
-use Rattle.plan_unused.specs.Walks.{IsSettled, IsWalk}
-use Rattle.plan_unused.proofs.Growing.{grows_on, ranks_grown}
-use Rattle.plan_unused.proofs.Settling.{more_on, deeper_ranks, may_look, settled_next, walk_next}
+use Rattle.std.proofs.Common.{◌+◌, inl}
+use Rattle.std.specs.Prelude.{refl}
+use Rattle.plan_unused.proofs.Growing.{grows_none, grows_on, ranks_grown}
+use Rattle.plan_unused.proofs.Settling.{more_none, more_on, deeper_ranks, ranked_earlier, may_visit, walk_next}
+use Rattle.plan_unused.proofs.Visiting.{visited_next, visited_all, fewer_left}
 use Rattle.plan_unused.proofs.walking.next_hop.Goals as goal
 
-pub look-requires-clause-may : goal.look-requires-clause-may
-look-requires-clause-may c =
-    may_look c.args.plan.now c.args.depth c.args.hop.met c.as_slice-class-items.result.now c.args.seen.now c.loop-class.class-index _
-    c.requires.sound c.requires.depth
-    (subst (λ (xs : List Titles). IsWalk c.args.plan.now c.args.depth c.args.hop.met xs c.args.seen.now)
-    (sym c.as_slice-class-items.ensures)
-    c.requires.walk) c.loop-class-test.true c.class-item.is
-
-pub look-requires-clause-ranks : goal.look-requires-clause-ranks
-look-requires-clause-ranks c =
-    ranks_grown c.args.plan.now (c.args.depth + 1) c.args.hop.met c.loop-class.next.met [] c.loop-class.next.stops
-    c.loop-class.invariant.grows (deeper_ranks c.args.plan.now c.args.depth c.args.hop.met c.requires.walk.ranks)
-
-pub look-requires-clause-seen : goal.look-requires-clause-seen
-look-requires-clause-seen c = c.loop-class.invariant.sound
-
-pub loop-class-preserved : goal.loop-class-preserved
-loop-class-preserved c = record {
-  grows = grows_on c.args.plan.now (c.args.depth + 1) c.args.hop.met c.loop-class.next.met c.look.new.hop.met [] c.loop-class.next.stops
-      c.look.new.hop.stops c.loop-class.invariant.grows c.in_ok-look.ensures.grows;
-  sound = c.in_ok-look.ensures.seen;
-  more = more_on c.args.seen.now c.loop-class.seen c.look.new.seen c.loop-class.invariant.more c.in_ok-look.ensures.more;
-  settled = settled_next c.args.plan.now c.args.depth c.loop-class.seen c.look.new.seen c.loop-class.next.met c.look.new.hop.met
-      c.as_slice-class-items.result.now c.loop-class.class-index _ c.loop-class-test.true c.class-item.is c.in_ok-look.ensures.more
-      c.in_ok-look.ensures.grows.kept c.in_ok-look.ensures.settled c.loop-class.invariant.settled;
+pub classes-init : goal.classes-init
+classes-init c = record {
+  grows = grows_none c.args.plan.now (c.args.depth + 1) c.args.met.now;
+  sound = c.requires.walk.sound;
+  more = more_none c.args.seen.now;
+  visited = λ d at decided. inl tt;
 }
+
+pub look_if_stop-requires-clause-may : goal.look_if_stop-requires-clause-may
+look_if_stop-requires-clause-may c =
+    may_visit c.args.plan.now c.args.depth c.args.met.now c.classes.met c.args.seen.now c.in-Some.class c.requires.sound
+    c.requires.walk
+    c.classes.invariant.grows c.in-Some.ensures.found.0
+
+pub look_if_stop-requires-clause-ranks : goal.look_if_stop-requires-clause-ranks
+look_if_stop-requires-clause-ranks c =
+    ranks_grown c.args.plan.now (c.args.depth + 1) c.args.met.now c.classes.met c.classes.invariant.grows
+    (deeper_ranks c.args.plan.now c.args.depth c.args.met.now c.requires.walk.ranks)
+
+pub classes-preserved : goal.classes-preserved
+classes-preserved c = record {
+  grows = grows_on c.args.plan.now (c.args.depth + 1) c.args.met.now c.classes.met c.look_if_stop.new.met c.classes.invariant.grows
+      c.in_ok-look_if_stop.ensures.grows;
+  sound = c.in_ok-look_if_stop.ensures.seen;
+  more = more_on c.args.seen.now c.classes.seen c.look_if_stop.new.seen c.classes.invariant.more c.in_ok-look_if_stop.ensures.more;
+  visited = visited_next c.args.plan.now c.args.depth c.classes.seen c.look_if_stop.new.seen c.args.met.now c.classes.met
+      c.look_if_stop.new.met c.classes.from c.in-Some.class c.in_ok-look_if_stop.ensures.more c.classes.invariant.grows.kept
+      c.in_ok-look_if_stop.ensures.grows.kept c.in-Some.ensures.first c.in_ok-look_if_stop.ensures.settled c.classes.invariant.visited;
+}
+
+pub classes-smaller : goal.classes-smaller
+classes-smaller c =
+    fewer_left c.classes.from c.in-Some.class c.in-Some.ensures.found.1 c.args.met.now c.args.depth
+    (ranked_earlier c.args.plan.now c.args.depth c.args.met.now c.classes.met c.in-Some.class c.classes.invariant.grows
+    c.in-Some.ensures.found.0)
 
 pub returns-clause-walk : goal.returns-clause-walk
 returns-clause-walk c =
-    walk_next c.args.plan.now c.args.depth c.args.hop.met c.loop-class.next.met c.as_slice-class-items.result.now c.loop-class.next.stops
-    c.args.seen.now c.loop-class.seen
-    (subst (λ (xs : List Titles). IsWalk c.args.plan.now c.args.depth c.args.hop.met xs c.args.seen.now)
-    (sym c.as_slice-class-items.ensures)
-    c.requires.walk)
-    c.loop-class.invariant.grows c.loop-class.invariant.sound c.loop-class.invariant.more
-    (subst (All (λ x. IsSettled c.args.plan.now c.loop-class.seen c.loop-class.next.met x c.args.depth))
-    (take_all c.loop-class.class-index c.as_slice-class-items.result.now c.loop-class-test.false) c.loop-class.invariant.settled)
+    walk_next c.args.plan.now c.args.depth c.args.met.now c.classes.met c.args.seen.now c.classes.seen c.requires.walk
+    c.classes.invariant.grows c.classes.invariant.sound c.classes.invariant.more
+    (visited_all c.args.plan.now c.args.depth c.classes.seen c.args.met.now c.classes.met c.classes.from c.classes.invariant.grows.kept
+    (c.in_default.ensures.none refl) c.classes.invariant.visited)
