@@ -22,7 +22,7 @@ use Rattle.long_segments.specs.Sending.{segment_message, FirstTells}
 
 -- ---- tests of lengths and pointers, one after the other
 
-passed : (b : Bool) (x : Option ℕ) (i : ℕ) → cond b x (Some i) ≡ None → (b ≡ true) × (x ≡ None)
+pub passed : (b : Bool) (x : Option ℕ) (i : ℕ) → cond b x (Some i) ≡ None → (b ≡ true) × (x ≡ None)
 passed true x i e = (refl, e)
 passed false x i e = absurd (cc)
 
@@ -57,7 +57,7 @@ pointers called calling payload =
     first_failed true (nat_le (7 + length (length called ∷ called) - 4) 255) (nat_le (behind called calling - 5) 255)
     (nat_le (behind called calling + length (length payload ∷ payload) - 6) 255)
 
-others : List Parameter → List Parameter
+unfoldable pub others : List Parameter → List Parameter
 others params = filter (λ p. not (p.name == segmentation)) params
 
 fault_is : (class hops : ℕ) (called calling : Address) (params : List Parameter) (s : Segment)

@@ -1,12 +1,15 @@
 //! Sending a long message on in segments.
-ghost use Rattle.std.specs.Prelude.{◌≡◌, ◌<◌, ◌++◌, true, map, IfOk, OnOk, All};
-ghost use Rattle.sccp_layout.specs.Parameter.{parameter};
+ghost use Rattle.std.specs.Prelude.{◌≡◌, ◌<◌, ◌++◌, ℕ, List, true, map, Ok, IfOk, OnOk, All};
+ghost use Rattle.sccp_address.specs.declared.address.Address.{Address};
+ghost use Rattle.sccp_layout.specs.Parameter.{Parameter, parameter};
 ghost use Rattle.sccp_layout.specs.Table.{segmentation};
 ghost use Rattle.sccp_message.specs.Encoding.{Gives as Encodes, encoding};
 ghost use Rattle.sccp_message.specs.Written.{Writable, message_octets};
 ghost use Rattle.sccp_message.specs.declared.message.Message.TheVariants.{Ludt};
 ghost use Rattle.sccp_message.specs.Fields.{param as param_of, reads_if};
+ghost use Rattle.sccp_message.specs.Reading.{reading};
 ghost use Rattle.sccp_segment.specs.Segments.{segmentation_octets};
+ghost use Rattle.long_segments.specs.Carried.{CarryData};
 ghost use Rattle.long_segments.specs.Sending.{FirstTells, Gives, class_for, is_one_segment, params_for, reference_of, segment_message};
 ghost use Rattle.long_segments.specs.Sending.{sending, sending_message, written_all};
 
@@ -215,19 +218,14 @@ fn send_message(
     }
 }
 
-/// Sends a long unitdata message (LUDT) on in segments of `size` octets of data each (Q.714 section 4.1). It answers the
-/// octets of an XUDT for each, in order, of class 1 and with the message's addresses, hop counter and other parameters. Only
-/// the first has the message's options. The reference is that of the message's own segmentation parameter; without one it is
-/// the given one.
-///
-/// The fault is the first that holds of `NotLong`, `AlreadySegment`, `ZeroSize`, `TooMany` and `NotWritable`.
-pub fn send_on(
+// The octets of the segments by the one definition of what sending on gives. `send_on` promises the same by what they carry.
+fn segments_of(
     alloc: Global,
     octets: &[u8],
     size: u8,
     reference: Reference,
 ) -> Result<List<Octets>, LongFault>
-    ensures exact { Gives (λ list. list) result (sending octets.now size reference) }
+    ensures { Gives (λ list. list) result (sending octets.now size reference) }
 {
     let message = match decode(alloc, octets) {
         Ok(message) => message,
@@ -257,4 +255,23 @@ pub fn send_on(
             Err(LongFault::NotLong)
         }
     }
+}
+
+/// Sends a long unitdata message (LUDT) on in segments of `size` octets of data each (Q.714 section 4.1). It answers the
+/// octets of an XUDT for each, in order, of class 1 and with the message's addresses, hop counter and other parameters. Only
+/// the first has the message's options. The reference is that of the message's own segmentation parameter; without one it is
+/// the given one. The octets carry the data of the message: they read as its segments, and a pool that takes them answers it.
+///
+/// The fault is the first that holds of `NotLong`, `AlreadySegment`, `ZeroSize`, `TooMany` and `NotWritable`.
+pub fn send_on(
+    alloc: Global,
+    octets: &[u8],
+    size: u8,
+    reference: Reference,
+) -> Result<List<Octets>, LongFault>
+    ensures exact { Gives (λ list. list) result (sending octets.now size reference) }
+    ensures carried { IfOk result (λ list. (class hops : ℕ) (called calling : Address) (payload : List ℕ) (params : List Parameter) →
+        reading octets.now ≡ Ok (Ludt class hops called calling payload params) → CarryData list payload) }
+{
+    segments_of(alloc, octets, size, reference)
 }

@@ -16,10 +16,10 @@ use Rattle.plan_model.specs.declared.plan_fault.PlanFault.{PlanFault}
 use Rattle.made_load.specs.Relays.{selector, destination, onward, next_relay, row_of, relay_point, relay, relays, cover}
 
 -- the rows of a relay of which it is known whether it hands titles on
-abbrev targets_if : Bool → ℕ → ℕ → ℕ → List Target
+abbrev pub targets_if : Bool → ℕ → ℕ → ℕ → List Target
 targets_if hands number i d = option_to_list (if hands then Some (onward (next_relay number i d)) else None) ++ destination d ∷ []
 
-abbrev row_if : Bool → ℕ → ℕ → ℕ → Rule
+abbrev pub row_if : Bool → ℕ → ℕ → ℕ → Rule
 row_if hands number i d = rule selector None (d ∷ []) (targets_if hands number i d)
 
 -- ---- the plan
@@ -55,7 +55,7 @@ no_fault_of (suc zero) lt = refl
 no_fault_of (suc (suc zero)) lt = refl
 no_fault_of (suc (suc (suc n))) lt = absurd (omega (arith, lt))
 
-no_fault : (number : ℕ) → plan_fault (relays number) (cover ∷ []) ≡ None
+pub no_fault : (number : ℕ) → plan_fault (relays number) (cover ∷ []) ≡ None
 no_fault number = ap (λ nodes. plan_fault nodes (cover ∷ [])) (by_remainder number) ∙ no_fault_of (number % 3) (omega arith)
 
 -- so building them gives no fault
@@ -80,7 +80,7 @@ named_row number i d = by (nat_lt i 7) where
   by true = record { own = tt; targets = All-cons NamesSubsystem (onward (next_relay number i d)) (destination d ∷ []) tt last }
   by false = record { own = tt; targets = last }
 
-each : {X : Type 0} (P : X → Type 0) → ((x : X) → P x) → (xs : List X) → All P xs
+pub each : {X : Type 0} (P : X → Type 0) → ((x : X) → P x) → (xs : List X) → All P xs
 each P h [] = All-nil P
 each P h (x ∷ xs) = All-cons P x xs (h x) (each P h xs)
 

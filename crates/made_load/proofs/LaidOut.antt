@@ -9,10 +9,10 @@ laid place a b c d e =
     9 ∷ 128 ∷ 3 ∷ 13 ∷ 17 ∷ 10 ∷ 18 ∷ 6 ∷ 0 ∷ 18 ∷ 4 ∷ a ∷ b ∷ c ∷ d ∷ e ∷ 4 ∷ 67 ∷ 1 ∷ 24 ∷ 8 ∷ 4
     ∷ place / 16777216 ∷ place / 65536 % 256 ∷ place / 256 % 256 ∷ place % 256 ∷ []
 
-abbrev two_on : ℕ → ℕ
+abbrev pub two_on : ℕ → ℕ
 two_on x = after (after x)
 
-drawn_out : (place x : ℕ) → laid place (pair x) (pair (two_on x)) (pair (two_on (two_on x))) (pair (two_on (two_on (two_on x))))
+pub drawn_out : (place x : ℕ) → laid place (pair x) (pair (two_on x)) (pair (two_on (two_on x))) (pair (two_on (two_on (two_on x))))
     (pair (two_on (two_on (two_on (two_on x))))) ≡ made_octets place x
 unfolding made_octets
 drawn_out place x = refl

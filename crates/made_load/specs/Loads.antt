@@ -88,6 +88,13 @@ begun number plan = record { at = number; states = first_states plan; counts = n
 unfoldable pub load_counts : ℕ → ℕ → Counts
 load_counts number size = (all_sent (load_plan number) size 0 (begun number (load_plan number))).counts
 
+-- what the counts of this number of messages add up to: each message ends or is returned, after one to six translations
+pub record AddUp (size : ℕ) (c : Counts) : Type 0 where
+  pub messages : c.messages ≡ size
+  pub ends : c.ended + c.returned ≡ size
+  pub least : size ≤ c.translations
+  pub most : c.translations ≤ 6 * size
+
 -- at most this number of messages was counted, and there are eight relays
 pub record IsAfter (count : ℕ) (l : Load) : Type 0 where
   pub states : length l.states ≡ 8

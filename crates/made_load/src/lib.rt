@@ -17,6 +17,6 @@ mod relays;
 mod rows;
 
 pub use counts::Counts;
-pub use laws::{made_plans_are_safe, made_plans_reach_few};
+pub use laws::{load_counts_add_up, made_plans_are_safe, made_plans_reach_few};
 pub use parts::load_counts;
 pub use relays::load_plan;
