@@ -5,11 +5,13 @@ mod ConnectLemmas
 mod CoversLemmas
 mod CutsLemmas
 mod ImportLemmas
+mod LeavingLemmas
 mod LoadLemmas
 mod MarginLemmas
 mod ReplayLemmas
 mod RouteLemmas
 mod RunLemmas
+mod SegmentLemmas
 mod SendOnLemmas
 mod ShowHexLemmas
 mod ShowLemmas

@@ -33,6 +33,8 @@ use Rattle.sccp_work.specs.Work.{answered}
 use Rattle.sccp_tool.specs.declared.send_on.Incoming.{Incoming}
 use Rattle.sccp_work.specs.declared.status.Status.TheVariants.{Done, Usage}
 use Rattle.sccp_tool.proofs.Causes.{Causes}
+use Rattle.sccp_tool.proofs.SegmentLemmas.{send_on_tells}
+use Rattle.sccp_work.specs.Verdict.{IsOnVerdict}
 use Rattle.sccp_work.proofs.PlanLemmas.{plan_files, text_always, text_only}
 
 pub send_on_causes : (name : List ℕ) (incoming : Incoming) → Causes (Some (SendOn name incoming))
@@ -41,7 +43,8 @@ send_on_causes name incoming = record {
   usage = λ contents text h. absurd (text_only contents name (λ plan. send_on_text plan incoming) Usage text h);
   always = λ c t s text cause h. text_always c name (λ plan. send_on_text plan incoming) t s text cause h;
   refused = λ c s text cause h. absurd cause;
-  tells = λ c s text taken taken' is ends. tt;
+  tells = λ c s text taken taken' is ends done. send_on_tells (Some c) name incoming s text taken taken' is
+      (ends (subst IsOnVerdict (sym done) tt)) done;
   journeys = λ c s b a is o. tt;
   files = λ c there. plan_files c name (λ plan. answered (Done, send_on_text plan incoming)) (λ plan. tt) there;
 }

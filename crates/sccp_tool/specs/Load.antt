@@ -1,8 +1,9 @@
 -- The command that makes a plan and messages from a number, and counts what becomes of the messages.
-use Rattle.std.specs.Prelude.{ℕ, nat_le, List, [], ◌∷◌, ◌++◌, codes, Option, Some, None, option_and_then, if◌then◌else◌}
+use Rattle.std.specs.Prelude.{◌≡◌, ◌≤◌, ℕ, nat_le, List, [], ◌∷◌, ◌++◌, codes, Option, Some, None, option_and_then, if◌then◌else◌}
+use Rattle.std.specs.Io.KnownBytes.{append_known}
 use Rattle.std.specs.Option.{option_map}
 use Rattle.sccp_base.specs.Text.{decimal_of}
-use Rattle.made_load.specs.Loads.{load_counts}
+use Rattle.made_load.specs.Loads.{AddUp, load_counts}
 use Rattle.made_load.specs.Relays.{load_plan}
 use Rattle.made_load.specs.declared.counts.Counts.{Counts}
 use Rattle.sccp_report.specs.Values.{numbered}
@@ -44,3 +45,9 @@ load_work number size = if_accepted [] (load_plan number) (λ accepted. answered
 abbrev pub LoadCause : Status → Type 0
 LoadCause Done = Unit {0}
 LoadCause answer = ⊥
+
+-- The sink took the counts of exactly these messages, and each of them ended or was returned, after one to six translations. Words
+-- ask for no more than 100,000 messages.
+abbrev pub LoadTells : ℕ → ℕ → Status → Option (List ℕ) → Option (List ℕ) → Type 0
+LoadTells number size given taken taken' = given ≡ Done → size ≤ 100000 →
+    (taken' ≡ append_known taken (counts_text (load_counts number size))) × AddUp size (load_counts number size)

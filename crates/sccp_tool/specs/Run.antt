@@ -11,12 +11,12 @@ use Rattle.sccp_work.specs.Ending.{IsCut}
 use Rattle.sccp_tool.specs.Import.{import_work, ImportCause, ImportTells}
 use Rattle.sccp_work.specs.Limit.{IsThere}
 use Rattle.sccp_work.specs.Plans.{TextCause}
-use Rattle.sccp_tool.specs.Load.{load_work, LoadCause}
+use Rattle.sccp_tool.specs.Load.{load_work, LoadCause, LoadTells}
 use Rattle.sccp_tool.specs.Margin.{margin_work, MarginCause, MarginSure, MarginTells}
 use Rattle.sccp_replay.specs.Replay.{replay_work}
 use Rattle.sccp_replay.specs.ReplayEnds.{ReplayCause, ReplaySure, ReplayTells, LaterPlansThere}
 use Rattle.sccp_tool.specs.Route.{route_work}
-use Rattle.sccp_tool.specs.SendOn.{send_on_work}
+use Rattle.sccp_tool.specs.SendOn.{send_on_work, SendOnTells}
 use Rattle.sccp_tool.specs.Show.{show_work, ShowCause}
 use Rattle.sccp_tool.specs.ShowHex.{show_hex_work, ShowHexCause}
 use Rattle.sccp_tool.specs.Task.{Task, ShowHex, Show, Verify, Route, Replay, Load, Cuts, Import, Change, Connect, SendOn, Covers, Unused}
@@ -82,13 +82,16 @@ SureCause c task answer = Cause c task answer
 
 -- What the sink took gives the verdict on a plan, on each of its covers by itself, or those on two plans and the answer on their
 -- mixture. Or it gives what no covered title of a plan uses, or the margins of its covers. Of DATA messages it is a trace without
--- a faulty line.
+-- a faulty line. Of a long message that leaves a relay it is octets that carry its data in segments. Of a load it is counts that
+-- add up.
 abbrev pub TellsAnswer : Contents → Option Task → Status → Option (List ℕ) → Option (List ℕ) → Type 0
 TellsAnswer c (Some (Verify name)) given taken taken' = VerifyTells (Some c) name given taken taken'
 TellsAnswer c (Some (Replay plan trace workers)) given taken taken' = ReplayTells c plan given taken taken'
 TellsAnswer c (Some (Change old new)) given taken taken' = ChangeTells (Some c) old new given taken taken'
 TellsAnswer c (Some (Connect name calling)) given taken taken' = ReplayTells c name given taken taken'
+TellsAnswer c (Some (Load number size workers)) given taken taken' = LoadTells number size given taken taken'
 TellsAnswer c (Some (Import plan file)) given taken taken' = ImportTells (Some c) plan file given taken taken'
+TellsAnswer c (Some (SendOn name incoming)) given taken taken' = SendOnTells (Some c) name incoming given taken taken'
 TellsAnswer c (Some (Covers name)) given taken taken' = CoversTells (Some c) name given taken taken'
 TellsAnswer c (Some (Unused name)) given taken taken' = UnusedTells (Some c) name given taken taken'
 TellsAnswer c (Some (Margin name losses)) given taken taken' = MarginTells (Some c) name losses given taken taken'

@@ -1,16 +1,22 @@
 -- The command that sends a message on over a link that carries no long messages (LUDT).
-use Rattle.std.specs.Prelude.{◌≡◌, ℕ, ◌&&◌, nat_lt, List, [], ◌∷◌, ◌++◌, codes, Option, Some, None, option_and_then, option_map, Result, Ok}
-use Rattle.std.specs.Prelude.{Err, if◌then◌else◌}
-use Rattle.std.specs.List.{flat_map, position}
+use Rattle.std.specs.Prelude.{◌≡◌, ◌⊎◌, ◌<◌, ℕ, ◌&&◌, nat_lt, List, [], ◌∷◌, ◌++◌, codes, Option, Some, None, option_and_then, option_map}
+use Rattle.std.specs.Prelude.{Result, Ok, Err, if◌then◌else◌}
+use Rattle.std.specs.Io.KnownBytes.{append_known}
+use Rattle.std.specs.List.{AllByRecursion, flat_map, position}
+use Rattle.long_segments.specs.Carried.{CarryData}
 use Rattle.long_segments.specs.Sending.{sending}
 use Rattle.long_segments.specs.declared.long_fault.LongFault.{LongFault}
 use Rattle.long_segments.specs.declared.long_fault.LongFault.TheVariants.{NotLong, AlreadySegment, ZeroSize, TooMany, NotWritable}
 use Rattle.long_segments.specs.declared.long_fault.LongFault.TheVariants.{OutOfMemory}
-use Rattle.plan_model.specs.Network.{Network, has_name}
+use Rattle.plan_model.specs.Network.{Network, IsPlan, has_name}
+use Rattle.sccp_address.specs.declared.address.Address.{Address}
 use Rattle.sccp_base.specs.Names.{name_of}
 use Rattle.sccp_base.specs.Text.{cut_at, decimal_of, point_code_of}
 use Rattle.sccp_message.specs.Reading.{reading}
+use Rattle.sccp_io.specs.Files.{Contents}
+use Rattle.sccp_layout.specs.Parameter.{Parameter}
 use Rattle.sccp_message.specs.declared.message.Message.{Message}
+use Rattle.sccp_message.specs.declared.message.Message.TheVariants.{Ludt}
 use Rattle.sccp_message.specs.Unitdata.{called_of}
 use Rattle.sccp_report.specs.Events.{coupling_words}
 use Rattle.sccp_report.specs.Hops.{marks_text}
@@ -21,11 +27,12 @@ use Rattle.sccp_scrc.specs.declared.arrival.Arrival.{Arrival}
 use Rattle.sccp_scrc.specs.declared.arrival.Arrival.TheVariants.{Relayed, Ended, Local, Returned, Connection, Management, Undecodable}
 use Rattle.trace_text.specs.Forms.{file_name}
 use Rattle.trace_text.specs.Hex.{hex_word}
-use Rattle.sccp_work.specs.Plans.{with_plan}
+use Rattle.sccp_work.specs.Plans.{with_plan, HasPlan}
 use Rattle.sccp_tool.specs.Task.{Task, SendOn}
 use Rattle.sccp_tool.specs.Texts.{unknown_node}
 use Rattle.sccp_work.specs.Work.{Work, answered}
 use Rattle.sccp_tool.specs.declared.send_on.Incoming.{Incoming}
+use Rattle.sccp_work.specs.declared.status.Status.{Status}
 use Rattle.sccp_work.specs.declared.status.Status.TheVariants.{Done}
 
 -- ---- the words
@@ -101,6 +108,42 @@ send_on_text plan i = lines_at plan i (position (has_name i.node) plan.nodes)
 -- the plan is read first, and not verified
 abbrev pub send_on_work : List ℕ → Incoming → Work
 send_on_work name i = with_plan name (λ plan. answered (Done, send_on_text plan i))
+
+-- ---- what the text says
+
+-- why a long message is not split
+abbrev pub IsNotSplit : List ℕ → Type 0
+IsNotSplit text = (text ≡ codes "not split already segment\n")
+    ⊎ ((text ≡ codes "not split too many\n") ⊎ (text ≡ codes "not split not writable\n"))
+
+-- If octets that leave for a point are a long message, the text is a line for each of some octets, which carry its data in
+-- segments, or says why the message is not split.
+abbrev pub TellsSegments : ℕ → List ℕ → List ℕ → Type 0
+TellsSegments pc octets text =
+    (class hops : ℕ) (called calling : Address) (payload : List ℕ) (params : List Parameter)
+    → reading octets ≡ Ok (Ludt class hops called calling payload params)
+    → IsNotSplit text ⊎ ((list : List (List ℕ)) × (text ≡ flat_map (to_line pc) list) × CarryData list payload)
+
+-- the same of octets that leave a relay, if any do
+abbrev pub TellsLeaving : Arrival → List ℕ → Type 0
+TellsLeaving (Relayed pc octets) text = TellsSegments pc octets text
+TellsLeaving (Ended pc ssn octets) text = TellsSegments pc octets text
+TellsLeaving (Local ssn m) text = Unit {0}
+TellsLeaving (Returned cause marks service) text = Unit {0}
+TellsLeaving (Connection m) text = Unit {0}
+TellsLeaving (Management m) text = Unit {0}
+TellsLeaving (Undecodable fault) text = Unit {0}
+
+-- what words give: a segment may have some data, and the octets are below 256
+pub record IsGiven (i : Incoming) : Type 0 where
+  pub some : 0 < i.size
+  pub octets : AllByRecursion (λ o. o < 256) i.octets
+
+-- The sink took a text that says so of what becomes of the octets at the relay of that name. What is read from a text is a plan.
+abbrev pub SendOnTells : Option Contents → List ℕ → Incoming → Status → Option (List ℕ) → Option (List ℕ) → Type 0
+SendOnTells contents name i given taken taken' = given ≡ Done → HasPlan contents name (λ plan. (text : List ℕ)
+    × (taken' ≡ append_known taken text) × (IsPlan plan → IsGiven i → (node : ℕ)
+    → position (has_name i.node) plan.nodes ≡ Some node → TellsLeaving (arrival plan node [] i.origin i.octets) text))
 
 -- ---- the same for the calls inside
 
