@@ -16,6 +16,8 @@ use Rattle.sccp_base.specs.Names.{name_of}
 use Rattle.sccp_report.specs.Values.{point_code_text}
 use Rattle.trace_text.specs.declared.line.Line.{Line}
 use Rattle.trace_text.specs.declared.line.Line.TheVariants as lines
+use Rattle.m3ua_trace.specs.declared.imported.Imported.{Imported as Lent}
+use Rattle.m3ua_trace.specs.declared.imported.Imported.TheVariants as lent
 
 -- what becomes of it, in the order of testing
 pub data Imported : Type 0 where
@@ -31,6 +33,15 @@ pub data Imported : Type 0 where
   NoOctets : Imported
   -- the name of the node that it is for, the point from which it arrives, and the octets for SCCP
   Message : List ℕ → ℕ → List ℕ → Imported
+
+-- the same as the code gives it
+abbrev pub imported_as : Lent → Imported
+imported_as (lent.Refused fault) = Refused fault
+imported_as (lent.OtherService service) = OtherService service
+imported_as lent.OtherPoint = OtherPoint
+imported_as lent.UnknownNode = UnknownNode
+imported_as lent.NoOctets = NoOctets
+imported_as (lent.Message name origin octets) = Message name.now origin octets.now
 
 -- the faults by their numbers, in the order of testing; want of memory is none
 abbrev pub fault_number : DataFault → ℕ

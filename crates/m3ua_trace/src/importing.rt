@@ -8,8 +8,9 @@ ghost use Rattle.plan_model.specs.Network.{has_point};
 ghost use Rattle.sccp_base.specs.Names.{name_of};
 ghost use Rattle.sccp_report.specs.Values.{point_code_text};
 ghost use Rattle.m3ua_trace.specs.Imported.{Refused, fault_number, number_unless_memory, name_at, for_node, payload_in, from_payload};
-ghost use Rattle.m3ua_trace.specs.Imported.{from_carried, imported, message_line, imported_text};
+ghost use Rattle.m3ua_trace.specs.Imported.{from_carried, imported, imported_as, message_line, imported_text};
 
+use crate::imported::Imported;
 use m3ua_data::{Carried, Data, DataFault, carried, decode};
 use plan_model::{Node, Plan};
 use sccp_base::OutOfMemory;
@@ -48,9 +49,9 @@ fn put_point_code(text: &mut Vec<u8>, pc: u32) -> Result<(), OutOfMemory>
     put_number(text, pc % 8)
 }
 
-/// Appends the line of a message.
+/// Appends the line of a message: its node, its origin and its octets, without a line feed. The error is want of memory.
 #[tactic(auto, unfolding(crate::specs::Imported::message_line))]
-fn put_message(
+pub fn put_message(
     alloc: Global,
     text: &mut Vec<u8>,
     name: &[u8],
@@ -95,58 +96,63 @@ fn name_at(plan: &Plan, pc: u32) -> Option<&[u8]>
     }
 }
 
-/// Appends the line of octets for the node with a point code.
-#[tactic(auto, unfolding(crate::specs::Imported::imported_text))]
-fn put_for_node(
-    alloc: Global,
-    text: &mut Vec<u8>,
-    plan: &Plan,
-    destination: u32,
-    origin: u32,
-    octets: &[u8],
-) -> Result<(), OutOfMemory>
-    ensures { OnOk result (text.new.items ≡ text.old.items ++ imported_text (for_node (name_at plan.now destination) origin octets.now)) }
+/// What becomes of octets for the node with a point code.
+fn for_node<'a>(plan: &'a Plan, destination: u32, origin: u32, octets: &'a [u8]) -> Imported<'a>
+    ensures { imported_as result ≡ for_node (name_at plan.now destination) origin octets.now }
 {
     match name_at(plan, destination) {
         Some(name) => {
             if octets.is_empty() {
-                return put(text, b"# empty");
+                return Imported::NoOctets;
             }
-            put_message(alloc, text, name, origin, octets)
+            Imported::Message(name, origin, octets)
         }
-        None => put(text, b"# unknown node"),
+        None => Imported::UnknownNode,
     }
 }
 
-/// Appends the line of what a DATA message carries.
-#[tactic(auto, unfolding(crate::specs::Imported::imported_text))]
-fn put_payload(
-    alloc: Global,
-    text: &mut Vec<u8>,
-    plan: &Plan,
-    payload: &Carried<'_>,
-) -> Result<(), OutOfMemory>
-    ensures { OnOk result (text.new.items ≡ text.old.items ++ imported_text (from_payload plan.now (payload_in payload.now))) }
+/// What becomes of what a DATA message, or a message of MTP3, carries under a plan.
+pub fn imported_payload<'a>(plan: &'a Plan, payload: &Carried<'a>) -> Imported<'a>
+    ensures { imported_as result ≡ from_payload plan.now (payload_in payload.now) }
 {
     if payload.service != SCCP {
-        put(text, b"# service ")?;
-        return put_number(text, u32::from(payload.service));
+        return Imported::OtherService(payload.service);
     }
     if payload.origin > LAST_POINT || payload.destination > LAST_POINT {
-        return put(text, b"# point");
+        return Imported::OtherPoint;
     }
-    put_for_node(
-        alloc,
-        text,
-        plan,
-        payload.destination,
-        payload.origin,
-        payload.payload,
-    )
+    for_node(plan, payload.destination, payload.origin, payload.payload)
+}
+
+/// Appends the line of what became of a DATA message.
+#[tactic(auto, unfolding(crate::specs::Imported::imported_text))]
+fn put_imported_line(
+    alloc: Global,
+    text: &mut Vec<u8>,
+    imported: &Imported<'_>,
+) -> Result<(), OutOfMemory>
+    ensures { OnOk result (text.new.items ≡ text.old.items ++ imported_text (imported_as imported.now)) }
+{
+    match imported {
+        Imported::Refused(number) => {
+            put(text, b"# refused ")?;
+            put_number(text, u32::from(*number))
+        }
+        Imported::OtherService(service) => {
+            put(text, b"# service ")?;
+            put_number(text, u32::from(*service))
+        }
+        Imported::OtherPoint => put(text, b"# point"),
+        Imported::UnknownNode => put(text, b"# unknown node"),
+        Imported::NoOctets => put(text, b"# empty"),
+        Imported::Message(name, origin, octets) => {
+            put_message(alloc, text, name, *origin, octets)
+        }
+    }
 }
 
 /// The number of a fault, in the order of testing. Want of memory is none.
-fn fault_number(fault: &DataFault) -> Option<u8>
+pub fn fault_number(fault: &DataFault) -> Option<u8>
     ensures { result ≡ number_unless_memory fault.now }
 {
     match fault {
@@ -161,16 +167,12 @@ fn fault_number(fault: &DataFault) -> Option<u8>
 }
 
 /// Appends the line of a fault.
-#[tactic(auto, unfolding(crate::specs::Imported::imported_text))]
-fn put_refused(text: &mut Vec<u8>, fault: &DataFault) -> Result<(), OutOfMemory>
+fn put_refused(alloc: Global, text: &mut Vec<u8>, fault: &DataFault) -> Result<(), OutOfMemory>
     ensures line { OnOk result (text.new.items ≡ text.old.items ++ imported_text (Refused (fault_number fault.now))) }
     ensures told { OnOk result (is_memory fault.now ≡ false) }
 {
     match fault_number(fault) {
-        Some(number) => {
-            put(text, b"# refused ")?;
-            put_number(text, u32::from(number))
-        }
+        Some(number) => put_imported_line(alloc, text, &Imported::Refused(number)),
         None => Err(OutOfMemory),
     }
 }
@@ -185,8 +187,8 @@ fn put_data(
     ensures { OnOk result (text.new.items ≡ text.old.items ++ imported_text (from_carried plan.now (carried_of message.now))) }
 {
     match carried(message) {
-        Some(payload) => put_payload(alloc, text, plan, &payload),
-        None => put_refused(text, &DataFault::NoData),
+        Some(payload) => put_imported_line(alloc, text, &imported_payload(plan, &payload)),
+        None => put_refused(alloc, text, &DataFault::NoData),
     }
 }
 
@@ -201,6 +203,6 @@ pub fn put_imported(
 {
     match decode(alloc, octets) {
         Ok(data) => put_data(alloc, text, plan, &data),
-        Err(fault) => put_refused(text, &fault),
+        Err(fault) => put_refused(alloc, text, &fault),
     }
 }

@@ -1,0 +1,5 @@
+-- Lemmas and worked examples.
+mod Worked
+mod Turns
+mod LastLines
+mod Forms

@@ -1,0 +1,22 @@
+-- The forms of the lines of a capture.
+use Rattle.std.specs.Prelude.{◌≡◌, ℕ, ◌<◌, ◌≤◌, ◌⊎◌, List, length, Some}
+use Rattle.plan_model.specs.Network.{Network}
+use Rattle.trace_text.specs.Forms.{line_of}
+use Rattle.trace_text.specs.declared.line.Line.TheVariants.{Skip}
+use Rattle.m3ua_trace.specs.Imported.{name_at, message_line}
+
+-- a message for a relay of the plan, with at most as many octets for SCCP as a line of a trace holds
+pub record IsMessage (plan : Network) (line : List ℕ) : Type 0 where
+  pub name : List ℕ
+  pub destination : ℕ
+  pub origin : ℕ
+  pub octets : List ℕ
+  pub relay : name_at plan destination ≡ Some name
+  pub point : origin ≤ 16383
+  pub some : 0 < length octets
+  pub few : length octets ≤ 4072
+  pub text : line ≡ message_line name origin octets
+
+-- a line that a trace skips, or a message
+abbrev pub IsLine : Network → List ℕ → Type 0
+IsLine plan line = (line_of line ≡ Some Skip) ⊎ IsMessage plan line
