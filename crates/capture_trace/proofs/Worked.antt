@@ -11,6 +11,7 @@ use Rattle.user_messages.specs.Chunks.{goes_on}
 use Rattle.user_messages.specs.Gathering.{took, first_copy, run_of, up_to, after}
 use Rattle.m3ua_data.specs.Reading.{reading, params_from}
 use Rattle.m3ua_trace.specs.Imported.{message_line}
+use Rattle.plan_model.specs.Limits.{standard}
 use Rattle.plan_model.specs.Network.{Network}
 use Rattle.sccp_base.specs.Names.{name_of}
 use Rattle.sccp_report.specs.Values.{point_code_text}
@@ -21,6 +22,7 @@ use Rattle.capture_trace.specs.Traced.{all_found, of_packet, last_lines, lines_a
 
 abbrev one_relay : Network
 one_relay = record {
+  limits = standard;
   nodes = record { name = codes "a"; pc = 2050; subsystems = []; concerned = []; table = [] } ∷ [];
   covers = [];
 }

@@ -1,7 +1,6 @@
 //! Questions about a running world: freshness, idle links, the number of sections, the next link.
 ghost use Rattle.std.specs.Prelude.{◌≡◌, ◌<◌, ◌≤◌, ◌==◌, ◌+◌, ℕ, not, All, Some, None, drop, is_some, length, map, slice_get, sum};
 ghost use Rattle.std.specs.List.{list_any, list_all};
-ghost use Rattle.plan_model.specs.Limits.{most_nodes};
 ghost use Rattle.couple_chain.specs.Line.{no_repeat};
 ghost use Rattle.couple_chain.specs.Relays.{Relaying};
 ghost use Rattle.chain_world.specs.Links.{octets_on, gone_from};
@@ -69,7 +68,7 @@ fn count_of(relay: &Relay) -> u32
 
 /// The number of sections of all these relays together.
 pub(crate) fn sections_in(relays: &[Relay]) -> u32
-    requires few { length relays.now ≤ most_nodes }
+    requires few { length relays.now ≤ 255 }
     requires each { All (λ (r : Relaying). length r.sections ≤ 4096) relays.now }
     ensures { result ≡ sum (map (λ (r : Relaying). length r.sections) relays.now) }
 {

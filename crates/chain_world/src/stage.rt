@@ -2,7 +2,6 @@
 ghost use Rattle.std.specs.Prelude.{◌≡◌, ◌<◌, ◌≤◌, find, length, position, IfOk, IfSome};
 ghost use Rattle.std.specs.Option.{option_copied};
 ghost use Rattle.sccp_couple.specs.Sections.{is_that, is_near_of, section_at};
-ghost use Rattle.plan_model.specs.Limits.{most_nodes};
 ghost use Rattle.plan_model.specs.Network.{has_point};
 ghost use Rattle.chain_world.specs.Staged.{stage_of, sections_at, first_in, joined_to, next_in, is_open, stages_from};
 
@@ -79,7 +78,7 @@ fn stage_at(relays: &[Relay], node: u8, point: PointCode, remote: Reference) -> 
 
 /// The pair at the first relay that has one whose near section has this point and remote.
 pub(crate) fn first_stage(relays: &[Relay], point: PointCode, remote: Reference) -> Option<Stage>
-    requires { length relays.now ≤ most_nodes }
+    requires { length relays.now ≤ 255 }
     ensures { result ≡ first_in 0 relays.now point remote }
 {
     for (i, relay) in relays.iter().enumerate() {

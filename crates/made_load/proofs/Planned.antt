@@ -13,6 +13,7 @@ use Rattle.plan_rules.specs.Tables.{AreDistinct, IsRule, IsTable, makes_odd, str
 use Rattle.plan_rules.specs.Target.{IsTarget, put_of, selector_of}
 use Rattle.plan_rules.specs.declared.target.Target.{Target}
 use Rattle.plan_model.proofs.Sound.{faultless_plan}
+use Rattle.plan_model.specs.Limits.{standard}
 use Rattle.plan_model.specs.Faults.{HasNumbers, first_bad_cover, first_in_nodes, first_limit, first_repeated_node, first_unknown_cover}
 use Rattle.plan_model.specs.Faults.{is_unknown, no_cover, relays_to}
 use Rattle.plan_model.specs.Network.{IsPlan, rows_in_all}
@@ -120,12 +121,13 @@ pub is_plan : (number : ℕ) → IsPlan (load_plan number)
 unfolding load_plan
 is_plan number =
     let nodes : List Node = relays number in
-    let limit = first_limit (length nodes) (rows_in_all nodes) (length (cover ∷ [])) in
+    let limit = first_limit standard (length nodes) (rows_in_all nodes) (length (cover ∷ [])) in
     let unknown = option_or (first_in_nodes (λ node. is_unknown nodes) nodes) (first_unknown_cover (length nodes) (cover ∷ [])) in
     let to_self = first_in_nodes (λ node. relays_to node.pc) nodes in
     let bad = first_bad_cover (cover ∷ []) in
     let none = none_of_six (option_map Limit limit) (option_map Repeated (first_repeated_node nodes)) (option_map UnknownNode unknown)
     (option_map RelayToSelf to_self) (no_cover (cover ∷ [])) (option_map BadCover bad) (no_fault number) in
-    faultless_plan nodes (cover ∷ []) (map-None Limit limit none.0) (map-None Repeated (first_repeated_node nodes) none.1)
+    faultless_plan standard nodes (cover ∷ []) (record { nodes = omega arith; rows = omega arith; covers = omega arith })
+    (map-None Limit limit none.0) (map-None Repeated (first_repeated_node nodes) none.1)
     (map-None UnknownNode unknown none.2) (map-None RelayToSelf to_self none.3) (omega arith) (map-None BadCover bad none.5)
     (sound_relays number) few_digits (are_tables number) has_numbers

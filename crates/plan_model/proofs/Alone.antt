@@ -174,7 +174,10 @@ alone_sound plan number cover sound at =
     record {
       few_nodes = sound.few_nodes;
       few_rows = sound.few_rows;
-      few_covers = omega arith;
+      few_covers = omega (arith, inside, sound.few_covers);
+      node_places = sound.node_places;
+      cover_places = omega arith;
+      row_places = sound.row_places;
       some_cover = omega arith;
       nodes = sound.nodes;
       names = sound.names;

@@ -5,6 +5,7 @@ ghost use Rattle.plan_model.specs.Covered.{Covered, Covers};
 
 use crate::cover::Cover;
 use crate::faults::{first_fault, place_of_name, place_of_point};
+use crate::limits::Limits;
 use crate::node::Node;
 use crate::plan_fault::PlanFault;
 use crate::spot::Spot;
@@ -15,26 +16,28 @@ use std::marker::Model;
 /// The relays of a network and what is covered.
 #[derive(Drop)]
 pub struct Plan {
+    limits: Limits,
     nodes: List<Node>,
     covers: List<Cover>,
 }
 
 impl Model for Plan {
-    ghost use Rattle.plan_model.specs.Network.{Network, IsPlan, network};
+    ghost use Rattle.plan_model.specs.Network.{Network, IsPlan, network_within};
 
     ghost Value = { Network };
 
-    ghost view = { λ p. network p.nodes p.covers };
+    ghost view = { λ p. network_within p.limits p.nodes p.covers };
 
-    ghost invariant = { λ p. IsPlan (network p.nodes p.covers) };
+    ghost invariant = { λ p. IsPlan (network_within p.limits p.nodes p.covers) };
 }
 
 impl Plan {
-    ghost use Rattle.plan_model.specs.Network.{IsPlan, IsNode, network, has_name, has_point, node_of, point_of};
-    ghost use Rattle.plan_model.specs.Faults.{plan_fault, HasFewDigits};
+    ghost use Rattle.plan_model.specs.Network.{IsPlan, IsNode, network, network_within, has_name, has_point, node_of, point_of};
+    ghost use Rattle.plan_model.specs.Faults.{plan_fault, plan_fault_within, HasFewDigits};
 
-    /// A plan of these nodes and covers, or the first test that they fail: `Limit`, `Repeated`, `UnknownNode`,
-    /// `RelayToSelf`, `NoCover`, `BadCover`. Each test goes over all of them before the next begins. It takes no memory.
+    /// A plan of these nodes and covers under the standard limits, or the first test that they fail: `Limit`, `Repeated`,
+    /// `UnknownNode`, `RelayToSelf`, `NoCover`, `BadCover`. Each test goes over all of them before the next begins. It takes no
+    /// memory.
     ///
     /// Each node's subsystems, and those that its rows and their targets name, lie from 2 to 255. Neither its subsystems nor
     /// its concerned points repeat. Each cover's least and most are at most 32.
@@ -46,21 +49,33 @@ impl Plan {
         ensures faultless { OnOk result (plan_fault nodes covers ≡ None) }
         ensures fault { IfErr result (λ fault. plan_fault nodes covers ≡ Some fault) }
     {
-        match first_fault(nodes.as_slice(), covers.as_slice()) {
+        Plan::build_within(Limits::standard(), nodes, covers)
+    }
+
+    /// A plan of these nodes and covers under limits, or the first test that they fail, as for `build`.
+    pub fn build_within(limits: Limits, nodes: List<Node>, covers: List<Cover>) -> Result<Plan, PlanFault>
+        requires nodes { All IsNode nodes }
+        requires covers { All HasFewDigits covers }
+        ensures plan { IfOk result (λ plan. plan ≡ network_within limits nodes covers) }
+        ensures sound { OnOk result (IsPlan (network_within limits nodes covers)) }
+        ensures faultless { OnOk result (plan_fault_within limits nodes covers ≡ None) }
+        ensures fault { IfErr result (λ fault. plan_fault_within limits nodes covers ≡ Some fault) }
+    {
+        match first_fault(limits, nodes.as_slice(), covers.as_slice()) {
             Some(fault) => Err(fault),
-            None => Ok(Plan { nodes, covers }),
+            None => Ok(Plan { limits, nodes, covers }),
         }
     }
 
-    /// The plan of the nodes of a plan with one of its covers. Nothing of the nodes is copied. If memory runs out, both are given
-    /// up.
-    pub fn alone(alloc: Global, nodes: List<Node>, cover: Cover) -> Result<Plan, OutOfMemory>
-        requires { IsPlan (network nodes (cover ∷ [])) }
-        ensures { IfOk result (λ plan. plan ≡ network nodes (cover ∷ [])) }
+    /// The plan of the nodes of a plan, under its limits, with one of its covers. Nothing of the nodes is copied. If memory runs
+    /// out, both are given up.
+    pub fn alone(alloc: Global, limits: Limits, nodes: List<Node>, cover: Cover) -> Result<Plan, OutOfMemory>
+        requires { IsPlan (network_within limits nodes (cover ∷ [])) }
+        ensures { IfOk result (λ plan. plan ≡ network_within limits nodes (cover ∷ [])) }
     {
         let mut covers = List::new(alloc);
         match covers.push(cover) {
-            Ok(()) => Ok(Plan { nodes, covers }),
+            Ok(()) => Ok(Plan { limits, nodes, covers }),
             Err(fault) => {
                 drop(covers);
                 drop(nodes);
@@ -76,6 +91,13 @@ impl Plan {
         ensures sound { IsPlan self }
     {
         (self.nodes, self.covers)
+    }
+
+    /// The limits that it was made under.
+    pub fn limits(&self) -> Limits
+        ensures { result ≡ self.now.limits }
+    {
+        self.limits
     }
 
     /// The nodes in their order.

@@ -2,7 +2,7 @@
 use crate::place::Place;
 use plan_rules::RuleFault;
 
-/// A limit that was passed: more than 64 nodes, 4,096 rows in all, or 256 covers.
+/// A limit that was passed: more nodes, rows in all, or covers than the limits allow, 64, 4,096 and 256 by the standard ones.
 #[derive(Clone, Copy)]
 pub enum Counted {
     Nodes,

@@ -2,7 +2,6 @@
 ghost use Rattle.std.specs.Prelude.{◌≡◌, ◌≤◌, ◌<◌, IfOk, IfSome, All, map, length};
 ghost use Rattle.toml.specs.View.{view};
 ghost use Rattle.sccp_base.specs.Answers.{Answers};
-ghost use Rattle.plan_model.specs.Limits.{most_nodes};
 ghost use Rattle.plan_model.specs.Faults.{HasFewDigits};
 ghost use Rattle.plan_text.specs.EachOk.{each_ok};
 ghost use Rattle.plan_text.specs.Faults.{is_memory};
@@ -30,7 +29,7 @@ fn place_named(nodes: &[Value], name: &[u8]) -> Option<usize>
 /// The place of the first node of a name, or the number of nodes if none has it.
 #[tactic(auto, unfolding(crate::specs::Covers::node_place))]
 fn node_place(nodes: &[Value], name: &[u8]) -> u8
-    requires { length nodes.now ≤ most_nodes }
+    requires { length nodes.now ≤ 255 }
     ensures { result ≡ node_place (map view nodes.now) name.now }
 {
     place_named(nodes, name).unwrap_or(nodes.len()) as u8
@@ -65,7 +64,7 @@ fn allowed_of(alloc: Global, i: usize, values: &[Value]) -> Result<List<(PointCo
 /// The cover at place i, or the first key whose value cannot be read.
 #[tactic(auto, unfolding(crate::specs::Covers::cover_of))]
 fn cover_of(alloc: Global, nodes: &[Value], i: usize, cover: &Value) -> Result<Cover, PlanFault>
-    requires { length nodes.now ≤ most_nodes }
+    requires { length nodes.now ≤ 255 }
     ensures value { Answers is_memory (λ cover. cover) result (cover_of (map view nodes.now) i (view cover.now)) }
     ensures few { IfOk result HasFewDigits }
 {
@@ -107,7 +106,7 @@ pub(crate) fn covers_of(
     nodes: &[Value],
     covers: &[Value],
 ) -> Result<List<Cover>, PlanFault>
-    requires { length nodes.now ≤ most_nodes }
+    requires { length nodes.now ≤ 255 }
     ensures value { Answers is_memory (λ read. read) result (covers_of (map view nodes.now) (map view covers.now)) }
     ensures few { IfOk result (All HasFewDigits) }
 {

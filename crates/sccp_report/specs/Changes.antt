@@ -3,6 +3,7 @@ use Rattle.std.specs.Prelude.{ℕ, List, [], ◌∷◌, ◌++◌, Option, Some, 
 use Rattle.sccp_base.specs.declared.mark.Mark.{Mark}
 use Rattle.plan_model.specs.declared.kind.Kind.{Kind}
 use Rattle.plan_model.specs.declared.spot.Spot.{Spot}
+use Rattle.plan_model.specs.declared.limits.Limits.{Limits}
 use Rattle.plan_model.specs.Network.{Network}
 use Rattle.plan_mixed.specs.declared.which.Which.{Which}
 use Rattle.plan_mixed.specs.declared.which.Which.TheVariants.{Old, New}
@@ -12,8 +13,9 @@ use Rattle.plan_change.specs.declared.mixed_hop.MixedHop.{MixedHop}
 use Rattle.plan_change.specs.declared.turn.Turn.{Turn}
 use Rattle.plan_change.specs.Mixture.{mixed, tagged}
 use Rattle.sccp_report.specs.Hops.{hop_line, IsHopIn}
+use Rattle.sccp_report.specs.Limits.{too_wide_line}
 use Rattle.sccp_report.specs.Values.{numbered}
-use Rattle.sccp_report.specs.Verdicts.{kind_words, accepted_line, too_wide_line}
+use Rattle.sccp_report.specs.Verdicts.{kind_words, accepted_line}
 
 -- the plan that a relay holds
 unfoldable pub which_words : Which → List ℕ
@@ -45,8 +47,8 @@ unfoldable pub broken_line : ℕ → ℕ → Kind → List ℕ
 broken_line old_cover new_cover kind = broken_words ++ kind_words kind ++ covers_words old_cover new_cover
 
 -- they reach more classes than are followed
-unfoldable pub wide_change_line : List ℕ
-wide_change_line = codes "change " ++ too_wide_line
+unfoldable pub wide_change_line : Limits → List ℕ
+wide_change_line limits = codes "change " ++ too_wide_line limits
 
 -- the longest mixed route, if some title is covered by both plans
 abbrev pub longest_hops_text : Network → Network → Option Spot → List Turn → List ℕ
@@ -58,7 +60,7 @@ abbrev pub change_text : Network → Network → Change → List ℕ
 change_text old new (Kept bound spot turns) = kept_line bound ++ longest_hops_text old new spot turns
 change_text old new (Broken old_cover new_cover spot turns hops kind) = broken_line old_cover new_cover kind
     ++ mixed_hops_text old hops turns
-change_text old new TooWide = wide_change_line
+change_text old new TooWide = wide_change_line old.limits
 
 -- the hop is at a node of the plan, and leads to one if anywhere
 abbrev pub IsMixedHopIn : Network → MixedHop → Type 0

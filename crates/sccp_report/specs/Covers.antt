@@ -5,8 +5,9 @@ use Rattle.plan_model.specs.Network.{Network}
 use Rattle.plan_verify.specs.declared.verdict.Verdict.{Verdict}
 use Rattle.plan_verify.specs.declared.verdict.Verdict.TheVariants.{Accepted, Refused, TooWide}
 use Rattle.sccp_report.specs.Hops.{hops_text}
+use Rattle.sccp_report.specs.Limits.{too_wide_line}
 use Rattle.sccp_report.specs.Values.{numbered}
-use Rattle.sccp_report.specs.Verdicts.{kind_words, steady_words, accepted_line, too_wide_line}
+use Rattle.sccp_report.specs.Verdicts.{kind_words, steady_words, accepted_line}
 
 -- the cover of this number
 unfoldable pub cover_words : ℕ → List ℕ
@@ -20,4 +21,4 @@ refused_alone_line kind steady = codes "refused " ++ kind_words kind ++ steady_w
 abbrev pub cover_text : ℕ → Network → Verdict → List ℕ
 cover_text number plan (Accepted a) = cover_words number ++ accepted_line a.bound
 cover_text number plan (Refused same w) = cover_words number ++ refused_alone_line w.kind w.steady ++ hops_text plan w.hops w.markings
-cover_text number plan (TooWide same) = cover_words number ++ too_wide_line
+cover_text number plan (TooWide same) = cover_words number ++ too_wide_line plan.limits

@@ -5,6 +5,7 @@ pub mod Faults
 pub mod MessageText
 pub mod CutsText
 pub mod Hops
+pub mod Limits
 pub mod PlanFaults
 pub mod Verdicts
 pub mod Covers

@@ -3,12 +3,14 @@ use Rattle.std.specs.Prelude.{ℕ, List, [], ◌++◌, codes}
 use Rattle.plan_rules.specs.declared.rule_fault.RuleFault.{RuleFault}
 use Rattle.plan_rules.specs.declared.rule_fault.RuleFault.TheVariants as rules
 use Rattle.plan_model.specs.Keys.{word_of}
+use Rattle.plan_model.specs.declared.limits.Limits.{Limits}
 use Rattle.plan_model.specs.declared.place.Place.{Place}
 use Rattle.plan_model.specs.declared.place.Place.TheVariants.{Top, Node, Row, Cover}
 use Rattle.plan_model.specs.declared.plan_fault.Counted.{Counted}
 use Rattle.plan_model.specs.declared.plan_fault.Counted.TheVariants.{Nodes, Rows, Covers}
 use Rattle.plan_model.specs.declared.plan_fault.PlanFault.{PlanFault}
 use Rattle.plan_model.specs.declared.plan_fault.PlanFault.TheVariants as faults
+use Rattle.sccp_report.specs.Limits.{beyond_count}
 use Rattle.sccp_report.specs.Values.{numbered}
 
 -- The place of a fault: the top, a node, a row of a node, or a cover, counted from 0, and the key.
@@ -31,19 +33,19 @@ rule_words (rules.StripTooLong row) = numbered (codes "strip too long ") row
 rule_words (rules.KindTwo row) = numbered (codes "kind two ") row
 rule_words rules.OutOfMemory = []
 
--- why a text is no plan. Want of memory is no fault of it, and has no words.
-abbrev pub plan_fault_words : PlanFault → List ℕ
-plan_fault_words faults.NotToml = codes "not toml"
-plan_fault_words (faults.WrongShape place) = codes "wrong shape " ++ place_text place
-plan_fault_words (faults.BadValue place) = codes "bad value " ++ place_text place
-plan_fault_words (faults.Repeated place) = codes "repeated " ++ place_text place
-plan_fault_words (faults.UnknownNode place) = codes "unknown node " ++ place_text place
-plan_fault_words (faults.RelayToSelf place) = codes "relay to self " ++ place_text place
-plan_fault_words (faults.Rule node fault) = numbered (codes "rule node ") node ++ codes " " ++ rule_words fault
-plan_fault_words faults.NoCover = codes "no cover"
-plan_fault_words (faults.Limit counted) = codes "limit " ++ counted_words counted
-plan_fault_words (faults.BadCover place) = codes "bad cover " ++ place_text place
-plan_fault_words faults.OutOfMemory = []
+-- why a text is no plan under limits. Want of memory is no fault of it, and has no words.
+abbrev pub plan_fault_words : Limits → PlanFault → List ℕ
+plan_fault_words limits faults.NotToml = codes "not toml"
+plan_fault_words limits (faults.WrongShape place) = codes "wrong shape " ++ place_text place
+plan_fault_words limits (faults.BadValue place) = codes "bad value " ++ place_text place
+plan_fault_words limits (faults.Repeated place) = codes "repeated " ++ place_text place
+plan_fault_words limits (faults.UnknownNode place) = codes "unknown node " ++ place_text place
+plan_fault_words limits (faults.RelayToSelf place) = codes "relay to self " ++ place_text place
+plan_fault_words limits (faults.Rule node fault) = numbered (codes "rule node ") node ++ codes " " ++ rule_words fault
+plan_fault_words limits faults.NoCover = codes "no cover"
+plan_fault_words limits (faults.Limit counted) = codes "limit " ++ counted_words counted ++ beyond_count limits counted
+plan_fault_words limits (faults.BadCover place) = codes "bad cover " ++ place_text place
+plan_fault_words limits faults.OutOfMemory = []
 
-unfoldable pub plan_fault_text : PlanFault → List ℕ
-plan_fault_text fault = plan_fault_words fault ++ codes "\n"
+unfoldable pub plan_fault_text : Limits → PlanFault → List ℕ
+plan_fault_text limits fault = plan_fault_words limits fault ++ codes "\n"

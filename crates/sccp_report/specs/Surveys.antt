@@ -14,7 +14,7 @@ use Rattle.plan_unused.specs.declared.survey.TargetPlace.{TargetPlace}
 use Rattle.plan_unused.specs.declared.survey.Unused.{Unused}
 use Rattle.sccp_report.specs.Hops.{node_text, spot_text, step_text}
 use Rattle.sccp_report.specs.Values.{or_dash, numbered, digits_text, selector_text}
-use Rattle.sccp_report.specs.Verdicts.{too_wide_line}
+use Rattle.sccp_report.specs.Limits.{too_wide_line}
 
 -- a row: its selector, its subsystem number and its prefix
 unfoldable pub row_text : Rule → List ℕ
@@ -84,7 +84,7 @@ unused_text plan found =
 
 abbrev pub survey_text : Network → Survey → List ℕ
 survey_text plan (UnusedParts found) = unused_text plan found
-survey_text plan TooWide = too_wide_line
+survey_text plan TooWide = too_wide_line plan.limits
 
 -- each title that a survey shows is at a node of the plan
 abbrev pub HasGapsIn : Network → Survey → Type 0

@@ -10,6 +10,7 @@ use Rattle.plan_model.specs.Routes.{route}
 use Rattle.plan_verify.specs.declared.verdict.Verdict.{Verdict}
 use Rattle.plan_verify.specs.declared.verdict.Verdict.TheVariants.{Accepted, Refused, TooWide}
 use Rattle.sccp_report.specs.Hops.{destination_text, hops_text, IsHopIn}
+use Rattle.sccp_report.specs.Limits.{too_wide_line}
 use Rattle.sccp_report.specs.Values.{numbered}
 
 -- why a route is bad
@@ -30,9 +31,6 @@ refused_line cover kind steady = codes "refused " ++ kind_words kind ++ numbered
 unfoldable pub accepted_line : ℕ → List ℕ
 accepted_line bound = numbered (codes "accepted bound ") bound ++ codes "\n"
 
-unfoldable pub too_wide_line : List ℕ
-too_wide_line = codes "too wide\n"
-
 -- a plan is refused by a bad route, which is shown
 abbrev pub refused_lines : Network → ℕ → Kind → Bool → List Hop → List (List Mark) → List ℕ
 refused_lines plan cover kind steady hops markings = refused_line cover kind steady ++ hops_text plan hops markings
@@ -45,7 +43,7 @@ accepted_lines plan bound hops markings = accepted_line bound ++ hops_text plan 
 abbrev pub verdict_text : Network → Verdict → List ℕ
 verdict_text plan (Accepted a) = accepted_lines plan a.bound (route plan a.longest.spot a.longest.markings) a.longest.markings
 verdict_text plan (Refused same w) = refused_lines plan w.cover w.kind w.steady w.hops w.markings
-verdict_text plan (TooWide same) = too_wide_line
+verdict_text plan (TooWide same) = too_wide_line plan.limits
 
 -- the hops that a verdict shows are in the plan, and each has a marking
 abbrev pub HasHopsIn : Network → Verdict → Type 0

@@ -9,10 +9,11 @@ ghost use Rattle.sccp_report.specs.Changes.{which_words, mixed_hop_line, mixed_h
 ghost use Rattle.sccp_report.specs.Changes.{broken_line, wide_change_line, longest_hops_text, change_text, IsMixedHopIn};
 
 use crate::hop::put_hop;
+use crate::limits::put_too_wide;
 use crate::text::Text;
-use crate::verdict::{put_accepted, put_kind, put_too_wide};
+use crate::verdict::{put_accepted, put_kind};
 use plan_change::{Change, MixedHop, Turn, Which, mixed_hops};
-use plan_model::{Kind, Plan, Spot};
+use plan_model::{Kind, Limits, Plan, Spot};
 use sccp_base::{Marking, Octets, OutOfMemory};
 use std::alloc::Global;
 
@@ -103,11 +104,11 @@ fn put_broken(
 
 /// Appends the line of two plans that reach too many classes together.
 #[tactic(auto, unfolding(crate::specs::Changes::wide_change_line))]
-fn put_wide(text: &mut Text) -> Result<(), OutOfMemory>
-    ensures { OnOk result (text.new ≡ text.old ++ wide_change_line) }
+fn put_wide(text: &mut Text, limits: Limits) -> Result<(), OutOfMemory>
+    ensures { OnOk result (text.new ≡ text.old ++ wide_change_line limits) }
 {
     text.put(b"change ")?;
-    put_too_wide(text)
+    put_too_wide(text, limits)
 }
 
 /// Appends the mixed route of a title that both plans cover.
@@ -182,7 +183,7 @@ pub fn change_text(
             put_broken(&mut text, *old_cover, *new_cover, *kind)?;
             put_mixed_hops(&mut text, old, hops.as_slice(), turns.as_slice())?;
         }
-        Change::TooWide => put_wide(&mut text)?,
+        Change::TooWide => put_wide(&mut text, old.limits())?,
     }
     Ok(text.into_octets())
 }

@@ -5,8 +5,9 @@ ghost use Rattle.sccp_report.specs.Hops.{IsHopIn, hops_text};
 ghost use Rattle.sccp_report.specs.Verdicts.{HasHopsIn};
 
 use crate::hop::put_hops;
+use crate::limits::put_too_wide;
 use crate::text::Text;
-use crate::verdict::{put_accepted, put_kind, put_steady, put_too_wide};
+use crate::verdict::{put_accepted, put_kind, put_steady};
 use plan_model::{Kind, Plan};
 use plan_verify::{Verdict, Witness};
 use sccp_base::{Octets, OutOfMemory};
@@ -62,7 +63,7 @@ pub fn cover_text(
     match verdict {
         Verdict::Accepted(accepted) => put_accepted(&mut text, accepted.bound())?,
         Verdict::Refused(_, witness) => put_bad_route(&mut text, plan, witness)?,
-        Verdict::TooWide(_) => put_too_wide(&mut text)?,
+        Verdict::TooWide(_) => put_too_wide(&mut text, plan.limits())?,
     }
     Ok(text.into_octets())
 }

@@ -2,8 +2,9 @@
 ghost use Rattle.std.specs.Prelude.{◌≡◌, ◌++◌, OnOk, IfOk};
 ghost use Rattle.sccp_report.specs.PlanFaults.{place_text, counted_words, rule_words, plan_fault_words, plan_fault_text};
 
+use crate::limits::put_beyond_count;
 use crate::text::Text;
-use plan_model::{Counted, Place, PlanFault};
+use plan_model::{Counted, Limits, Place, PlanFault};
 use plan_rules::RuleFault;
 use sccp_base::{Octets, OutOfMemory};
 use std::alloc::Global;
@@ -66,8 +67,8 @@ fn put_placed(text: &mut Text, words: &[u8], place: &Place) -> Result<(), OutOfM
     put_place(text, place)
 }
 
-fn put_plan_fault(text: &mut Text, fault: &PlanFault) -> Result<(), OutOfMemory>
-    ensures { OnOk result (text.new ≡ text.old ++ plan_fault_words fault.now) }
+fn put_plan_fault(text: &mut Text, limits: Limits, fault: &PlanFault) -> Result<(), OutOfMemory>
+    ensures { OnOk result (text.new ≡ text.old ++ plan_fault_words limits fault.now) }
 {
     match fault {
         PlanFault::NotToml => text.put(b"not toml"),
@@ -84,20 +85,26 @@ fn put_plan_fault(text: &mut Text, fault: &PlanFault) -> Result<(), OutOfMemory>
         PlanFault::NoCover => text.put(b"no cover"),
         PlanFault::Limit(counted) => {
             text.put(b"limit ")?;
-            put_counted_words(text, counted)
+            put_counted_words(text, counted)?;
+            put_beyond_count(text, limits, counted)
         }
         PlanFault::BadCover(place) => put_placed(text, b"bad cover ", place),
         PlanFault::OutOfMemory => Ok(()),
     }
 }
 
-/// Why a text is no plan, with a line feed at the end: the fault, and its place.
+/// Why a text is no plan under limits, with a line feed at the end: the fault, and its place. A limit that was passed is named if
+/// it is not the standard one.
 #[tactic(auto, unfolding(crate::specs::PlanFaults::plan_fault_text))]
-pub fn plan_fault_text(alloc: Global, fault: &PlanFault) -> Result<Octets, OutOfMemory>
-    ensures { IfOk result (λ text. text ≡ plan_fault_text fault.now) }
+pub fn plan_fault_text(
+    alloc: Global,
+    limits: Limits,
+    fault: &PlanFault,
+) -> Result<Octets, OutOfMemory>
+    ensures { IfOk result (λ text. text ≡ plan_fault_text limits fault.now) }
 {
     let mut text = Text::new(alloc);
-    put_plan_fault(&mut text, fault)?;
+    put_plan_fault(&mut text, limits, fault)?;
     text.put(b"\n")?;
     Ok(text.into_octets())
 }

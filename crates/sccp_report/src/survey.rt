@@ -9,10 +9,10 @@ ghost use Rattle.sccp_report.specs.Surveys.{unused_target_line, needless_line, g
 ghost use Rattle.sccp_report.specs.Surveys.{unused_text, survey_text, HasGapsIn};
 
 use crate::hop::{put_spot, put_step};
+use crate::limits::put_too_wide;
 use crate::node::put_node;
 use crate::text::Text;
 use crate::values::{put_digits, put_number_or_dash, put_selector};
-use crate::verdict::put_too_wide;
 use plan_model::{Plan, Spot, step};
 use plan_rules::Row;
 use plan_unused::{Gap, Needless, RowPlace, Survey, TargetPlace, Unused};
@@ -244,7 +244,7 @@ pub fn survey_text(alloc: Global, plan: &Plan, survey: &Survey) -> Result<Octets
     let mut text = Text::new(alloc);
     match survey {
         Survey::Unused(found) => put_unused(alloc, &mut text, plan, found)?,
-        Survey::TooWide => put_too_wide(&mut text)?,
+        Survey::TooWide => put_too_wide(&mut text, plan.limits())?,
     }
     Ok(text.into_octets())
 }

@@ -3,10 +3,11 @@ ghost use Rattle.std.specs.Prelude.{◌≡◌, ◌≤◌, ◌++◌, length, All,
 ghost use Rattle.plan_verify.specs.Lawful.{plan_of};
 ghost use Rattle.plan_model.specs.Routes.{route};
 ghost use Rattle.sccp_report.specs.Hops.{IsHopIn};
-ghost use Rattle.sccp_report.specs.Verdicts.{kind_words, steady_words, refused_line, accepted_line, too_wide_line, refused_lines};
+ghost use Rattle.sccp_report.specs.Verdicts.{kind_words, steady_words, refused_line, accepted_line, refused_lines};
 ghost use Rattle.sccp_report.specs.Verdicts.{accepted_lines, verdict_text, HasHopsIn};
 
 use crate::hop::put_hops;
+use crate::limits::put_too_wide;
 use crate::mark::put_destination;
 use crate::text::Text;
 use plan_check::Accepted;
@@ -62,14 +63,6 @@ pub fn put_accepted(text: &mut Text, bound: u8) -> Result<(), OutOfMemory>
 {
     text.put_numbered(b"accepted bound ", u32::from(bound))?;
     text.put(b"\n")
-}
-
-/// Appends the line of a plan that reaches more classes than a search may have.
-#[tactic(auto, unfolding(crate::specs::Verdicts::too_wide_line))]
-pub fn put_too_wide(text: &mut Text) -> Result<(), OutOfMemory>
-    ensures { OnOk result (text.new ≡ text.old ++ too_wide_line) }
-{
-    text.put(b"too wide\n")
 }
 
 /// Appends that a plan is accepted, and its longest route.
@@ -128,7 +121,7 @@ pub fn verdict_text(alloc: Global, plan: &Plan, verdict: &Verdict) -> Result<Oct
     match verdict {
         Verdict::Accepted(accepted) => put_longest(alloc, &mut text, plan, accepted)?,
         Verdict::Refused(_, witness) => put_witness(&mut text, plan, witness)?,
-        Verdict::TooWide(_) => put_too_wide(&mut text)?,
+        Verdict::TooWide(_) => put_too_wide(&mut text, plan.limits())?,
     }
     Ok(text.into_octets())
 }

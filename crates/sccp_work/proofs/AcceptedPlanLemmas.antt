@@ -3,8 +3,9 @@ use Rattle.std.proofs.Common.{◌≡◌, ◌⊎◌, ◌≤◌, ℕ, List, ◌++�
 use Rattle.std.specs.Prelude.{is_err}
 use Rattle.plan_check.specs.Verified.{Verified}
 use Rattle.plan_model.specs.Network.{Network}
+use Rattle.plan_model.specs.declared.limits.Limits.{Limits}
 use Rattle.plan_model.specs.declared.plan_fault.PlanFault.{PlanFault}
-use Rattle.plan_text.specs.PlanText.{plan_of}
+use Rattle.plan_text.specs.PlanText.{plan_within}
 use Rattle.plan_verify.specs.Lawful.{IsLawful}
 use Rattle.plan_verify.specs.declared.verdict.Verdict.{Verdict}
 use Rattle.plan_verify.specs.declared.verdict.Verdict.TheVariants as verdicts
@@ -15,6 +16,7 @@ use Rattle.sccp_work.specs.Accepting.{accepted_on, GivesAccepted}
 use Rattle.sccp_work.specs.Ending.{Works, early}
 use Rattle.sccp_work.specs.Limit.{IsThere}
 use Rattle.sccp_work.specs.Moment.{Moment}
+use Rattle.sccp_work.specs.PlanFile.{PlanFile}
 use Rattle.sccp_work.specs.Plans.{bad_plan, HasPlan}
 use Rattle.sccp_work.specs.Verdict.{IsSafe, IsBad, IsWide, IsOnVerdict}
 use Rattle.sccp_work.specs.Work.{Work, print, answered, Ends, HasFiles}
@@ -24,7 +26,7 @@ use Rattle.sccp_work.specs.declared.status.Status.TheVariants.{Refused, BadPlan,
 use Rattle.sccp_work.specs.declared.stop.Stop.{Stop}
 use Rattle.sccp_work.proofs.AcceptingLemmas.{Ends-answered, accepted_files}
 use Rattle.sccp_work.proofs.LimitLemmas.{FileEnds, Ends-within_limit, limit_files}
-use Rattle.sccp_work.proofs.LimitLemmas as file
+use Rattle.sccp_work.proofs.LimitLemmas as lengths
 use Rattle.sccp_work.proofs.PlanLemmas.{PlanEnds, long, bad, good}
 use Rattle.sccp_work.proofs.VerdictLemmas.{safe_or_bad}
 use Rattle.sccp_work.proofs.WorkLemmas.{Kept, Printed, Works-answered, Works-early, printed}
@@ -39,38 +41,38 @@ Goes-on whole left (Ok done) m o = (result : Result Status Stop) (a : Moment) �
 Goes-on whole left (Err stop) m o = Works whole (Err stop) m o
 
 -- a plan is accepted, and its line was printed or could not be written whole
-pub Works-accepted : (word : List ℕ) (next : Network → Work) (octets : List ℕ) (plan : Network) (accepted : Verified)
-    (put : Result (Unit {0}) Stop) (m n o : Moment) → plan_of octets ≡ Ok plan → GivesAccepted word plan (Ok accepted) m n
+pub Works-accepted : (word : List ℕ) (limits : Limits) (next : Network → Work) (octets : List ℕ) (plan : Network) (accepted : Verified)
+    (put : Result (Unit {0}) Stop) (m n o : Moment) → plan_within limits octets ≡ Ok plan → GivesAccepted word plan (Ok accepted) m n
     → Writes (word ++ accepted_line accepted.bound) put n.taken o.taken n.write_faults o.write_faults → Kept n o
-    → Goes-on (read_on_plan word next (plan_of octets)) (next plan) put m o
-Works-accepted word next octets plan accepted put m n o reads gives writes kept = by put (printed (word ++ accepted_line accepted.bound)
+    → Goes-on (read_on_plan word limits next (plan_within limits octets)) (next plan) put m o
+Works-accepted word limits next octets plan accepted put m n o reads gives writes kept = by put (printed (word ++ accepted_line accepted.bound)
     (next plan) put n o writes kept)
   where
     on : (result : Result Status Stop) (a : Moment) → Works (told_first word next plan accepted) result n a
-        → Works (read_on_plan word next (plan_of octets)) result m a
-    on result a w = subst (λ r. Works (read_on_plan word next r) result m a) (sym reads) (gives (told_first word next plan) result a w)
+        → Works (read_on_plan word limits next (plan_within limits octets)) result m a
+    on result a w = subst (λ r. Works (read_on_plan word limits next r) result m a) (sym reads) (gives (told_first word next plan) result a w)
 
     by : (r : Result (Unit {0}) Stop) → Printed (word ++ accepted_line accepted.bound) (next plan) r n o
-        → Goes-on (read_on_plan word next (plan_of octets)) (next plan) r m o
+        → Goes-on (read_on_plan word limits next (plan_within limits octets)) (next plan) r m o
     by (Ok done) go = λ result a w. on result a (go result a w)
     by (Err stop) w = on (Err stop) o w
 
 -- it is not accepted, or memory was wanting
-pub Works-unaccepted : (word : List ℕ) (next : Network → Work) (octets : List ℕ) (plan : Network) (stop : Stop) (m a : Moment)
-    → plan_of octets ≡ Ok plan → GivesAccepted word plan (Err stop) m a → Works (read_on_plan word next (plan_of octets)) (Err stop) m a
-Works-unaccepted word next octets plan stop m a reads gives =
-    subst (λ r. Works (read_on_plan word next r) (Err stop) m a) (sym reads) (gives (told_first word next plan))
+pub Works-unaccepted : (word : List ℕ) (limits : Limits) (next : Network → Work) (octets : List ℕ) (plan : Network) (stop : Stop) (m a : Moment)
+    → plan_within limits octets ≡ Ok plan → GivesAccepted word plan (Err stop) m a → Works (read_on_plan word limits next (plan_within limits octets)) (Err stop) m a
+Works-unaccepted word limits next octets plan stop m a reads gives =
+    subst (λ r. Works (read_on_plan word limits next r) (Err stop) m a) (sym reads) (gives (told_first word next plan))
 
 -- the text is no plan
-pub Works-unread : (word : List ℕ) (next : Network → Work) (octets : List ℕ) (fault : PlanFault) (line : List ℕ)
-    (result : Result Status Stop) (m a : Moment) → plan_of octets ≡ Err fault → line ≡ word ++ bad_plan fault
+pub Works-unread : (word : List ℕ) (limits : Limits) (next : Network → Work) (octets : List ℕ) (fault : PlanFault) (line : List ℕ)
+    (result : Result Status Stop) (m a : Moment) → plan_within limits octets ≡ Err fault → line ≡ word ++ bad_plan limits fault
     → Writes line result m.taken a.taken m.write_faults a.write_faults → IfOk result (λ s. s ≡ BadPlan) → a.contents ≡ m.contents
-    → a.sound ≡ m.sound → a.read_faults ≡ m.read_faults → Works (read_on_plan word next (plan_of octets)) (Err (early result)) m a
-Works-unread word next octets fault line result m a is spelt writes answer contents sound read_faults =
+    → a.sound ≡ m.sound → a.read_faults ≡ m.read_faults → Works (read_on_plan word limits next (plan_within limits octets)) (Err (early result)) m a
+Works-unread word limits next octets fault line result m a is spelt writes answer contents sound read_faults =
     let whole = subst (λ t. Writes t result m.taken a.taken m.write_faults a.write_faults) spelt writes in
-    subst (λ r. Works (read_on_plan word next r) (Err (early result)) m a) (sym is)
-    (Works-early (answered (BadPlan, word ++ bad_plan fault)) result m a
-    (Works-answered (BadPlan, word ++ bad_plan fault) result m a (λ cut. cut) whole answer contents sound read_faults))
+    subst (λ r. Works (read_on_plan word limits next r) (Err (early result)) m a) (sym is)
+    (Works-early (answered (BadPlan, word ++ bad_plan limits fault)) result m a
+    (Works-answered (BadPlan, word ++ bad_plan limits fault) result m a (λ cut. cut) whole answer contents sound read_faults))
 
 -- ---- how the command ends
 
@@ -93,34 +95,34 @@ module _ (word : List ℕ) (plan : Network) (on : Status → List ℕ → Type 0
       let t = Ends-answered contents TooWide (word ++ verdict_text plan (verdicts.TooWide same)) s text h in is_wide same lawful t.0 t.1
 
 -- the text on the plan of a file, if it is one
-abbrev pub FileTells : Option Contents → List ℕ → List ℕ → (Network → Status → List ℕ → Type 0) → List ℕ → Status → Type 0
-FileTells contents name word on text s = PlanEnds contents name (λ plan t. TellsPlan word plan (on plan) t text) s
+abbrev pub FileTells : Option Contents → PlanFile → List ℕ → (Network → Status → List ℕ → Type 0) → List ℕ → Status → Type 0
+FileTells contents file word on text s = PlanEnds contents file (λ plan t. TellsPlan word plan (on plan) t text) s
 
-from_text : (contents : Option Contents) (name word : List ℕ) (next : Network → Work) (on : Network → Status → List ℕ
+from_text : (contents : Option Contents) (file : PlanFile) (word : List ℕ) (next : Network → Work) (on : Network → Status → List ℕ
     → Type 0) (octets : List ℕ) (s : Status) (text : List ℕ) (r : Result Network PlanFault)
-    → ((plan : Network) (rest : List ℕ) → Ends contents (next plan) s rest → on plan s rest) → plan_of octets ≡ r
-    → Reads contents name octets → length octets ≤ 1048576 → Ends contents (read_on_plan word next r) s text
-    → FileTells contents name word on text s
-from_text contents name word next on octets s text (Ok plan) goes is reads few h =
+    → ((plan : Network) (rest : List ℕ) → Ends contents (next plan) s rest → on plan s rest) → plan_within file.limits octets ≡ r
+    → Reads contents file.name octets → length octets ≤ file.limits.octets → Ends contents (read_on_plan word file.limits next r) s text
+    → FileTells contents file word on text s
+from_text contents file word next on octets s text (Ok plan) goes is reads few h =
     good (octets, reads, few, (plan, is, from_verdict word plan (on plan) s text contents next h.0 h.1.1 (goes plan) h.2))
-from_text contents name word next on octets s text (Err fault) goes is reads few h = subst (FileTells contents name word on text)
+from_text contents file word next on octets s text (Err fault) goes is reads few h = subst (FileTells contents file word on text)
     (sym h.2.0) (bad (octets, reads, few, ap is_err is))
 
-from_file : (contents : Option Contents) (name word : List ℕ) (next : Network → Work) (on : Network → Status → List ℕ
+from_file : (contents : Option Contents) (file : PlanFile) (word : List ℕ) (next : Network → Work) (on : Network → Status → List ℕ
     → Type 0) (s : Status) (text : List ℕ) → ((plan : Network) (rest : List ℕ) → Ends contents (next plan) s rest → on plan s rest)
-    → FileEnds contents name (λ octets t. Ends contents (read_on_plan word next (plan_of octets)) t text) s
-    → FileTells contents name word on text s
-from_file contents name word next on TooLong text goes (file.long h) = long h
-from_file contents name word next on s text goes (file.within h) = from_text contents name word next on h.0 s text
-    (plan_of h.0) goes refl h.1 h.2 h.3
+    → FileEnds contents file (λ octets t. Ends contents (read_on_plan word file.limits next (plan_within file.limits octets)) t text) s
+    → FileTells contents file word on text s
+from_file contents file word next on TooLong text goes (lengths.long h) = long h
+from_file contents file word next on s text goes (lengths.within h) = from_text contents file word next on h.0 s text
+    (plan_within file.limits h.0) goes refl h.1 h.2 h.3
 
-pub Ends-with_accepted : (contents : Option Contents) (name word : List ℕ) (next : Network → Work) (on : Network → Status → List ℕ
+pub Ends-with_accepted : (contents : Option Contents) (file : PlanFile) (word : List ℕ) (next : Network → Work) (on : Network → Status → List ℕ
     → Type 0) (s : Status) (text : List ℕ) → ((plan : Network) (rest : List ℕ) → Ends contents (next plan) s rest → on plan s rest)
-    → Ends contents (with_accepted word name next) s text → FileTells contents name word on text s
-Ends-with_accepted contents name word next on s text goes h =
-    from_file contents name word next on s text goes
-    (Ends-within_limit (λ octets t. Ends contents (read_on_plan word next (plan_of octets)) t text) contents name
-    (λ octets. read_on_plan word next (plan_of octets)) s text (λ octets e. e) h)
+    → Ends contents (with_accepted word file next) s text → FileTells contents file word on text s
+Ends-with_accepted contents file word next on s text goes h =
+    from_file contents file word next on s text goes
+    (Ends-within_limit (λ octets t. Ends contents (read_on_plan word file.limits next (plan_within file.limits octets)) t text) contents file
+    (λ octets. read_on_plan word file.limits next (plan_within file.limits octets)) s text (λ octets e. e) h)
 
 -- the text left out
 verdict_of : (word : List ℕ) (plan : Network) (next : Status → List ℕ → Type 0) (on : Status → Type 0) (s : Status) (text : List ℕ)
@@ -129,12 +131,12 @@ verdict_of word plan next on s text goes (is_refused same w lawful is spelt) = s
 verdict_of word plan next on s text goes (is_wide same lawful is spelt) = subst (VerdictEnds plan on) (sym is) (wide lawful)
 verdict_of word plan next on s text goes (is_accepted a rest lawful spelt more) = accepted (a.bound, lawful.0) (goes rest more)
 
-pub file_of : (contents : Option Contents) (name word : List ℕ) (next : Network → Status → List ℕ → Type 0) (on : Network → Status
+pub file_of : (contents : Option Contents) (file : PlanFile) (word : List ℕ) (next : Network → Status → List ℕ → Type 0) (on : Network → Status
     → Type 0) (text : List ℕ) (s : Status) → ((plan : Network) (rest : List ℕ) → next plan s rest → on plan s)
-    → FileTells contents name word next text s → PlanEnds contents name (λ plan t. VerdictEnds plan (on plan) t) s
-file_of contents name word next on text TooLong goes (long h) = long h
-file_of contents name word next on text BadPlan goes (bad h) = bad h
-file_of contents name word next on text s goes (good h) =
+    → FileTells contents file word next text s → PlanEnds contents file (λ plan t. VerdictEnds plan (on plan) t) s
+file_of contents file word next on text TooLong goes (long h) = long h
+file_of contents file word next on text BadPlan goes (bad h) = bad h
+file_of contents file word next on text s goes (good h) =
     good (h.0, h.1, h.2, (h.3.0, h.3.1, verdict_of word h.3.0 (next h.3.0) (on h.3.0) s text (goes h.3.0) h.3.2))
 
 -- ---- what each answer follows from
@@ -159,23 +161,23 @@ refused_or_wide plan on s is (accepted safe k) = absurd (safe_or_bad plan safe i
 
 -- ---- the files of the command
 
-pub with_accepted_files : (c : Contents) (word name : List ℕ) (next : Network → Work) → ((plan : Network) → HasFiles c (next plan))
-    → IsThere c name → HasFiles c (with_accepted word name next)
-with_accepted_files c word name next go there = limit_files c name (λ octets. read_on_plan word next (plan_of octets))
-    (λ octets. by (plan_of octets)) there
+pub with_accepted_files : (c : Contents) (word : List ℕ) (file : PlanFile) (next : Network → Work) → ((plan : Network) → HasFiles c (next plan))
+    → IsThere c file.name → HasFiles c (with_accepted word file next)
+with_accepted_files c word file next go there = limit_files c file (λ octets. read_on_plan word file.limits next (plan_within file.limits octets))
+    (λ octets. by (plan_within file.limits octets)) there
   where
-    by : (r : Result Network PlanFault) → HasFiles c (read_on_plan word next r)
+    by : (r : Result Network PlanFault) → HasFiles c (read_on_plan word file.limits next r)
     by (Ok plan) = accepted_files c word plan (told_first word next plan) (λ accepted. go plan)
     by (Err fault) = tt
 
 -- ---- the text
 
 -- an answer on a verdict is none of a file
-pub on_file : (contents : Option Contents) (name : List ℕ) (P : Network → Status → Type 0) (s : Status) → IsOnVerdict s
-    → PlanEnds contents name P s → HasPlan contents name (λ plan. P plan s)
-on_file contents name P TooLong given (long h) = absurd given
-on_file contents name P BadPlan given (bad h) = absurd given
-on_file contents name P s given (good h) = h
+pub on_file : (contents : Option Contents) (file : PlanFile) (P : Network → Status → Type 0) (s : Status) → IsOnVerdict s
+    → PlanEnds contents file P s → HasPlan contents file (λ plan. P plan s)
+on_file contents file P TooLong given (long h) = absurd given
+on_file contents file P BadPlan given (bad h) = absurd given
+on_file contents file P s given (good h) = h
 
 pub tells_plan : (word : List ℕ) (plan : Network) (P Q : Status → List ℕ → Type 0) (s : Status) (text : List ℕ)
     → ((rest : List ℕ) → P s rest → Q s rest) → TellsPlan word plan P s text → TellsPlan word plan Q s text

@@ -7,6 +7,7 @@ pub mod LineFault
 pub mod Moment
 pub mod Numbers
 pub mod Opened
+pub mod PlanFile
 pub mod Plans
 pub mod Questions
 pub mod Reading

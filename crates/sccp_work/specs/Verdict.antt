@@ -2,7 +2,6 @@
 use Rattle.std.specs.Prelude.{◌≡◌, ℕ, List, Option}
 use Rattle.std.specs.Io.KnownBytes.{append_known}
 use Rattle.plan_classes.specs.Classes.{ReachesAtLeast}
-use Rattle.plan_model.specs.Limits.{most_classes}
 use Rattle.plan_model.specs.Network.{Network}
 use Rattle.plan_verify.specs.Lawful.{IsLawful, IsSafeFor}
 use Rattle.plan_verify.specs.Witnesses.{IsWitness}
@@ -26,9 +25,9 @@ IsSafe plan = (bound : ℕ) × IsSafeFor plan bound
 abbrev pub IsBad : Network → Type 0
 IsBad plan = (witness : Witness) × IsWitness plan witness
 
--- it reaches the most classes that a search goes over, or more
+-- it reaches the most classes that its limits allow, or more
 abbrev pub IsWide : Network → Type 0
-IsWide plan = ReachesAtLeast plan most_classes
+IsWide plan = ReachesAtLeast plan plan.limits.classes
 
 -- an answer that a verdict gives
 abbrev pub IsOnVerdict : Status → Type 0

@@ -10,12 +10,13 @@ ghost use Rattle.sccp_work.specs.Writing.{Writes};
 use crate::accepting::if_accepted;
 use crate::limit::within_limit;
 use crate::opened::Opened;
+use crate::plan_path::PlanPath;
 use crate::plans::bad_plan;
 use crate::status::Status;
 use crate::stop::{Stop, early};
 use crate::writing::{after_word, print_last, put_all};
 use plan_check::Accepted;
-use plan_model::PlanFault;
+use plan_model::{Limits, PlanFault};
 use sccp_base::{Octets, OutOfMemory};
 use sccp_io::{Files, Sink};
 use sccp_report::accepted_text;
@@ -26,16 +27,16 @@ use std::alloc::Global;
 pub fn with_accepted<F: Files, K: Sink>(
     alloc: Global,
     word: &[u8],
-    name: &str,
+    file: &PlanPath<'_>,
     files: &mut F,
     out: &mut K,
 ) -> Result<Accepted, Stop>
-    ensures { GivesAcceptedOf word.now name.now result
+    ensures { GivesAcceptedOf word.now file.now result
         (moment F.contents F.sound F.faults K.taken K.faults files.old out.old)
         (moment F.contents F.sound F.faults K.taken K.faults files.new out.new) }
 {
-    let text = within_limit(alloc, Opened::First, name, files, out)?;
-    match plan_text::read(alloc, &text) {
+    let text = within_limit(alloc, Opened::First, file, files, out)?;
+    match plan_text::read_within(alloc, file.limits(), &text) {
         Ok(plan) => {
             let accepted = if_accepted(alloc, word, plan, out)?;
             match put_accepted(alloc, word, &accepted, out) {
@@ -47,7 +48,7 @@ pub fn with_accepted<F: Files, K: Sink>(
             }
         }
         Err(fault) => {
-            let line = bad_plan_after(alloc, word, &fault)?;
+            let line = bad_plan_after(alloc, word, file.limits(), &fault)?;
             Err(early(print_last(out, line.as_slice(), Status::BadPlan)))
         }
     }
@@ -69,10 +70,15 @@ fn put_accepted<K: Sink>(
 }
 
 /// The line on a text that is no plan, after a word. Want of memory has no line.
-fn bad_plan_after(alloc: Global, word: &[u8], fault: &PlanFault) -> Result<Octets, OutOfMemory>
-    ensures line { IfOk result (λ line. line ≡ word.now ++ bad_plan fault.now) }
+fn bad_plan_after(
+    alloc: Global,
+    word: &[u8],
+    limits: Limits,
+    fault: &PlanFault,
+) -> Result<Octets, OutOfMemory>
+    ensures line { IfOk result (λ line. line ≡ word.now ++ bad_plan limits fault.now) }
     ensures told { OnOk result (is_memory fault.now ≡ false) }
 {
-    let text = bad_plan(alloc, fault)?;
+    let text = bad_plan(alloc, limits, fault)?;
     after_word(alloc, word, text.as_slice())
 }

@@ -5,34 +5,35 @@ ghost use Rattle.sccp_work.specs.Moment.{moment};
 ghost use Rattle.sccp_work.specs.Opened.{other};
 
 use crate::opened::Opened;
+use crate::plan_path::PlanPath;
 use crate::reading::read_whole;
 use crate::status::Status;
 use crate::stop::{Stop, early};
 use crate::writing::print_last;
 use sccp_io::{Files, Sink};
+use sccp_report::too_long_text;
 use std::alloc::Global;
 
-const TOO_LONG: &[u8] = b"too long\n";
-
-/// How many octets a file may have that a command needs whole.
-const LONGEST_FILE: usize = 1_048_576;
-
-/// Reads a whole file. For one that is too long a line is printed, and that is the answer of the command.
+/// Reads a whole file. For one that has more octets than its limits allow a line is printed, and that is the answer of the
+/// command.
 pub fn within_limit<F: Files, K: Sink>(
     alloc: Global,
     which: Opened,
-    name: &str,
+    file: &PlanPath<'_>,
     files: &mut F,
     out: &mut K,
 ) -> Result<Vec<u8>, Stop>
-    ensures whole { GivesWhole name.now result
+    ensures whole { GivesWhole file.now result
         (moment F.contents F.sound F.faults K.taken K.faults files.old out.old)
         (moment F.contents F.sound F.faults K.taken K.faults files.new out.new) }
     // What is left of the other file stays.
     ensures other { other which (F.left files.new) (F.left_beside files.new) ≡ other which (F.left files.old) (F.left_beside files.old) }
 {
-    match read_whole(alloc, files, which, name, LONGEST_FILE)? {
+    match read_whole(alloc, files, which, file.name(), file.limits().octets as usize)? {
         Some(octets) => Ok(octets),
-        None => Err(early(print_last(out, TOO_LONG, Status::TooLong))),
+        None => {
+            let line = too_long_text(alloc, file.limits())?;
+            Err(early(print_last(out, line.as_slice(), Status::TooLong)))
+        }
     }
 }

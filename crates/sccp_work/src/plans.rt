@@ -7,10 +7,11 @@ ghost use Rattle.sccp_work.specs.Plans.{bad_plan, GivesPlan};
 
 use crate::limit::within_limit;
 use crate::opened::Opened;
+use crate::plan_path::PlanPath;
 use crate::status::Status;
 use crate::stop::{Stop, early};
 use crate::writing::print_last;
-use plan_model::{Plan, PlanFault};
+use plan_model::{Limits, Plan, PlanFault};
 use sccp_base::{Octets, OutOfMemory};
 use sccp_io::{Files, Sink};
 use sccp_report::plan_fault_text;
@@ -20,36 +21,36 @@ use std::alloc::Global;
 /// command.
 pub fn with_plan<F: Files, K: Sink>(
     alloc: Global,
-    name: &str,
+    file: &PlanPath<'_>,
     files: &mut F,
     out: &mut K,
 ) -> Result<Plan, Stop>
-    ensures plan { GivesPlan name.now result
+    ensures plan { GivesPlan file.now result
         (moment F.contents F.sound F.faults K.taken K.faults files.old out.old)
         (moment F.contents F.sound F.faults K.taken K.faults files.new out.new) }
     ensures sound { IfOk result IsPlan }
 {
-    let text = within_limit(alloc, Opened::First, name, files, out)?;
-    match plan_text::read(alloc, &text) {
+    let text = within_limit(alloc, Opened::First, file, files, out)?;
+    match plan_text::read_within(alloc, file.limits(), &text) {
         Ok(plan) => Ok(plan),
         Err(fault) => {
-            let line = bad_plan(alloc, &fault)?;
+            let line = bad_plan(alloc, file.limits(), &fault)?;
             Err(early(print_last(out, line.as_slice(), Status::BadPlan)))
         }
     }
 }
 
-/// The line on a text that is no plan. Want of memory while it was read says nothing of the text, and has no line.
+/// The line on a text that is no plan under limits. Want of memory while it was read says nothing of the text, and has no line.
 #[tactic(auto, unfolding(crate::specs::Plans::bad_plan))]
-pub fn bad_plan(alloc: Global, fault: &PlanFault) -> Result<Octets, OutOfMemory>
-    ensures line { IfOk result (λ line. line ≡ bad_plan fault.now) }
+pub fn bad_plan(alloc: Global, limits: Limits, fault: &PlanFault) -> Result<Octets, OutOfMemory>
+    ensures line { IfOk result (λ line. line ≡ bad_plan limits fault.now) }
     ensures told { OnOk result (is_memory fault.now ≡ false) }
 {
     if is_memory(fault) {
         return Err(OutOfMemory);
     }
     let mut line = Vec::from_slice(alloc, b"bad plan ")?;
-    line.extend_from_slice(plan_fault_text(alloc, fault)?.as_slice())?;
+    line.extend_from_slice(plan_fault_text(alloc, limits, fault)?.as_slice())?;
     Ok(Octets::from_vec(line))
 }
 

@@ -4,7 +4,7 @@ use Rattle.plan_model.proofs.faults.first_fault.Goals as goal
 
 pub returns-in-None-clause-sound : goal.returns-in-None-clause-sound
 returns-in-None-clause-sound c =
-    faultless_plan c.args.nodes.now c.args.covers.now
+    faultless_plan c.args.limits c.args.nodes.now c.args.covers.now
     (sym c.in_default.ensures.counted) (sym c.in_default-first_repeated.ensures) (sym c.in_default-first_unknown.ensures)
     (sym c.in_default-first_relay_to_self.ensures)
     (some_from_test (length c.args.covers.now) (sym c.if-is_empty.ensures))

@@ -16,7 +16,7 @@ returns-in_err-margin-clause-gives g c =
     (with_sink any g.K.Sink.taken g.K.Sink.faults c.args.out.now))
 
 pub counted-next-requires : goal.counted-next-requires
-counted-next-requires g c = omega (arith, c.requires.counted, c.requires.cover, c.requires.plan.few_covers)
+counted-next-requires g c = omega (arith, c.requires.counted, c.requires.cover, c.requires.plan.cover_places)
 
 pub returns-in-Ok-clause-gives : goal.returns-in-Ok-clause-gives
 returns-in-Ok-clause-gives g c = λ any.

@@ -15,7 +15,7 @@ returns c =
 pub sections_in-requires-clause-few : goal.sections_in-requires-clause-few
 sections_in-requires-clause-few c =
     let a = c.self.invariant.count in
-    let b = c.self.invariant.is_plan.few_nodes in
+    let b = c.self.invariant.is_plan.node_places in
     let d = ap length c.as_slice.ensures.value in
     omega (arith, a, b, d)
 
