@@ -53,7 +53,11 @@ impl Plan {
     }
 
     /// A plan of these nodes and covers under limits, or the first test that they fail, as for `build`.
-    pub fn build_within(limits: Limits, nodes: List<Node>, covers: List<Cover>) -> Result<Plan, PlanFault>
+    pub fn build_within(
+        limits: Limits,
+        nodes: List<Node>,
+        covers: List<Cover>,
+    ) -> Result<Plan, PlanFault>
         requires nodes { All IsNode nodes }
         requires covers { All HasFewDigits covers }
         ensures plan { IfOk result (λ plan. plan ≡ network_within limits nodes covers) }
@@ -63,19 +67,32 @@ impl Plan {
     {
         match first_fault(limits, nodes.as_slice(), covers.as_slice()) {
             Some(fault) => Err(fault),
-            None => Ok(Plan { limits, nodes, covers }),
+            None => Ok(Plan {
+                limits,
+                nodes,
+                covers,
+            }),
         }
     }
 
     /// The plan of the nodes of a plan, under its limits, with one of its covers. Nothing of the nodes is copied. If memory runs
     /// out, both are given up.
-    pub fn alone(alloc: Global, limits: Limits, nodes: List<Node>, cover: Cover) -> Result<Plan, OutOfMemory>
+    pub fn alone(
+        alloc: Global,
+        limits: Limits,
+        nodes: List<Node>,
+        cover: Cover,
+    ) -> Result<Plan, OutOfMemory>
         requires { IsPlan (network_within limits nodes (cover ∷ [])) }
         ensures { IfOk result (λ plan. plan ≡ network_within limits nodes (cover ∷ [])) }
     {
         let mut covers = List::new(alloc);
         match covers.push(cover) {
-            Ok(()) => Ok(Plan { limits, nodes, covers }),
+            Ok(()) => Ok(Plan {
+                limits,
+                nodes,
+                covers,
+            }),
             Err(fault) => {
                 drop(covers);
                 drop(nodes);

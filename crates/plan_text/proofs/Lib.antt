@@ -4,5 +4,6 @@ pub mod Documents
 pub mod EachOk
 pub mod Elements
 pub mod Keys
+pub mod Limits
 pub mod Marked
 pub mod Seen
