@@ -17,6 +17,7 @@ use Rattle.sccp_work.specs.AcceptedPlan.{with_accepted, IsSurelySafe, TellsPlan}
 use Rattle.sccp_work.specs.Ending.{IsCut, Works}
 use Rattle.sccp_work.specs.Limit.{IsThere, HasLongFile}
 use Rattle.sccp_work.specs.Moment.{Moment}
+use Rattle.sccp_work.specs.PlanFile.{PlanFile}
 use Rattle.sccp_work.specs.Plans.{HasPlan, HasBadPlan}
 use Rattle.sccp_tool.specs.Task.{Change as asked}
 use Rattle.sccp_tool.specs.Texts.{other_nodes}
@@ -89,10 +90,10 @@ Ends-mixed contents old new s text h = by (same_nodes old new) refl h
         let t = Ends-answered contents OtherNodes other_nodes s text k in is_other (λ same. false≢true (sym e ∙ alike old new same)) t.0 t.1
 
 -- after an accepted old plan
-abbrev NewTells : Option Contents → List ℕ → Network → Status → List ℕ → Type 0
+abbrev NewTells : Option Contents → PlanFile → Network → Status → List ℕ → Type 0
 NewTells contents new p s rest = FileTells contents new new_word (λ q. TellsMixture p q) rest s
 
-change_told : (contents : Option Contents) (old new : List ℕ) (s : Status) (text : List ℕ) → Ends contents (change_work old new) s text
+change_told : (contents : Option Contents) (old new : PlanFile) (s : Status) (text : List ℕ) → Ends contents (change_work old new) s text
     → FileTells contents old old_word (NewTells contents new) text s
 change_told contents old new s text h =
     Ends-with_accepted contents old old_word (λ p. with_accepted new_word new (λ q. mixed_work p q)) (NewTells contents new) s text
@@ -104,13 +105,13 @@ mixture_answer old new s text (is_other differ is spelt) = subst (MixtureEnds ol
 mixture_answer old new s text (is_told same change lawful is spelt) = told same change lawful is
 
 -- after an accepted old plan
-abbrev Ahead : Option Contents → List ℕ → Network → Status → Type 0
+abbrev Ahead : Option Contents → PlanFile → Network → Status → Type 0
 Ahead contents new p s = PlanEnds contents new (λ q t. VerdictEnds q (MixtureEnds p q) t) s
 
-abbrev ChangeEnds : Option Contents → List ℕ → List ℕ → Status → Type 0
+abbrev ChangeEnds : Option Contents → PlanFile → PlanFile → Status → Type 0
 ChangeEnds contents old new s = PlanEnds contents old (λ p t. VerdictEnds p (Ahead contents new p) t) s
 
-change_ends : (contents : Option Contents) (old new : List ℕ) (s : Status) (text : List ℕ) → Ends contents (change_work old new) s text
+change_ends : (contents : Option Contents) (old new : PlanFile) (s : Status) (text : List ℕ) → Ends contents (change_work old new) s text
     → ChangeEnds contents old new s
 change_ends contents old new s text h =
     file_of contents old old_word (NewTells contents new) (Ahead contents new) text s
@@ -119,7 +120,7 @@ change_ends contents old new s text h =
 
 -- ---- what each answer says of the plans
 
-only_mixed : (contents : Option Contents) (old new : List ℕ) (p q : Network) (s : Status)
+only_mixed : (contents : Option Contents) (old new : PlanFile) (p q : Network) (s : Status)
     → ((holds : Network → Network → Type 0) → holds p q → HavePlans contents old new IsSafe holds) → MixtureEnds p q s
     → ChangeCause contents old new s
 only_mixed contents old new p q OtherNodes here (other differ) = here (λ p q. SameNodes p q → ⊥) differ
@@ -131,7 +132,7 @@ only_mixed contents old new p q s here (told same change lawful is) = subst (Cha
         (here (λ p q. SameNodes p q × IsUnmixable p q) (same, (i, j, spot, turns, hops, kind, k)))
     by changes.TooWide k = inr (here (λ p q. SameNodes p q × IsWideMixture p q) (same, k))
 
-only_new : (contents : Option Contents) (old new : List ℕ) (p : Network) (s : Status)
+only_new : (contents : Option Contents) (old new : PlanFile) (p : Network) (s : Status)
     → ((P : Network → Type 0) → P p → HasPlan contents old P) → IsSafe p → Ahead contents new p s → ChangeCause contents old new s
 only_new contents old new p TooLong here safe (long h) = inr (here (λ p. IsSafe p × HasLongFile contents new) (safe, h))
 only_new contents old new p BadPlan here safe (bad h) = inr (here (λ p. IsSafe p × HasBadPlan contents new) (safe, h))
@@ -147,7 +148,7 @@ only_new contents old new p s here safe (good h) = by s h.3.2
         (λ holds e. here (λ p. IsSafe p × HasPlan contents new (λ q. IsSafe q × holds p q))
         (safe, in_new (λ q. IsSafe q × holds p q) (also, e))) k
 
-only : (contents : Option Contents) (old new : List ℕ) (s : Status) → ChangeEnds contents old new s → ChangeCause contents old new s
+only : (contents : Option Contents) (old new : PlanFile) (s : Status) → ChangeEnds contents old new s → ChangeCause contents old new s
 only contents old new TooLong (long h) = inl h
 only contents old new BadPlan (bad h) = inl h
 only contents old new s (good h) = by s h.3.2
@@ -162,7 +163,7 @@ only contents old new s (good h) = by s h.3.2
 
 -- ---- what each answer follows from
 
-abbrev OnOld : Contents → List ℕ → Network → Status → Type 0
+abbrev OnOld : Contents → PlanFile → Network → Status → Type 0
 OnOld c new p s = VerdictEnds p (Ahead (Some c) new p) s
 
 abbrev OnNew : Network → Network → Status → Type 0
@@ -191,7 +192,7 @@ other_if p q OtherNodes differ (other h) = refl
 other_if p q s differ (told same change lawful is) = absurd (differ same)
 
 -- what the mixture ends with, after two plans that are surely safe
-both : (c : Contents) (old new : List ℕ) (holds : Network → Network → Type 0) (s : Status)
+both : (c : Contents) (old new : PlanFile) (holds : Network → Network → Type 0) (s : Status)
     → (has : HavePlans (Some c) old new IsSurelySafe holds) → ChangeEnds (Some c) old new s
     → (p : Network) × (q : Network) × holds p q × MixtureEnds p q s
 both c old new holds s has ends =
@@ -205,7 +206,7 @@ both c old new holds s has ends =
     (p, q, further.3.2.1, goes_on q (MixtureEnds p q) s further.3.2.0 on_new)
 
 -- what follows an old plan that is surely safe
-past_old : (c : Contents) (old new : List ℕ) (P : Network → Type 0) (s : Status) → (has : HasPlan (Some c) old (λ p. IsSurelySafe p × P p))
+past_old : (c : Contents) (old new : PlanFile) (P : Network → Type 0) (s : Status) → (has : HasPlan (Some c) old (λ p. IsSurelySafe p × P p))
     → ChangeEnds (Some c) old new s → (p : Network) × P p × Ahead (Some c) new p s
 past_old c old new P s has ends = (
   has.3.0,
@@ -214,7 +215,7 @@ past_old c old new P s has ends = (
       (at_plan c old (OnOld c new) (λ p. IsSurelySafe p × P p) s ends has),
 )
 
-always : (c : Contents) (old new : List ℕ) (t s : Status) → ChangeSure (Some c) old new t → ChangeEnds (Some c) old new s → s ≡ t
+always : (c : Contents) (old new : PlanFile) (t s : Status) → ChangeSure (Some c) old new t → ChangeEnds (Some c) old new s → s ≡ t
 always c old new Done s has ends =
     let h = both c old new (λ p q. SameNodes p q × IsMixable p q × (IsWideMixture p q → ⊥)) s has ends in
     let m = mixture h.0 h.1 s h.2.0 h.3 in
@@ -232,7 +233,7 @@ always c old new TooLong s (inr has) ends =
     if_long c new (OnNew h.0) s h.2 h.1
 always c old new t s has ends = absurd has
 
-refused_for : (c : Contents) (old new : List ℕ) (s : Status) → ChangeCause (Some c) old new Refused → ChangeEnds (Some c) old new s
+refused_for : (c : Contents) (old new : PlanFile) (s : Status) → ChangeCause (Some c) old new Refused → ChangeEnds (Some c) old new s
     → (s ≡ Refused) ⊎ (s ≡ TooWide)
 refused_for c old new s (inl (inl has)) ends = refused_or_wide has.3.0 (Ahead (Some c) new has.3.0) s has.3.2
     (at_plan c old (OnOld c new) IsBad s ends has)
@@ -276,14 +277,14 @@ mixed_files c old new = by (same_nodes old new)
     by true = λ change compared. tt
     by false = tt
 
-change_files : (c : Contents) (old new : List ℕ) → IsThere c old → IsThere c new → HasFiles c (change_work old new)
+change_files : (c : Contents) (old new : PlanFile) → IsThere c old.name → IsThere c new.name → HasFiles c (change_work old new)
 change_files c old new old_there new_there =
     with_accepted_files c old_word old (λ p. with_accepted new_word new (λ q. mixed_work p q))
     (λ p. with_accepted_files c new_word new (λ q. mixed_work p q) (mixed_files c p) new_there) old_there
 
 -- the text gives it
 
-tells : (c : Contents) (old new : List ℕ) (s : Status) (text : List ℕ) → IsOnVerdict s → Ends (Some c) (change_work old new) s text
+tells : (c : Contents) (old new : PlanFile) (s : Status) (text : List ℕ) → IsOnVerdict s → Ends (Some c) (change_work old new) s text
     → TellsChange (Some c) old new s text
 tells c old new s text given h =
     let f = on_file (Some c) old (λ p t. TellsPlan old_word p (NewTells (Some c) new p) t text) s given
@@ -300,7 +301,7 @@ tells c old new s text given h =
       ),
     )
 
-pub change_causes : (old new : List ℕ) → Causes (Some (asked old new))
+pub change_causes : (old new : PlanFile) → Causes (Some (asked old new))
 change_causes old new = record {
   only = λ c s text h. only (Some c) old new s (change_ends (Some c) old new s text h);
   usage = λ contents text h. absurd (only contents old new Usage (change_ends contents old new Usage text h));

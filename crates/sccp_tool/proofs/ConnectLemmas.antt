@@ -6,6 +6,7 @@ use Rattle.sccp_io.specs.Files.{Contents}
 use Rattle.sccp_tool.specs.Connect.{connect_judged, connect_text, connect_work}
 use Rattle.sccp_work.specs.Ending.{Works}
 use Rattle.sccp_work.specs.Moment.{Moment}
+use Rattle.sccp_work.specs.PlanFile.{PlanFile}
 use Rattle.sccp_work.specs.Plans.{HasPlan}
 use Rattle.sccp_replay.specs.ReplayEnds.{ReplayTells}
 use Rattle.sccp_tool.specs.Task.{Connect}
@@ -39,50 +40,50 @@ Works-connected plan same calling result b a is writes answer contents sound rea
 abbrev Connected : List ℕ → Network → Status → Type 0
 Connected text plan s = Judged plan s text
 
-plan_ends : (contents : Option Contents) (name : List ℕ) (calling : Calling) (s : Status) (text : List ℕ)
-    → Ends contents (connect_work name calling) s text → PlanEnds contents name (Connected text) s
-plan_ends contents name calling s text h = Ends-with_plan (Connected text) contents name (connect_judged calling) s text
+plan_ends : (contents : Option Contents) (file : PlanFile) (calling : Calling) (s : Status) (text : List ℕ)
+    → Ends contents (connect_work file calling) s text → PlanEnds contents file (Connected text) s
+plan_ends contents file calling s text h = Ends-with_plan (Connected text) contents file (connect_judged calling) s text
     (λ plan e. Ends-judged contents plan (connect_text plan calling) s text e) h
 
-only : (contents : Option Contents) (name : List ℕ) (s : Status) (text : List ℕ)
-    → PlanEnds contents name (Connected text) s → VerifyCause contents name s
-only contents name TooLong text (long h) = h
-only contents name BadPlan text (bad h) = h
-only contents name s text (good h) =
-    subst (VerifyCause contents name) (sym h.3.2.status)
-    (cause_of contents name h.3.0 h.3.2.verdict (λ P p. (h.0, h.1, h.2, (h.3.0, h.3.1, p))) h.3.2.lawful)
+only : (contents : Option Contents) (file : PlanFile) (s : Status) (text : List ℕ)
+    → PlanEnds contents file (Connected text) s → VerifyCause contents file s
+only contents file TooLong text (long h) = h
+only contents file BadPlan text (bad h) = h
+only contents file s text (good h) =
+    subst (VerifyCause contents file) (sym h.3.2.status)
+    (cause_of contents file h.3.0 h.3.2.verdict (λ P p. (h.0, h.1, h.2, (h.3.0, h.3.1, p))) h.3.2.lawful)
 
-always : (c : Contents) (name : List ℕ) (t s : Status) (text : List ℕ) → VerifySure (Some c) name t
-    → PlanEnds (Some c) name (Connected text) s → s ≡ t
-always c name Done s text has ends =
-    let j = at_plan c name (Connected text) (λ plan. IsSafe plan × (IsWide plan → ⊥)) s ends has in
+always : (c : Contents) (file : PlanFile) (t s : Status) (text : List ℕ) → VerifySure (Some c) file t
+    → PlanEnds (Some c) file (Connected text) s → s ≡ t
+always c file Done s text has ends =
+    let j = at_plan c file (Connected text) (λ plan. IsSafe plan × (IsWide plan → ⊥)) s ends has in
     done_if_safe has.3.0 j.verdict s j.lawful j.status has.3.2.0 has.3.2.1
-always c name BadPlan s text has ends = if_bad c name (Connected text) s ends has
-always c name TooLong s text has ends = if_long c name (Connected text) s ends has
-always c name t s text has ends = absurd has
+always c file BadPlan s text has ends = if_bad c file (Connected text) s ends has
+always c file TooLong s text has ends = if_long c file (Connected text) s ends has
+always c file t s text has ends = absurd has
 
-refused : (c : Contents) (name : List ℕ) (s : Status) (text : List ℕ) → HasPlan (Some c) name IsBad
-    → PlanEnds (Some c) name (Connected text) s → (s ≡ Refused) ⊎ (s ≡ TooWide)
-refused c name s text has ends =
-    let j = at_plan c name (Connected text) IsBad s ends has in
+refused : (c : Contents) (file : PlanFile) (s : Status) (text : List ℕ) → HasPlan (Some c) file IsBad
+    → PlanEnds (Some c) file (Connected text) s → (s ≡ Refused) ⊎ (s ≡ TooWide)
+refused c file s text has ends =
+    let j = at_plan c file (Connected text) IsBad s ends has in
     refused_if_bad has.3.0 j.verdict s j.lawful j.status has.3.2
 
-tells : (c : Contents) (name : List ℕ) (s : Status) (text : List ℕ) (taken taken' : Option (List ℕ))
-    → taken' ≡ append_known taken text → PlanEnds (Some c) name (Connected text) s → ReplayTells c name s taken taken'
-tells c name TooLong text taken taken' is (long h) = λ given. absurd given
-tells c name BadPlan text taken taken' is (bad h) = λ given. absurd given
-tells c name s text taken taken' is (good h) =
+tells : (c : Contents) (file : PlanFile) (s : Status) (text : List ℕ) (taken taken' : Option (List ℕ))
+    → taken' ≡ append_known taken text → PlanEnds (Some c) file (Connected text) s → ReplayTells c file s taken taken'
+tells c file TooLong text taken taken' is (long h) = λ given. absurd given
+tells c file BadPlan text taken taken' is (bad h) = λ given. absurd given
+tells c file s text taken taken' is (good h) =
     λ given. (h.0, h.1, h.2, (h.3.0, h.3.1, judged_tells h.3.0 s text taken taken' is given h.3.2))
 
-pub connect_causes : (name : List ℕ) (calling : Calling) → Causes (Some (Connect name calling))
-connect_causes name calling = record {
-  only = λ c s text h. only (Some c) name s text (plan_ends (Some c) name calling s text h);
-  usage = λ contents text h. absurd (only contents name Usage text (plan_ends contents name calling Usage text h));
-  always = λ c t s text cause h. always c name t s text cause (plan_ends (Some c) name calling s text h);
-  refused = λ c s text cause h. refused c name s text cause (plan_ends (Some c) name calling s text h);
-  tells = λ c s text taken taken' is ends. λ given. tells c name s text taken taken' is
-      (plan_ends (Some c) name calling s text (ends (on_verdict s given))) given;
+pub connect_causes : (file : PlanFile) (calling : Calling) → Causes (Some (Connect file calling))
+connect_causes file calling = record {
+  only = λ c s text h. only (Some c) file s text (plan_ends (Some c) file calling s text h);
+  usage = λ contents text h. absurd (only contents file Usage text (plan_ends contents file calling Usage text h));
+  always = λ c t s text cause h. always c file t s text cause (plan_ends (Some c) file calling s text h);
+  refused = λ c s text cause h. refused c file s text cause (plan_ends (Some c) file calling s text h);
+  tells = λ c s text taken taken' is ends. λ given. tells c file s text taken taken' is
+      (plan_ends (Some c) file calling s text (ends (on_verdict s given))) given;
   journeys = λ c s b a is o. tt;
-  files = λ c there. plan_files c name (connect_judged calling)
+  files = λ c there. plan_files c file (connect_judged calling)
       (λ plan. accepted_files c [] plan (λ accepted. answered (Done, connect_text plan calling)) (λ accepted. tt)) there;
 }

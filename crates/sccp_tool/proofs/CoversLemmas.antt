@@ -10,7 +10,8 @@ use Rattle.std.proofs.lemmas.Option.{slice_get-get_or, slice_get_read, slice_get
 use Rattle.plan_model.proofs.Alone.{bad_by_covers}
 use Rattle.plan_model.proofs.SafeWays.{safe_not_bad}
 use Rattle.plan_model.specs.Alone.{alone}
-use Rattle.plan_model.specs.Network.{Network, network}
+use Rattle.plan_model.specs.Network.{Network, network_within}
+use Rattle.plan_model.specs.declared.limits.Limits.{Limits}
 use Rattle.plan_model.specs.Spots.{IsInRange}
 use Rattle.plan_model.specs.Verdicts.{HasSpot, Bad}
 use Rattle.plan_model.specs.declared.cover.Cover.{Cover}
@@ -37,6 +38,7 @@ use Rattle.sccp_work.proofs.PlanLemmas.{PlanEnds, long, bad, good, Ends-with_pla
 use Rattle.sccp_work.proofs.WorkLemmas.{Kept, Printed, Works-answered, Works-ask, printed}
 use Rattle.sccp_work.specs.Ending.{IsCut, Works}
 use Rattle.sccp_work.specs.Moment.{Moment}
+use Rattle.sccp_work.specs.PlanFile.{PlanFile}
 use Rattle.sccp_work.specs.Plans.{HasPlan}
 use Rattle.sccp_work.specs.Verdict.{IsSafe, IsBad}
 use Rattle.sccp_work.specs.Questions.{IsJudged, verdict_on}
@@ -49,36 +51,36 @@ use Rattle.sccp_work.specs.declared.stop.Stop.{Stop}
 -- ---- the verdict on one cover is printed
 
 -- the work that follows a verdict
-abbrev told_on : List Node → ℕ → Cover → List Cover → Tally → Verdict → Work
-told_on nodes number cover covers tally verdict =
-    print (cover_text number (network nodes (cover ∷ [])) verdict) (covers_on nodes (number + 1) covers (counted tally verdict))
+abbrev told_on : Limits → List Node → ℕ → Cover → List Cover → Tally → Verdict → Work
+told_on limits nodes number cover covers tally verdict =
+    print (cover_text number (network_within limits nodes (cover ∷ [])) verdict) (covers_on limits nodes (number + 1) covers (counted tally verdict))
 
 -- Once the text of a verdict is written, the work goes on with the covers that are left. If it could not be written whole, the work
 -- has stopped.
-abbrev pub AfterVerdict : List Node → ℕ → Cover → List Cover → Tally → Verdict → Result (Unit {0}) Stop → Moment → Moment → Type 0
-AfterVerdict nodes number cover covers tally verdict (Ok done) b m =
-    (result : Result Status Stop) (after : Moment) → Works (covers_on nodes (number + 1) covers (counted tally verdict)) result m after
-    → Works (covers_on nodes number (cover ∷ covers) tally) result b after
-AfterVerdict nodes number cover covers tally verdict (Err stop) b m = Works (covers_on nodes number (cover ∷ covers) tally) (Err stop) b m
+abbrev pub AfterVerdict : Limits → List Node → ℕ → Cover → List Cover → Tally → Verdict → Result (Unit {0}) Stop → Moment → Moment → Type 0
+AfterVerdict limits nodes number cover covers tally verdict (Ok done) b m =
+    (result : Result Status Stop) (after : Moment) → Works (covers_on limits nodes (number + 1) covers (counted tally verdict)) result m after
+    → Works (covers_on limits nodes number (cover ∷ covers) tally) result b after
+AfterVerdict limits nodes number cover covers tally verdict (Err stop) b m = Works (covers_on limits nodes number (cover ∷ covers) tally) (Err stop) b m
 
-after_verdict : (nodes : List Node) (number : ℕ) (cover : Cover) (covers : List Cover) (tally : Tally) (verdict : Verdict)
-    (put : Result (Unit {0}) Stop) (b m : Moment) → IsJudged (network nodes (cover ∷ [])) verdict
-    → Printed (cover_text number (network nodes (cover ∷ [])) verdict) (covers_on nodes (number + 1) covers (counted tally verdict)) put b m
-    → AfterVerdict nodes number cover covers tally verdict put b m
-after_verdict nodes number cover covers tally verdict (Ok done) b m judged goes = λ result after w.
-    Works-ask (verdict_on (network nodes (cover ∷ []))) (told_on nodes number cover covers tally) verdict result b after judged
+after_verdict : (limits : Limits) (nodes : List Node) (number : ℕ) (cover : Cover) (covers : List Cover) (tally : Tally) (verdict : Verdict)
+    (put : Result (Unit {0}) Stop) (b m : Moment) → IsJudged (network_within limits nodes (cover ∷ [])) verdict
+    → Printed (cover_text number (network_within limits nodes (cover ∷ [])) verdict) (covers_on limits nodes (number + 1) covers (counted tally verdict)) put b m
+    → AfterVerdict limits nodes number cover covers tally verdict put b m
+after_verdict limits nodes number cover covers tally verdict (Ok done) b m judged goes = λ result after w.
+    Works-ask (verdict_on (network_within limits nodes (cover ∷ []))) (told_on limits nodes number cover covers tally) verdict result b after judged
     (goes result after w)
-after_verdict nodes number cover covers tally verdict (Err stop) b m judged stops =
-    Works-ask (verdict_on (network nodes (cover ∷ []))) (told_on nodes number cover covers tally) verdict (Err stop) b m judged stops
+after_verdict limits nodes number cover covers tally verdict (Err stop) b m judged stops =
+    Works-ask (verdict_on (network_within limits nodes (cover ∷ []))) (told_on limits nodes number cover covers tally) verdict (Err stop) b m judged stops
 
-pub verdict_told : (nodes : List Node) (number : ℕ) (cover : Cover) (covers : List Cover) (tally : Tally) (verdict : Verdict)
-    (line : List ℕ) (put : Result (Unit {0}) Stop) (b m : Moment) → IsJudged (network nodes (cover ∷ [])) verdict
-    → line ≡ cover_text number (network nodes (cover ∷ [])) verdict
+pub verdict_told : (limits : Limits) (nodes : List Node) (number : ℕ) (cover : Cover) (covers : List Cover) (tally : Tally) (verdict : Verdict)
+    (line : List ℕ) (put : Result (Unit {0}) Stop) (b m : Moment) → IsJudged (network_within limits nodes (cover ∷ [])) verdict
+    → line ≡ cover_text number (network_within limits nodes (cover ∷ [])) verdict
     → Writes line put b.taken m.taken b.write_faults m.write_faults → Kept b m
-    → AfterVerdict nodes number cover covers tally verdict put b m
-verdict_told nodes number cover covers tally verdict line put b m judged spelt writes kept =
-    after_verdict nodes number cover covers tally verdict put b m judged
-    (printed (cover_text number (network nodes (cover ∷ [])) verdict) (covers_on nodes (number + 1) covers (counted tally verdict)) put b m
+    → AfterVerdict limits nodes number cover covers tally verdict put b m
+verdict_told limits nodes number cover covers tally verdict line put b m judged spelt writes kept =
+    after_verdict limits nodes number cover covers tally verdict put b m judged
+    (printed (cover_text number (network_within limits nodes (cover ∷ [])) verdict) (covers_on limits nodes (number + 1) covers (counted tally verdict)) put b m
     (subst (λ t. Writes t put b.taken m.taken b.write_faults m.write_faults) spelt writes) kept)
 
 -- ---- cover by cover
@@ -86,18 +88,18 @@ verdict_told nodes number cover covers tally verdict line put b m judged spelt w
 -- whatever ends the work on the covers that are left ends the whole work
 abbrev pub CoversLeft : Network → ℕ → List Cover → Tally → Moment → Moment → Type 0
 CoversLeft plan number covers tally first now =
-    (result : Result Status Stop) (after : Moment) → Works (covers_on plan.nodes number covers tally) result now after
+    (result : Result Status Stop) (after : Moment) → Works (covers_on plan.limits plan.nodes number covers tally) result now after
     → Works (each_cover plan) result first after
 
 pub next_left : (plan : Network) (number : ℕ) (cover : Cover) (covers : List Cover) (tally : Tally) (judging : Judging)
     (first now after : Moment) → CoversLeft plan number (cover ∷ covers) tally first now
-    → GivesNext plan.nodes number cover tally (Ok judging) now after → CoversLeft plan (number + 1) covers judging.tally first after
+    → GivesNext plan.limits plan.nodes number cover tally (Ok judging) now after → CoversLeft plan (number + 1) covers judging.tally first after
 next_left plan number cover covers tally judging first now after left gives =
     λ result end work. left result end (gives covers result end work)
 
 pub stopped_left : (plan : Network) (number : ℕ) (cover : Cover) (covers : List Cover) (tally : Tally) (stop : Stop)
     (first now after : Moment) → CoversLeft plan number (cover ∷ covers) tally first now
-    → GivesNext plan.nodes number cover tally (Err stop) now after → Works (each_cover plan) (Err stop) first after
+    → GivesNext plan.limits plan.nodes number cover tally (Err stop) now after → Works (each_cover plan) (Err stop) first after
 stopped_left plan number cover covers tally stop first now after left gives = left (Err stop) after (gives covers)
 
 -- ---- the last line
@@ -136,7 +138,7 @@ record Judged (plan : Network) (number : ℕ) (covers : List Cover) (tally : Tal
   pub whole : text ≡ blocks_text plan number covers verdicts ++ tally_line (tallied tally verdicts)
 
 Ends-covers : (contents : Option Contents) (plan : Network) (number : ℕ) (covers : List Cover) (tally : Tally) (s : Status) (text : List ℕ)
-    → Ends contents (covers_on plan.nodes number covers tally) s text → Judged plan number covers tally s text
+    → Ends contents (covers_on plan.limits plan.nodes number covers tally) s text → Judged plan number covers tally s text
 Ends-covers contents plan number [] tally s text h =
     record {
       verdicts = [];
@@ -159,9 +161,9 @@ Ends-covers contents plan number (cover ∷ covers) tally s text h =
 abbrev AllJudged : List ℕ → Network → Status → Type 0
 AllJudged text plan s = Judged plan 0 plan.covers none_yet s text
 
-plan_ends : (contents : Option Contents) (name : List ℕ) (s : Status) (text : List ℕ) → Ends contents (covers_work name) s text
-    → PlanEnds contents name (AllJudged text) s
-plan_ends contents name s text h = Ends-with_plan (AllJudged text) contents name each_cover s text
+plan_ends : (contents : Option Contents) (file : PlanFile) (s : Status) (text : List ℕ) → Ends contents (covers_work file) s text
+    → PlanEnds contents file (AllJudged text) s
+plan_ends contents file s text h = Ends-with_plan (AllJudged text) contents file each_cover s text
     (λ plan e. Ends-covers contents plan 0 plan.covers none_yet s text e) h
 
 -- ---- what the numbers of verdicts say
@@ -307,19 +309,19 @@ status_cause plan vs are =
     wide_from plan any.0 on.0 any.1 on.1 on.2 any.4)
     (λ e f. safe_from plan vs are (all_accepted none_yet vs e f))
 
-cause_at : (contents : Option Contents) (name : List ℕ) (plan : Network) (s : Status)
-    → ((P : Network → Type 0) → P plan → HasPlan contents name P) → CauseOn plan s → CoversCause contents name s
-cause_at contents name plan Done here h = here IsSafe h
-cause_at contents name plan Refused here h = here IsBad h
-cause_at contents name plan TooWide here h = here HasWideCover h
-cause_at contents name plan s here h = absurd h
+cause_at : (contents : Option Contents) (file : PlanFile) (plan : Network) (s : Status)
+    → ((P : Network → Type 0) → P plan → HasPlan contents file P) → CauseOn plan s → CoversCause contents file s
+cause_at contents file plan Done here h = here IsSafe h
+cause_at contents file plan Refused here h = here IsBad h
+cause_at contents file plan TooWide here h = here HasWideCover h
+cause_at contents file plan s here h = absurd h
 
-only : (contents : Option Contents) (name : List ℕ) (s : Status) (text : List ℕ) → PlanEnds contents name (AllJudged text) s
-    → CoversCause contents name s
-only contents name TooLong text (long h) = h
-only contents name BadPlan text (bad h) = h
-only contents name s text (good h) =
-    cause_at contents name h.3.0 s (λ P p. (h.0, h.1, h.2, (h.3.0, h.3.1, p)))
+only : (contents : Option Contents) (file : PlanFile) (s : Status) (text : List ℕ) → PlanEnds contents file (AllJudged text) s
+    → CoversCause contents file s
+only contents file TooLong text (long h) = h
+only contents file BadPlan text (bad h) = h
+only contents file s text (good h) =
+    cause_at contents file h.3.0 s (λ P p. (h.0, h.1, h.2, (h.3.0, h.3.1, p)))
     (subst (CauseOn h.3.0) (sym h.3.2.status) (status_cause h.3.0 h.3.2.verdicts h.3.2.lawful))
 
 -- ---- what each answer follows from
@@ -351,19 +353,19 @@ refused_if_bad plan vs are is =
     let safe = safe_from plan vs are (all_accepted none_yet vs e f) in
     absurd (safe_not_bad plan safe.0 is.0.cover is.0.spot is.0.markings is.0.hops is.0.kind safe.1.few safe.1.safe is.1.bad))
 
-always : (c : Contents) (name : List ℕ) (t s : Status) (text : List ℕ) → CoversSure (Some c) name t
-    → PlanEnds (Some c) name (AllJudged text) s → s ≡ t
-always c name Done s text has ends =
-    let j = at_plan c name (AllJudged text) (λ plan. IsSafe plan × (HasWideCover plan → ⊥)) s ends has in
+always : (c : Contents) (file : PlanFile) (t s : Status) (text : List ℕ) → CoversSure (Some c) file t
+    → PlanEnds (Some c) file (AllJudged text) s → s ≡ t
+always c file Done s text has ends =
+    let j = at_plan c file (AllJudged text) (λ plan. IsSafe plan × (HasWideCover plan → ⊥)) s ends has in
     j.status ∙ done_if_safe has.3.0 j.verdicts j.lawful has.3.2.0 has.3.2.1
-always c name BadPlan s text has ends = if_bad c name (AllJudged text) s ends has
-always c name TooLong s text has ends = if_long c name (AllJudged text) s ends has
-always c name t s text has ends = absurd has
+always c file BadPlan s text has ends = if_bad c file (AllJudged text) s ends has
+always c file TooLong s text has ends = if_long c file (AllJudged text) s ends has
+always c file t s text has ends = absurd has
 
-refused : (c : Contents) (name : List ℕ) (s : Status) (text : List ℕ) → HasPlan (Some c) name IsBad
-    → PlanEnds (Some c) name (AllJudged text) s → (s ≡ Refused) ⊎ (s ≡ TooWide)
-refused c name s text has ends =
-    let j = at_plan c name (AllJudged text) IsBad s ends has in
+refused : (c : Contents) (file : PlanFile) (s : Status) (text : List ℕ) → HasPlan (Some c) file IsBad
+    → PlanEnds (Some c) file (AllJudged text) s → (s ≡ Refused) ⊎ (s ≡ TooWide)
+refused c file s text has ends =
+    let j = at_plan c file (AllJudged text) IsBad s ends has in
     subst (λ t. (t ≡ Refused) ⊎ (t ≡ TooWide)) (sym j.status) (refused_if_bad has.3.0 j.verdicts j.lawful has.3.2)
 
 -- ---- what the text says
@@ -378,11 +380,11 @@ shown_in : (plan : Network) (number : ℕ) (same : Network) (w : Witness) (vs : 
 shown_in plan number same w vs are at =
     let on = on_cover plan plan.covers vs number (verdicts.Refused same w) are at in bad_in plan number on.0 w on.1 on.2
 
-tells : (contents : Option Contents) (name : List ℕ) (s : Status) (text : List ℕ) (taken taken' : Option (List ℕ))
-    → taken' ≡ append_known taken text → PlanEnds contents name (AllJudged text) s → CoversTells contents name s taken taken'
-tells contents name TooLong text taken taken' is (long h) = λ given. absurd given
-tells contents name BadPlan text taken taken' is (bad h) = λ given. absurd given
-tells contents name s text taken taken' is (good h) = λ given. (
+tells : (contents : Option Contents) (file : PlanFile) (s : Status) (text : List ℕ) (taken taken' : Option (List ℕ))
+    → taken' ≡ append_known taken text → PlanEnds contents file (AllJudged text) s → CoversTells contents file s taken taken'
+tells contents file TooLong text taken taken' is (long h) = λ given. absurd given
+tells contents file BadPlan text taken taken' is (bad h) = λ given. absurd given
+tells contents file s text taken taken' is (good h) = λ given. (
   h.0,
   h.1,
   h.2,
@@ -404,19 +406,19 @@ tells contents name s text taken taken' is (good h) = λ given. (
 
 -- ---- the files
 
-covers_files : (c : Contents) (nodes : List Node) (number : ℕ) (covers : List Cover) (tally : Tally)
-    → HasFiles c (covers_on nodes number covers tally)
-covers_files c nodes number [] tally = tt
-covers_files c nodes number (cover ∷ covers) tally = λ verdict judged. covers_files c nodes (number + 1) covers (counted tally verdict)
+covers_files : (c : Contents) (limits : Limits) (nodes : List Node) (number : ℕ) (covers : List Cover) (tally : Tally)
+    → HasFiles c (covers_on limits nodes number covers tally)
+covers_files c limits nodes number [] tally = tt
+covers_files c limits nodes number (cover ∷ covers) tally = λ verdict judged. covers_files c limits nodes (number + 1) covers (counted tally verdict)
 
-pub covers_causes : (name : List ℕ) → Causes (Some (Covers name))
-covers_causes name = record {
-  only = λ c s text h. only (Some c) name s text (plan_ends (Some c) name s text h);
-  usage = λ contents text h. absurd (only contents name Usage text (plan_ends contents name Usage text h));
-  always = λ c t s text cause h. always c name t s text cause (plan_ends (Some c) name s text h);
-  refused = λ c s text cause h. refused c name s text cause (plan_ends (Some c) name s text h);
-  tells = λ c s text taken taken' is ends. λ given. tells (Some c) name s text taken taken' is
-      (plan_ends (Some c) name s text (ends given)) given;
+pub covers_causes : (file : PlanFile) → Causes (Some (Covers file))
+covers_causes file = record {
+  only = λ c s text h. only (Some c) file s text (plan_ends (Some c) file s text h);
+  usage = λ contents text h. absurd (only contents file Usage text (plan_ends contents file Usage text h));
+  always = λ c t s text cause h. always c file t s text cause (plan_ends (Some c) file s text h);
+  refused = λ c s text cause h. refused c file s text cause (plan_ends (Some c) file s text h);
+  tells = λ c s text taken taken' is ends. λ given. tells (Some c) file s text taken taken' is
+      (plan_ends (Some c) file s text (ends given)) given;
   journeys = λ c s b a is o. tt;
-  files = λ c there. plan_files c name each_cover (λ plan. covers_files c plan.nodes 0 plan.covers none_yet) there;
+  files = λ c there. plan_files c file each_cover (λ plan. covers_files c plan.limits plan.nodes 0 plan.covers none_yet) there;
 }

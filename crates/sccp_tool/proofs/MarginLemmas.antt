@@ -29,6 +29,7 @@ use Rattle.sccp_work.proofs.WorkLemmas.{Kept, Printed, Works-answered, Works-ask
 use Rattle.sccp_work.specs.AcceptedPlan.{IsSurelySafe, TellsPlan}
 use Rattle.sccp_work.specs.Ending.{IsCut, Works}
 use Rattle.sccp_work.specs.Moment.{Moment}
+use Rattle.sccp_work.specs.PlanFile.{PlanFile}
 use Rattle.sccp_work.specs.Plans.{HasPlan}
 use Rattle.sccp_work.specs.Questions.{IsMeasured, margin_of}
 use Rattle.sccp_work.specs.Verdict.{IsSafe, IsBad, IsWide}
@@ -334,10 +335,10 @@ tells_of plan losses s text m = record {
   survive = λ done. subst (CauseOn losses plan) (sym m.status ∙ done) (status_cause plan losses m.margins m.each m.lawful);
 }
 
-margin_text_of : (contents : Option Contents) (name : List ℕ) (losses : ℕ) (s : Status) (text : List ℕ)
-    → Ends contents (margin_work name losses) s text → FileTells contents name [] (λ plan. TellsMargins plan losses) text s
-margin_text_of contents name losses s text h =
-    Ends-with_accepted contents name [] (each_margin losses) (λ plan. TellsMargins plan losses) s text
+margin_text_of : (contents : Option Contents) (file : PlanFile) (losses : ℕ) (s : Status) (text : List ℕ)
+    → Ends contents (margin_work file losses) s text → FileTells contents file [] (λ plan. TellsMargins plan losses) text s
+margin_text_of contents file losses s text h =
+    Ends-with_accepted contents file [] (each_margin losses) (λ plan. TellsMargins plan losses) s text
     (λ plan rest e. tells_of plan losses s rest (Ends-margins contents plan losses 0 (length plan.covers) none_yet s rest e)) h
 
 -- such a text was written of an accepted plan
@@ -347,35 +348,35 @@ MarginEnds losses plan s = (rest : List ℕ) × TellsMargins plan losses s rest
 abbrev AnswersOn : ℕ → Network → Status → Type 0
 AnswersOn losses plan s = VerdictEnds plan (MarginEnds losses plan) s
 
-margin_ends : (contents : Option Contents) (name : List ℕ) (losses : ℕ) (s : Status) (text : List ℕ)
-    → Ends contents (margin_work name losses) s text → PlanEnds contents name (AnswersOn losses) s
-margin_ends contents name losses s text h =
-    file_of contents name [] (λ plan. TellsMargins plan losses) (MarginEnds losses) text s (λ plan rest more. (rest, more))
-    (margin_text_of contents name losses s text h)
+margin_ends : (contents : Option Contents) (file : PlanFile) (losses : ℕ) (s : Status) (text : List ℕ)
+    → Ends contents (margin_work file losses) s text → PlanEnds contents file (AnswersOn losses) s
+margin_ends contents file losses s text h =
+    file_of contents file [] (λ plan. TellsMargins plan losses) (MarginEnds losses) text s (λ plan rest more. (rest, more))
+    (margin_text_of contents file losses s text h)
 
 -- ---- the cause of each answer
 
-cause_at : (contents : Option Contents) (name : List ℕ) (losses : ℕ) (plan : Network) (s : Status)
-    → ((P : Network → Type 0) → P plan → HasPlan contents name P) → IsSafe plan → CauseOn losses plan s
-    → MarginCause contents name losses s
-cause_at contents name losses plan Done here safe h = here (λ plan. IsSafe plan × AllSurviveBelow plan (losses + 1)) (safe, h)
-cause_at contents name losses plan Refused here safe h = inr (here (λ plan. IsSafe plan × HasStop losses plan) (safe, h))
-cause_at contents name losses plan TooWide here safe h = inr (here (λ plan. IsSafe plan × HasWideMargin losses plan) (safe, h))
-cause_at contents name losses plan s here safe h = absurd h
+cause_at : (contents : Option Contents) (file : PlanFile) (losses : ℕ) (plan : Network) (s : Status)
+    → ((P : Network → Type 0) → P plan → HasPlan contents file P) → IsSafe plan → CauseOn losses plan s
+    → MarginCause contents file losses s
+cause_at contents file losses plan Done here safe h = here (λ plan. IsSafe plan × AllSurviveBelow plan (losses + 1)) (safe, h)
+cause_at contents file losses plan Refused here safe h = inr (here (λ plan. IsSafe plan × HasStop losses plan) (safe, h))
+cause_at contents file losses plan TooWide here safe h = inr (here (λ plan. IsSafe plan × HasWideMargin losses plan) (safe, h))
+cause_at contents file losses plan s here safe h = absurd h
 
-only : (contents : Option Contents) (name : List ℕ) (losses : ℕ) (s : Status) → PlanEnds contents name (AnswersOn losses) s
-    → MarginCause contents name losses s
-only contents name losses TooLong (long h) = h
-only contents name losses BadPlan (bad h) = h
-only contents name losses s (good h) = by s h.3.2
+only : (contents : Option Contents) (file : PlanFile) (losses : ℕ) (s : Status) → PlanEnds contents file (AnswersOn losses) s
+    → MarginCause contents file losses s
+only contents file losses TooLong (long h) = h
+only contents file losses BadPlan (bad h) = h
+only contents file losses s (good h) = by s h.3.2
   where
-    here : (P : Network → Type 0) → P h.3.0 → HasPlan contents name P
+    here : (P : Network → Type 0) → P h.3.0 → HasPlan contents file P
     here P k = (h.0, h.1, h.2, (h.3.0, h.3.1, k))
 
-    by : (t : Status) → AnswersOn losses h.3.0 t → MarginCause contents name losses t
+    by : (t : Status) → AnswersOn losses h.3.0 t → MarginCause contents file losses t
     by Refused (refused k) = inl (here IsBad k)
     by TooWide (wide k) = inl (here IsWide k)
-    by t (accepted safe k) = cause_at contents name losses h.3.0 t here safe
+    by t (accepted safe k) = cause_at contents file losses h.3.0 t here safe
         (subst (CauseOn losses h.3.0) (sym k.1.status) (status_cause h.3.0 losses k.1.margins k.1.each k.1.lawful))
 
 -- ---- what each answer follows from
@@ -393,22 +394,22 @@ refused_if plan losses Refused h stops = inl refl
 refused_if plan losses TooWide h stops = inr refl
 refused_if plan losses s h stops = absurd h
 
-always : (c : Contents) (name : List ℕ) (losses : ℕ) (t s : Status) → MarginSure (Some c) name losses t
-    → PlanEnds (Some c) name (AnswersOn losses) s → s ≡ t
-always c name losses Done s has ends =
-    let k = goes_on has.3.0 (MarginEnds losses has.3.0) s has.3.2.0 (at_plan c name (AnswersOn losses) (λ plan. IsSurelySafe plan
+always : (c : Contents) (file : PlanFile) (losses : ℕ) (t s : Status) → MarginSure (Some c) file losses t
+    → PlanEnds (Some c) file (AnswersOn losses) s → s ≡ t
+always c file losses Done s has ends =
+    let k = goes_on has.3.0 (MarginEnds losses has.3.0) s has.3.2.0 (at_plan c file (AnswersOn losses) (λ plan. IsSurelySafe plan
     × AllSurviveBelow plan (losses + 1) × (HasWideMargin losses plan → ⊥)) s ends has) in
     k.1.status ∙ done_if has.3.0 losses k.1.margins k.1.each k.1.lawful has.3.2.1 has.3.2.2
-always c name losses BadPlan s has ends = if_bad c name (AnswersOn losses) s ends has
-always c name losses TooLong s has ends = if_long c name (AnswersOn losses) s ends has
-always c name losses t s has ends = absurd has
+always c file losses BadPlan s has ends = if_bad c file (AnswersOn losses) s ends has
+always c file losses TooLong s has ends = if_long c file (AnswersOn losses) s ends has
+always c file losses t s has ends = absurd has
 
-refused_for : (c : Contents) (name : List ℕ) (losses : ℕ) (s : Status) → MarginCause (Some c) name losses Refused
-    → PlanEnds (Some c) name (AnswersOn losses) s → (s ≡ Refused) ⊎ (s ≡ TooWide)
-refused_for c name losses s (inl has) ends = refused_or_wide has.3.0 (MarginEnds losses has.3.0) s has.3.2
-    (at_plan c name (AnswersOn losses) IsBad s ends has)
-refused_for c name losses s (inr has) ends = by (goes_on_or_wide has.3.0 (MarginEnds losses has.3.0) s has.3.2.0
-    (at_plan c name (AnswersOn losses) (λ plan. IsSafe plan × HasStop losses plan) s ends has))
+refused_for : (c : Contents) (file : PlanFile) (losses : ℕ) (s : Status) → MarginCause (Some c) file losses Refused
+    → PlanEnds (Some c) file (AnswersOn losses) s → (s ≡ Refused) ⊎ (s ≡ TooWide)
+refused_for c file losses s (inl has) ends = refused_or_wide has.3.0 (MarginEnds losses has.3.0) s has.3.2
+    (at_plan c file (AnswersOn losses) IsBad s ends has)
+refused_for c file losses s (inr has) ends = by (goes_on_or_wide has.3.0 (MarginEnds losses has.3.0) s has.3.2.0
+    (at_plan c file (AnswersOn losses) (λ plan. IsSafe plan × HasStop losses plan) s ends has))
   where
     by : MarginEnds losses has.3.0 s ⊎ (s ≡ TooWide) → (s ≡ Refused) ⊎ (s ≡ TooWide)
     by (inl k) = refused_if has.3.0 losses s
@@ -423,19 +424,19 @@ margins_files c plan losses number zero tally = tt
 margins_files c plan losses number (suc more) tally =
     λ margin measured. margins_files c plan losses (number + 1) more (counted tally margin)
 
-pub margin_causes : (name : List ℕ) (losses : ℕ) → Causes (Some (Margin name losses))
-margin_causes name losses = record {
-  only = λ c s text h. only (Some c) name losses s (margin_ends (Some c) name losses s text h);
-  usage = λ contents text h. absurd (only contents name losses Usage (margin_ends contents name losses Usage text h));
-  always = λ c t s text cause h. always c name losses t s cause (margin_ends (Some c) name losses s text h);
-  refused = λ c s text cause h. refused_for c name losses s cause (margin_ends (Some c) name losses s text h);
+pub margin_causes : (file : PlanFile) (losses : ℕ) → Causes (Some (Margin file losses))
+margin_causes file losses = record {
+  only = λ c s text h. only (Some c) file losses s (margin_ends (Some c) file losses s text h);
+  usage = λ contents text h. absurd (only contents file losses Usage (margin_ends contents file losses Usage text h));
+  always = λ c t s text cause h. always c file losses t s cause (margin_ends (Some c) file losses s text h);
+  refused = λ c s text cause h. refused_for c file losses s cause (margin_ends (Some c) file losses s text h);
   tells = λ c s text taken taken' is ends. λ given. (
     text,
     is,
-    on_file (Some c) name (λ plan t. TellsPlan [] plan (TellsMargins plan losses) t text) s given
-        (margin_text_of (Some c) name losses s text (ends given)),
+    on_file (Some c) file (λ plan t. TellsPlan [] plan (TellsMargins plan losses) t text) s given
+        (margin_text_of (Some c) file losses s text (ends given)),
   );
   journeys = λ c s b a is o. tt;
-  files = λ c there. with_accepted_files c [] name (each_margin losses)
+  files = λ c there. with_accepted_files c [] file (each_margin losses)
       (λ plan. margins_files c plan losses 0 (length plan.covers) none_yet) there;
 }

@@ -5,6 +5,7 @@ use Rattle.sccp_io.specs.Files.{Contents}
 use Rattle.sccp_replay.specs.Replay.{replay_work}
 use Rattle.sccp_replay.specs.ReplayEnds.{ReplayCause, ReplaySure}
 use Rattle.sccp_tool.specs.Task.{Replay}
+use Rattle.sccp_work.specs.PlanFile.{PlanFile}
 use Rattle.sccp_work.specs.declared.status.Status.{Status}
 use Rattle.sccp_work.specs.declared.status.Status.TheVariants.{Done, Usage, BadPlan, BadTrace, TooLong}
 use Rattle.sccp_tool.proofs.Causes.{Causes}
@@ -15,14 +16,14 @@ use Rattle.sccp_replay.proofs.ReplayFiles.{replay_files}
 use Rattle.sccp_replay.proofs.ReplayTold.{replay_told, replay_ends, verdict_ends}
 use Rattle.sccp_work.proofs.VerdictLemmas.{on_verdict}
 
-always : (c : Contents) (plan trace : List ℕ) (t s : Status) → ReplaySure c plan trace t → ReplayCause c plan trace s → s ≡ t
+always : (c : Contents) (plan : PlanFile) (trace : List ℕ) (t s : Status) → ReplaySure c plan trace t → ReplayCause c plan trace s → s ≡ t
 always c plan trace Done s sure cause = done_must c plan trace s sure cause
 always c plan trace BadTrace s sure cause = bad_trace_must c plan trace s sure cause
 always c plan trace TooLong s sure cause = too_long_must c plan trace s sure cause
 always c plan trace BadPlan s sure cause = bad_plan_must c plan trace s sure cause
 always c plan trace t s sure cause = absurd sure
 
-pub replay_causes : (plan trace : List ℕ) (workers : ℕ) → Causes (Some (Replay plan trace workers))
+pub replay_causes : (plan : PlanFile) (trace : List ℕ) (workers : ℕ) → Causes (Some (Replay plan trace workers))
 replay_causes plan trace workers = record {
   only = λ c s text h. replay_ends goes_well c plan trace workers s text h;
   usage = λ contents text h. absurd (answer_holds _ contents (replay_work plan trace workers) Usage text

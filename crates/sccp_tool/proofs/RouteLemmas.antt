@@ -2,19 +2,20 @@
 use Rattle.std.proofs.Common.{ℕ, List, Some}
 use Rattle.sccp_tool.specs.Route.{route_text}
 use Rattle.sccp_tool.specs.Task.{Route}
+use Rattle.sccp_work.specs.PlanFile.{PlanFile}
 use Rattle.sccp_work.specs.Work.{answered}
 use Rattle.sccp_tool.specs.declared.start.Start.{Start}
 use Rattle.sccp_work.specs.declared.status.Status.TheVariants.{Done, Usage}
 use Rattle.sccp_tool.proofs.Causes.{Causes}
 use Rattle.sccp_work.proofs.PlanLemmas.{plan_files, text_always, text_only}
 
-pub route_causes : (name : List ℕ) (start : Start) → Causes (Some (Route name start))
-route_causes name start = record {
-  only = λ c s text h. text_only (Some c) name (λ plan. route_text plan start) s text h;
-  usage = λ contents text h. absurd (text_only contents name (λ plan. route_text plan start) Usage text h);
-  always = λ c t s text cause h. text_always c name (λ plan. route_text plan start) t s text cause h;
+pub route_causes : (file : PlanFile) (start : Start) → Causes (Some (Route file start))
+route_causes file start = record {
+  only = λ c s text h. text_only (Some c) file (λ plan. route_text plan start) s text h;
+  usage = λ contents text h. absurd (text_only contents file (λ plan. route_text plan start) Usage text h);
+  always = λ c t s text cause h. text_always c file (λ plan. route_text plan start) t s text cause h;
   refused = λ c s text cause h. absurd cause;
   tells = λ c s text taken taken' is ends. tt;
   journeys = λ c s b a is o. tt;
-  files = λ c there. plan_files c name (λ plan. answered (Done, route_text plan start)) (λ plan. tt) there;
+  files = λ c there. plan_files c file (λ plan. answered (Done, route_text plan start)) (λ plan. tt) there;
 }

@@ -50,18 +50,18 @@ causes : (task : Option Task) → Causes task
 causes None = usage_causes
 causes (Some (ShowHex octets)) = show_hex_causes octets
 causes (Some (Show name)) = show_causes name
-causes (Some (Verify name)) = verify_causes name
-causes (Some (Route name start)) = route_causes name start
+causes (Some (Verify file)) = verify_causes file
+causes (Some (Route file start)) = route_causes file start
 causes (Some (Replay plan trace workers)) = replay_causes plan trace workers
 causes (Some (Load number size workers)) = load_causes number size workers
 causes (Some (Cuts octets)) = cuts_causes octets
 causes (Some (Import plan file)) = import_causes plan file
 causes (Some (Change old new)) = change_causes old new
-causes (Some (Connect name calling)) = connect_causes name calling
-causes (Some (SendOn name incoming)) = send_on_causes name incoming
-causes (Some (Covers name)) = covers_causes name
-causes (Some (Unused name)) = unused_causes name
-causes (Some (Margin name losses)) = margin_causes name losses
+causes (Some (Connect file calling)) = connect_causes file calling
+causes (Some (SendOn file incoming)) = send_on_causes file incoming
+causes (Some (Covers file)) = covers_causes file
+causes (Some (Unused file)) = unused_causes file
+causes (Some (Margin file losses)) = margin_causes file losses
 
 if_some : {C : Type 0} (o : Option C) (P : C → Type 0) → ((c : C) → o ≡ Some c → P c) → IfSome o P
 if_some None P f = tt

@@ -35,6 +35,7 @@ use Rattle.sccp_tool.specs.SendOn.{IsGiven, IsNotSplit, SendOnTells, TellsLeavin
 use Rattle.sccp_tool.specs.declared.send_on.Incoming.{Incoming}
 use Rattle.sccp_work.proofs.AcceptingLemmas.{Ends-answered}
 use Rattle.sccp_work.proofs.PlanLemmas.{PlanEnds, long, bad, good, Ends-with_plan}
+use Rattle.sccp_work.specs.PlanFile.{PlanFile}
 use Rattle.sccp_work.specs.Work.{answered, Ends}
 use Rattle.sccp_work.specs.declared.status.Status.{Status}
 use Rattle.sccp_work.specs.declared.status.Status.TheVariants.{Done, BadPlan, TooLong}
@@ -136,16 +137,16 @@ node_told plan i node (Some place) is given at =
 abbrev IsText : Incoming → List ℕ → Network → Status → Type 0
 IsText i text plan s = (s ≡ Done) × (text ≡ send_on_text plan i)
 
-text_ends : (contents : Option Contents) (name : List ℕ) (i : Incoming) (s : Status) (text : List ℕ)
-    → Ends contents (send_on_work name i) s text → PlanEnds contents name (IsText i text) s
-text_ends contents name i s text h = Ends-with_plan (IsText i text) contents name (λ plan. answered (Done, send_on_text plan i)) s text
+text_ends : (contents : Option Contents) (file : PlanFile) (i : Incoming) (s : Status) (text : List ℕ)
+    → Ends contents (send_on_work file i) s text → PlanEnds contents file (IsText i text) s
+text_ends contents file i s text h = Ends-with_plan (IsText i text) contents file (λ plan. answered (Done, send_on_text plan i)) s text
     (λ plan e. Ends-answered contents Done (send_on_text plan i) s text e) h
 
-on_plan : (contents : Option Contents) (name : List ℕ) (i : Incoming) (s : Status) (text : List ℕ) (taken taken' : Option (List ℕ))
-    → taken' ≡ append_known taken text → PlanEnds contents name (IsText i text) s → SendOnTells contents name i s taken taken'
-on_plan contents name i TooLong text taken taken' is (long h) done = cc
-on_plan contents name i BadPlan text taken taken' is (bad h) done = cc
-on_plan contents name i s text taken taken' is (good h) done = (
+on_plan : (contents : Option Contents) (file : PlanFile) (i : Incoming) (s : Status) (text : List ℕ) (taken taken' : Option (List ℕ))
+    → taken' ≡ append_known taken text → PlanEnds contents file (IsText i text) s → SendOnTells contents file i s taken taken'
+on_plan contents file i TooLong text taken taken' is (long h) done = cc
+on_plan contents file i BadPlan text taken taken' is (bad h) done = cc
+on_plan contents file i s text taken taken' is (good h) done = (
   h.0,
   h.1,
   h.2,
@@ -161,8 +162,8 @@ on_plan contents name i s text taken taken' is (good h) done = (
   ),
 )
 
-pub send_on_tells : (contents : Option Contents) (name : List ℕ) (i : Incoming) (s : Status) (text : List ℕ)
-    (taken taken' : Option (List ℕ)) → taken' ≡ append_known taken text → Ends contents (send_on_work name i) s text
-    → SendOnTells contents name i s taken taken'
-send_on_tells contents name i s text taken taken' is ends =
-    on_plan contents name i s text taken taken' is (text_ends contents name i s text ends)
+pub send_on_tells : (contents : Option Contents) (file : PlanFile) (i : Incoming) (s : Status) (text : List ℕ)
+    (taken taken' : Option (List ℕ)) → taken' ≡ append_known taken text → Ends contents (send_on_work file i) s text
+    → SendOnTells contents file i s taken taken'
+send_on_tells contents file i s text taken taken' is ends =
+    on_plan contents file i s text taken taken' is (text_ends contents file i s text ends)

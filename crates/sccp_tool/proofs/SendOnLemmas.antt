@@ -29,6 +29,7 @@ use Rattle.sccp_scrc.specs.declared.arrival.Arrival.TheVariants.{Relayed, Ended,
 use Rattle.sccp_scrc.specs.declared.service.Service.{Service}
 use Rattle.sccp_tool.specs.SendOn.{IsOfOctets, connection_line, first_line, type_line, send_on_text}
 use Rattle.sccp_tool.specs.Task.{SendOn}
+use Rattle.sccp_work.specs.PlanFile.{PlanFile}
 use Rattle.sccp_work.specs.Work.{answered}
 use Rattle.sccp_tool.specs.declared.send_on.Incoming.{Incoming}
 use Rattle.sccp_work.specs.declared.status.Status.TheVariants.{Done, Usage}
@@ -37,16 +38,16 @@ use Rattle.sccp_tool.proofs.SegmentLemmas.{send_on_tells}
 use Rattle.sccp_work.specs.Verdict.{IsOnVerdict}
 use Rattle.sccp_work.proofs.PlanLemmas.{plan_files, text_always, text_only}
 
-pub send_on_causes : (name : List ℕ) (incoming : Incoming) → Causes (Some (SendOn name incoming))
-send_on_causes name incoming = record {
-  only = λ c s text h. text_only (Some c) name (λ plan. send_on_text plan incoming) s text h;
-  usage = λ contents text h. absurd (text_only contents name (λ plan. send_on_text plan incoming) Usage text h);
-  always = λ c t s text cause h. text_always c name (λ plan. send_on_text plan incoming) t s text cause h;
+pub send_on_causes : (file : PlanFile) (incoming : Incoming) → Causes (Some (SendOn file incoming))
+send_on_causes file incoming = record {
+  only = λ c s text h. text_only (Some c) file (λ plan. send_on_text plan incoming) s text h;
+  usage = λ contents text h. absurd (text_only contents file (λ plan. send_on_text plan incoming) Usage text h);
+  always = λ c t s text cause h. text_always c file (λ plan. send_on_text plan incoming) t s text cause h;
   refused = λ c s text cause h. absurd cause;
-  tells = λ c s text taken taken' is ends done. send_on_tells (Some c) name incoming s text taken taken' is
+  tells = λ c s text taken taken' is ends done. send_on_tells (Some c) file incoming s text taken taken' is
       (ends (subst IsOnVerdict (sym done) tt)) done;
   journeys = λ c s b a is o. tt;
-  files = λ c there. plan_files c name (λ plan. answered (Done, send_on_text plan incoming)) (λ plan. tt) there;
+  files = λ c there. plan_files c file (λ plan. answered (Done, send_on_text plan incoming)) (λ plan. tt) there;
 }
 
 -- ---- the type of a connection-oriented message is the first line of what is shown of it

@@ -16,6 +16,7 @@ use Rattle.sccp_work.proofs.PlanLemmas.{PlanEnds, long, bad, good, Ends-with_pla
 use Rattle.sccp_work.proofs.WorkLemmas.{Works-answered, Works-ask}
 use Rattle.sccp_work.specs.Ending.{IsCut, Works}
 use Rattle.sccp_work.specs.Moment.{Moment}
+use Rattle.sccp_work.specs.PlanFile.{PlanFile}
 use Rattle.sccp_work.specs.Plans.{HasPlan}
 use Rattle.sccp_work.specs.Questions.{survey_of}
 use Rattle.sccp_work.specs.Work.{answered, Ends}
@@ -58,47 +59,47 @@ Ends-survey contents plan s text h =
 abbrev IsSurveyedWith : List ℕ → Network → Status → Type 0
 IsSurveyedWith text plan s = Surveyed plan s text
 
-plan_ends : (contents : Option Contents) (name : List ℕ) (s : Status) (text : List ℕ) → Ends contents (unused_work name) s text
-    → PlanEnds contents name (IsSurveyedWith text) s
-plan_ends contents name s text h = Ends-with_plan (IsSurveyedWith text) contents name survey_work s text
+plan_ends : (contents : Option Contents) (file : PlanFile) (s : Status) (text : List ℕ) → Ends contents (unused_work file) s text
+    → PlanEnds contents file (IsSurveyedWith text) s
+plan_ends contents file s text h = Ends-with_plan (IsSurveyedWith text) contents file survey_work s text
     (λ plan e. Ends-survey contents plan s text e) h
 
 -- ---- the cause of each answer
 
-cause_at : (contents : Option Contents) (name : List ℕ) (plan : Network) (survey : Survey) → IsLawfulSurvey plan survey
-    → HasPlan contents name (λ p. p ≡ plan) → UnusedCause contents name (survey_status survey)
-cause_at contents name plan (surveys.Unused found) lawful has = (has.0, has.1, has.2, ap is_ok has.3.1)
-cause_at contents name plan surveys.TooWide lawful has =
+cause_at : (contents : Option Contents) (file : PlanFile) (plan : Network) (survey : Survey) → IsLawfulSurvey plan survey
+    → HasPlan contents file (λ p. p ≡ plan) → UnusedCause contents file (survey_status survey)
+cause_at contents file plan (surveys.Unused found) lawful has = (has.0, has.1, has.2, ap is_ok has.3.1)
+cause_at contents file plan surveys.TooWide lawful has =
     (has.0, has.1, has.2, (has.3.0, has.3.1, subst MeetsMany (sym has.3.2) lawful))
 
-only : (contents : Option Contents) (name : List ℕ) (s : Status) (text : List ℕ) → PlanEnds contents name (IsSurveyedWith text) s
-    → UnusedCause contents name s
-only contents name TooLong text (long h) = h
-only contents name BadPlan text (bad h) = h
-only contents name s text (good h) =
-    subst (UnusedCause contents name) (sym h.3.2.status)
-    (cause_at contents name h.3.0 h.3.2.survey h.3.2.lawful (h.0, h.1, h.2, (h.3.0, h.3.1, refl)))
+only : (contents : Option Contents) (file : PlanFile) (s : Status) (text : List ℕ) → PlanEnds contents file (IsSurveyedWith text) s
+    → UnusedCause contents file s
+only contents file TooLong text (long h) = h
+only contents file BadPlan text (bad h) = h
+only contents file s text (good h) =
+    subst (UnusedCause contents file) (sym h.3.2.status)
+    (cause_at contents file h.3.0 h.3.2.survey h.3.2.lawful (h.0, h.1, h.2, (h.3.0, h.3.1, refl)))
 
 done_unless : (plan : Network) (survey : Survey) → IsLawfulSurvey plan survey → (MeetsMany plan → ⊥) → survey_status survey ≡ Done
 done_unless plan (surveys.Unused found) lawful few = refl
 done_unless plan surveys.TooWide lawful few = absurd (few lawful)
 
-always : (c : Contents) (name : List ℕ) (t s : Status) (text : List ℕ) → UnusedSure (Some c) name t
-    → PlanEnds (Some c) name (IsSurveyedWith text) s → s ≡ t
-always c name Done s text has ends =
-    let j = at_plan c name (IsSurveyedWith text) (λ plan. MeetsMany plan → ⊥) s ends has in
+always : (c : Contents) (file : PlanFile) (t s : Status) (text : List ℕ) → UnusedSure (Some c) file t
+    → PlanEnds (Some c) file (IsSurveyedWith text) s → s ≡ t
+always c file Done s text has ends =
+    let j = at_plan c file (IsSurveyedWith text) (λ plan. MeetsMany plan → ⊥) s ends has in
     j.status ∙ done_unless has.3.0 j.survey j.lawful has.3.2
-always c name BadPlan s text has ends = if_bad c name (IsSurveyedWith text) s ends has
-always c name TooLong s text has ends = if_long c name (IsSurveyedWith text) s ends has
-always c name t s text has ends = absurd has
+always c file BadPlan s text has ends = if_bad c file (IsSurveyedWith text) s ends has
+always c file TooLong s text has ends = if_long c file (IsSurveyedWith text) s ends has
+always c file t s text has ends = absurd has
 
 -- ---- what the text says
 
-tells : (contents : Option Contents) (name : List ℕ) (s : Status) (text : List ℕ) (taken taken' : Option (List ℕ))
-    → taken' ≡ append_known taken text → PlanEnds contents name (IsSurveyedWith text) s → UnusedTells contents name s taken taken'
-tells contents name TooLong text taken taken' is (long h) = λ given. absurd given
-tells contents name BadPlan text taken taken' is (bad h) = λ given. absurd given
-tells contents name s text taken taken' is (good h) = λ given. (
+tells : (contents : Option Contents) (file : PlanFile) (s : Status) (text : List ℕ) (taken taken' : Option (List ℕ))
+    → taken' ≡ append_known taken text → PlanEnds contents file (IsSurveyedWith text) s → UnusedTells contents file s taken taken'
+tells contents file TooLong text taken taken' is (long h) = λ given. absurd given
+tells contents file BadPlan text taken taken' is (bad h) = λ given. absurd given
+tells contents file s text taken taken' is (good h) = λ given. (
   h.0,
   h.1,
   h.2,
@@ -114,14 +115,14 @@ tells contents name s text taken taken' is (good h) = λ given. (
   ),
 )
 
-pub unused_causes : (name : List ℕ) → Causes (Some (Unused name))
-unused_causes name = record {
-  only = λ c s text h. only (Some c) name s text (plan_ends (Some c) name s text h);
-  usage = λ contents text h. absurd (only contents name Usage text (plan_ends contents name Usage text h));
-  always = λ c t s text cause h. always c name t s text cause (plan_ends (Some c) name s text h);
+pub unused_causes : (file : PlanFile) → Causes (Some (Unused file))
+unused_causes file = record {
+  only = λ c s text h. only (Some c) file s text (plan_ends (Some c) file s text h);
+  usage = λ contents text h. absurd (only contents file Usage text (plan_ends contents file Usage text h));
+  always = λ c t s text cause h. always c file t s text cause (plan_ends (Some c) file s text h);
   refused = λ c s text cause h. absurd cause;
-  tells = λ c s text taken taken' is ends. λ given. tells (Some c) name s text taken taken' is
-      (plan_ends (Some c) name s text (ends given)) given;
+  tells = λ c s text taken taken' is ends. λ given. tells (Some c) file s text taken taken' is
+      (plan_ends (Some c) file s text (ends given)) given;
   journeys = λ c s b a is o. tt;
-  files = λ c has. plan_files c name survey_work (λ plan survey is. tt) has;
+  files = λ c has. plan_files c file survey_work (λ plan survey is. tt) has;
 }

@@ -7,6 +7,7 @@ use Rattle.plan_verify.specs.declared.verdict.Verdict.{Verdict}
 use Rattle.plan_verify.specs.declared.verdict.Verdict.TheVariants as verdicts
 use Rattle.sccp_io.specs.Files.{Contents}
 use Rattle.sccp_report.specs.Verdicts.{verdict_text}
+use Rattle.sccp_work.specs.PlanFile.{PlanFile}
 use Rattle.sccp_work.specs.Plans.{HasPlan}
 use Rattle.sccp_tool.specs.Task.{Verify}
 use Rattle.sccp_work.specs.Verdict.{status_of, IsSafe, IsBad, IsWide}
@@ -36,51 +37,51 @@ Ends-judged contents plan s text h = record {
   whole = h.2.1 ∙ ap (λ rest. verdict_text plan h.0 ++ rest) h.2.2.1 ∙ append-nil (verdict_text plan h.0);
 }
 
-plan_ends : (contents : Option Contents) (name : List ℕ) (s : Status) (text : List ℕ) → Ends contents (verify_work name) s text
-    → PlanEnds contents name (Judged text) s
-plan_ends contents name s text h = Ends-with_plan (Judged text) contents name judged_work s text
+plan_ends : (contents : Option Contents) (file : PlanFile) (s : Status) (text : List ℕ) → Ends contents (verify_work file) s text
+    → PlanEnds contents file (Judged text) s
+plan_ends contents file s text h = Ends-with_plan (Judged text) contents file judged_work s text
     (λ plan e. Ends-judged contents plan s text e) h
 
 -- ---- what each answer says of the plan
 
-pub cause_of : (contents : Option Contents) (name : List ℕ) (plan : Network) (v : Verdict)
-    → ((P : Network → Type 0) → P plan → HasPlan contents name P) → IsLawful plan v → VerifyCause contents name (status_of v)
-cause_of contents name plan (verdicts.Accepted accepted) here lawful = here IsSafe (accepted.bound, lawful.0)
-cause_of contents name plan (verdicts.Refused same witness) here lawful = here IsBad (witness, lawful)
-cause_of contents name plan (verdicts.TooWide same) here lawful = here IsWide lawful
+pub cause_of : (contents : Option Contents) (file : PlanFile) (plan : Network) (v : Verdict)
+    → ((P : Network → Type 0) → P plan → HasPlan contents file P) → IsLawful plan v → VerifyCause contents file (status_of v)
+cause_of contents file plan (verdicts.Accepted accepted) here lawful = here IsSafe (accepted.bound, lawful.0)
+cause_of contents file plan (verdicts.Refused same witness) here lawful = here IsBad (witness, lawful)
+cause_of contents file plan (verdicts.TooWide same) here lawful = here IsWide lawful
 
-only : (contents : Option Contents) (name : List ℕ) (s : Status) (text : List ℕ) → PlanEnds contents name (Judged text) s
-    → VerifyCause contents name s
-only contents name TooLong text (long h) = h
-only contents name BadPlan text (bad h) = h
-only contents name s text (good h) =
-    subst (VerifyCause contents name) (sym h.3.2.status)
-    (cause_of contents name h.3.0 h.3.2.verdict (λ P p. (h.0, h.1, h.2, (h.3.0, h.3.1, p))) h.3.2.lawful)
+only : (contents : Option Contents) (file : PlanFile) (s : Status) (text : List ℕ) → PlanEnds contents file (Judged text) s
+    → VerifyCause contents file s
+only contents file TooLong text (long h) = h
+only contents file BadPlan text (bad h) = h
+only contents file s text (good h) =
+    subst (VerifyCause contents file) (sym h.3.2.status)
+    (cause_of contents file h.3.0 h.3.2.verdict (λ P p. (h.0, h.1, h.2, (h.3.0, h.3.1, p))) h.3.2.lawful)
 
 -- ---- what each answer follows from
 
-always : (c : Contents) (name : List ℕ) (t s : Status) (text : List ℕ) → VerifySure (Some c) name t → PlanEnds (Some c) name (Judged text) s
+always : (c : Contents) (file : PlanFile) (t s : Status) (text : List ℕ) → VerifySure (Some c) file t → PlanEnds (Some c) file (Judged text) s
     → s ≡ t
-always c name Done s text has ends =
-    let j = at_plan c name (Judged text) (λ plan. IsSafe plan × (IsWide plan → ⊥)) s ends has in
+always c file Done s text has ends =
+    let j = at_plan c file (Judged text) (λ plan. IsSafe plan × (IsWide plan → ⊥)) s ends has in
     done_if_safe has.3.0 j.verdict s j.lawful j.status has.3.2.0 has.3.2.1
-always c name BadPlan s text has ends = if_bad c name (Judged text) s ends has
-always c name TooLong s text has ends = if_long c name (Judged text) s ends has
-always c name t s text has ends = absurd has
+always c file BadPlan s text has ends = if_bad c file (Judged text) s ends has
+always c file TooLong s text has ends = if_long c file (Judged text) s ends has
+always c file t s text has ends = absurd has
 
-refused : (c : Contents) (name : List ℕ) (s : Status) (text : List ℕ) → HasPlan (Some c) name IsBad → PlanEnds (Some c) name (Judged text) s
+refused : (c : Contents) (file : PlanFile) (s : Status) (text : List ℕ) → HasPlan (Some c) file IsBad → PlanEnds (Some c) file (Judged text) s
     → (s ≡ Refused) ⊎ (s ≡ TooWide)
-refused c name s text has ends =
-    let j = at_plan c name (Judged text) IsBad s ends has in
+refused c file s text has ends =
+    let j = at_plan c file (Judged text) IsBad s ends has in
     refused_if_bad has.3.0 j.verdict s j.lawful j.status has.3.2
 
 -- the text gives the verdict
 
-tells : (contents : Option Contents) (name : List ℕ) (s : Status) (text : List ℕ) (taken taken' : Option (List ℕ))
-    → taken' ≡ append_known taken text → PlanEnds contents name (Judged text) s → VerifyTells contents name s taken taken'
-tells contents name TooLong text taken taken' is (long h) = λ given. absurd given
-tells contents name BadPlan text taken taken' is (bad h) = λ given. absurd given
-tells contents name s text taken taken' is (good h) = λ given. (
+tells : (contents : Option Contents) (file : PlanFile) (s : Status) (text : List ℕ) (taken taken' : Option (List ℕ))
+    → taken' ≡ append_known taken text → PlanEnds contents file (Judged text) s → VerifyTells contents file s taken taken'
+tells contents file TooLong text taken taken' is (long h) = λ given. absurd given
+tells contents file BadPlan text taken taken' is (bad h) = λ given. absurd given
+tells contents file s text taken taken' is (good h) = λ given. (
   h.0,
   h.1,
   h.2,
@@ -97,14 +98,14 @@ tells contents name s text taken taken' is (good h) = λ given. (
   ),
 )
 
-pub verify_causes : (name : List ℕ) → Causes (Some (Verify name))
-verify_causes name = record {
-  only = λ c s text h. only (Some c) name s text (plan_ends (Some c) name s text h);
-  usage = λ contents text h. absurd (only contents name Usage text (plan_ends contents name Usage text h));
-  always = λ c t s text cause h. always c name t s text cause (plan_ends (Some c) name s text h);
-  refused = λ c s text cause h. refused c name s text cause (plan_ends (Some c) name s text h);
-  tells = λ c s text taken taken' is ends. λ given. tells (Some c) name s text taken taken' is
-      (plan_ends (Some c) name s text (ends given)) given;
+pub verify_causes : (file : PlanFile) → Causes (Some (Verify file))
+verify_causes file = record {
+  only = λ c s text h. only (Some c) file s text (plan_ends (Some c) file s text h);
+  usage = λ contents text h. absurd (only contents file Usage text (plan_ends contents file Usage text h));
+  always = λ c t s text cause h. always c file t s text cause (plan_ends (Some c) file s text h);
+  refused = λ c s text cause h. refused c file s text cause (plan_ends (Some c) file s text h);
+  tells = λ c s text taken taken' is ends. λ given. tells (Some c) file s text taken taken' is
+      (plan_ends (Some c) file s text (ends given)) given;
   journeys = λ c s b a is o. tt;
-  files = λ c there. plan_files c name judged_work (λ plan v judged. tt) there;
+  files = λ c there. plan_files c file judged_work (λ plan v judged. tt) there;
 }

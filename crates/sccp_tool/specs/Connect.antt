@@ -9,6 +9,7 @@ use Rattle.chain_call.specs.declared.outcome.Outcome.{Outcome}
 use Rattle.chain_call.specs.declared.outcome.Outcome.TheVariants.{Unsettled, Unanswered, Refused, Opened}
 use Rattle.chain_call.specs.declared.outcome.Through.{Through}
 use Rattle.chain_world.specs.Kept.{kept}
+use Rattle.plan_model.specs.declared.limits.Limits.{Limits}
 use Rattle.plan_model.specs.Network.{Network, has_name, has_point}
 use Rattle.sccp_base.specs.Text.{point_code_of}
 use Rattle.sccp_message.specs.declared.cause.CauseTable.TheVariants.{Refusal}
@@ -18,6 +19,7 @@ use Rattle.sccp_scrc.specs.Arriving.{point_of}
 use Rattle.trace_text.specs.Forms.{file_name}
 use Rattle.trace_text.specs.Hex.{hex_word}
 use Rattle.sccp_work.specs.Accepting.{if_accepted}
+use Rattle.sccp_work.specs.PlanFile.{PlanFile, plan_file}
 use Rattle.sccp_work.specs.Plans.{with_plan}
 use Rattle.sccp_tool.specs.Starts.{start_of}
 use Rattle.sccp_tool.specs.Task.{Task, Connect}
@@ -43,14 +45,15 @@ calling_of node from selector ssn digits octets =
     (λ pc. option_map (λ b. record { start = start; from = pc; octets = b })
     (hex_word octets)) (point_code_of from)) (said title)) (start_of node selector ssn digits)
 
-unfoldable pub connect_of : List ℕ → List ℕ → List ℕ → List ℕ → List ℕ → List ℕ → List ℕ → Option Task
-connect_of plan node from selector ssn digits octets = option_and_then
-    (λ name. option_map (Connect name) (calling_of node from selector ssn digits octets)) (file_name plan)
+unfoldable pub connect_of : Limits → List ℕ → List ℕ → List ℕ → List ℕ → List ℕ → List ℕ → List ℕ → Option Task
+connect_of limits plan node from selector ssn digits octets = option_and_then
+    (λ name. option_map (Connect (plan_file name limits)) (calling_of node from selector ssn digits octets)) (file_name plan)
 
 -- PLAN NODE FROM SELECTOR SSN DIGITS HEX
-unfoldable pub connect_words : List (List ℕ) → Option Task
-connect_words (plan ∷ node ∷ from ∷ selector ∷ ssn ∷ digits ∷ octets ∷ []) = connect_of plan node from selector ssn digits octets
-connect_words words = None
+unfoldable pub connect_words : Limits → List (List ℕ) → Option Task
+connect_words limits (plan ∷ node ∷ from ∷ selector ∷ ssn ∷ digits ∷ octets ∷ []) =
+    connect_of limits plan node from selector ssn digits octets
+connect_words limits words = None
 
 -- ---- the lines
 
@@ -121,5 +124,5 @@ abbrev pub connect_judged : Calling → Network → Work
 connect_judged calling plan = if_accepted [] plan (λ accepted. answered (Done, connect_text plan calling))
 
 -- the plan is read and verified first
-abbrev pub connect_work : List ℕ → Calling → Work
-connect_work name calling = with_plan name (λ plan. connect_judged calling plan)
+abbrev pub connect_work : PlanFile → Calling → Work
+connect_work file calling = with_plan file (λ plan. connect_judged calling plan)

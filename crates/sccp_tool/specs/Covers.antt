@@ -3,7 +3,7 @@ use Rattle.std.specs.Prelude.{◌≡◌, ℕ, ◌+◌, ◌<◌, List, [], ◌∷
 use Rattle.std.specs.List.{Any}
 use Rattle.std.specs.Io.KnownBytes.{append_known}
 use Rattle.plan_model.specs.Alone.{alone}
-use Rattle.plan_model.specs.Network.{Network, network}
+use Rattle.plan_model.specs.Network.{Network, network_within}
 use Rattle.plan_model.specs.Verdicts.{Tight, Bad}
 use Rattle.plan_model.specs.declared.cover.Cover.{Cover}
 use Rattle.plan_model.specs.declared.node.Node.{Node}
@@ -14,6 +14,7 @@ use Rattle.plan_verify.specs.declared.verdict.Verdict.{Verdict}
 use Rattle.plan_verify.specs.declared.verdict.Verdict.TheVariants.{Refused as RefusedPlan}
 use Rattle.plan_verify.specs.declared.witness.Witness.{Witness}
 use Rattle.sccp_base.specs.declared.mark.Mark.{Mark}
+use Rattle.plan_model.specs.declared.limits.Limits.{Limits}
 use Rattle.sccp_io.specs.Files.{Contents}
 use Rattle.sccp_report.specs.Covers.{cover_text}
 use Rattle.sccp_tool.specs.Tallies.{none_yet, counted, tallied, tally_status, tally_line}
@@ -23,6 +24,7 @@ use Rattle.sccp_tool.specs.declared.tally.Tally.{Tally}
 use Rattle.sccp_work.specs.Ending.{Works}
 use Rattle.sccp_work.specs.Limit.{HasLongFile}
 use Rattle.sccp_work.specs.Moment.{Moment}
+use Rattle.sccp_work.specs.PlanFile.{PlanFile, plan_file}
 use Rattle.sccp_work.specs.Plans.{with_plan, HasPlan, HasBadPlan}
 use Rattle.sccp_work.specs.Verdict.{IsSafe, IsBad, IsWide, IsOnVerdict}
 use Rattle.sccp_work.specs.Work.{Work, judge, print, answered}
@@ -32,43 +34,43 @@ use Rattle.sccp_work.specs.declared.stop.Stop.{Stop}
 use Rattle.trace_text.specs.Forms.{file_name}
 
 -- PLAN
-unfoldable pub covers_words : List (List ℕ) → Option Task
-covers_words (name ∷ []) = option_map Covers (file_name name)
-covers_words words = None
+unfoldable pub covers_words : Limits → List (List ℕ) → Option Task
+covers_words limits (name ∷ []) = option_map (λ n. Covers (plan_file n limits)) (file_name name)
+covers_words limits words = None
 
 -- The relays with each of the covers alone are judged, and the verdict is printed under the cover's number. The last line and the
 -- answer are those of all verdicts.
-abbrev pub covers_on : List Node → ℕ → List Cover → Tally → Work
-covers_on nodes number [] tally = answered (tally_status tally, tally_line tally)
-covers_on nodes number (cover ∷ covers) tally =
-    judge (network nodes (cover ∷ [])) (λ verdict. print (cover_text number (network nodes (cover ∷ [])) verdict)
-    (covers_on nodes (number + 1) covers (counted tally verdict)))
+abbrev pub covers_on : Limits → List Node → ℕ → List Cover → Tally → Work
+covers_on limits nodes number [] tally = answered (tally_status tally, tally_line tally)
+covers_on limits nodes number (cover ∷ covers) tally =
+    judge (network_within limits nodes (cover ∷ [])) (λ verdict. print (cover_text number (network_within limits nodes (cover ∷ [])) verdict)
+    (covers_on limits nodes (number + 1) covers (counted tally verdict)))
 
 abbrev pub each_cover : Network → Work
-each_cover plan = covers_on plan.nodes 0 plan.covers none_yet
+each_cover plan = covers_on plan.limits plan.nodes 0 plan.covers none_yet
 
-abbrev pub covers_work : List ℕ → Work
-covers_work name = with_plan name each_cover
+abbrev pub covers_work : PlanFile → Work
+covers_work file = with_plan file each_cover
 
--- some cover alone reaches the most classes that a search goes over, or more
+-- some cover alone reaches the most classes that the plan's limits allow, or more
 abbrev pub HasWideCover : Network → Type 0
 HasWideCover plan = Any (λ cover. IsWide (alone plan cover)) plan.covers
 
 -- the cause of each answer
-abbrev pub CoversCause : Option Contents → List ℕ → Status → Type 0
-CoversCause contents name Done = HasPlan contents name IsSafe
-CoversCause contents name Refused = HasPlan contents name IsBad
-CoversCause contents name TooWide = HasPlan contents name HasWideCover
-CoversCause contents name BadPlan = HasBadPlan contents name
-CoversCause contents name TooLong = HasLongFile contents name
-CoversCause contents name answer = ⊥
+abbrev pub CoversCause : Option Contents → PlanFile → Status → Type 0
+CoversCause contents file Done = HasPlan contents file IsSafe
+CoversCause contents file Refused = HasPlan contents file IsBad
+CoversCause contents file TooWide = HasPlan contents file HasWideCover
+CoversCause contents file BadPlan = HasBadPlan contents file
+CoversCause contents file TooLong = HasLongFile contents file
+CoversCause contents file answer = ⊥
 
 -- what gives an answer for sure: a cover that is wide may be reported as too wide, whether or not the plan is safe
-abbrev pub CoversSure : Option Contents → List ℕ → Status → Type 0
-CoversSure contents name Done = HasPlan contents name (λ plan. IsSafe plan × (HasWideCover plan → ⊥))
-CoversSure contents name Refused = ⊥
-CoversSure contents name TooWide = ⊥
-CoversSure contents name answer = CoversCause contents name answer
+abbrev pub CoversSure : Option Contents → PlanFile → Status → Type 0
+CoversSure contents file Done = HasPlan contents file (λ plan. IsSafe plan × (HasWideCover plan → ⊥))
+CoversSure contents file Refused = ⊥
+CoversSure contents file TooWide = ⊥
+CoversSure contents file answer = CoversCause contents file answer
 
 -- the text of the verdicts on these covers, from this number on
 abbrev pub blocks_text : Network → ℕ → List Cover → List Verdict → List ℕ
@@ -91,19 +93,19 @@ pub record TellsCovers (plan : Network) (given : Status) (taken taken' : Option 
   pub safe : given ≡ Done → 0 < length plan.covers → IsSafeFor plan (greatest_bound verdicts)
       × ((spot : Spot) × (markings : List (List Mark)) × Tight plan (greatest_bound verdicts) spot markings)
 
-abbrev pub CoversTells : Option Contents → List ℕ → Status → Option (List ℕ) → Option (List ℕ) → Type 0
-CoversTells contents name given taken taken' = IsOnVerdict given → HasPlan contents name (λ plan. TellsCovers plan given taken taken')
+abbrev pub CoversTells : Option Contents → PlanFile → Status → Option (List ℕ) → Option (List ℕ) → Type 0
+CoversTells contents file given taken taken' = IsOnVerdict given → HasPlan contents file (λ plan. TellsCovers plan given taken taken')
 
 -- ---- what the code gives while the work is done
 
 -- Whatever covers are left: from the next cover the work goes on, and otherwise it has stopped.
-abbrev pub GivesNext : List Node → ℕ → Cover → Tally → Result Judging Stop → Moment → Moment → Type 0
-GivesNext nodes number cover tally (Ok judging) first now =
+abbrev pub GivesNext : Limits → List Node → ℕ → Cover → Tally → Result Judging Stop → Moment → Moment → Type 0
+GivesNext limits nodes number cover tally (Ok judging) first now =
     (covers : List Cover) (result : Result Status Stop) (after : Moment)
-    → Works (covers_on nodes (number + 1) covers judging.tally) result now after
-    → Works (covers_on nodes number (cover ∷ covers) tally) result first after
-GivesNext nodes number cover tally (Err stop) first now =
-    (covers : List Cover) → Works (covers_on nodes number (cover ∷ covers) tally) (Err stop) first now
+    → Works (covers_on limits nodes (number + 1) covers judging.tally) result now after
+    → Works (covers_on limits nodes number (cover ∷ covers) tally) result first after
+GivesNext limits nodes number cover tally (Err stop) first now =
+    (covers : List Cover) → Works (covers_on limits nodes number (cover ∷ covers) tally) (Err stop) first now
 
 -- Once all covers are judged, the work goes on with what they come to.
 abbrev pub GivesTally : Network → Result Tally Stop → Moment → Moment → Type 0

@@ -7,6 +7,7 @@ use Rattle.plan_margin.specs.Outages.{SurvivesBelow}
 use Rattle.plan_margin.specs.declared.margin.Margin.{Margin as Measure}
 use Rattle.plan_margin.specs.declared.margin.Margin.TheVariants.{Stopped as StoppedBy, TooWide as WideMargin}
 use Rattle.plan_margin.specs.declared.stop.Stop.{Stop as StoppedTitle}
+use Rattle.plan_model.specs.declared.limits.Limits.{Limits}
 use Rattle.plan_model.specs.Network.{Network}
 use Rattle.sccp_base.specs.Text.{below, decimal_of}
 use Rattle.sccp_io.specs.Files.{Contents}
@@ -18,6 +19,7 @@ use Rattle.sccp_work.specs.AcceptedPlan.{with_accepted, IsSurelySafe, TellsPlan}
 use Rattle.sccp_work.specs.Ending.{Works}
 use Rattle.sccp_work.specs.Limit.{HasLongFile}
 use Rattle.sccp_work.specs.Moment.{Moment}
+use Rattle.sccp_work.specs.PlanFile.{PlanFile, plan_file}
 use Rattle.sccp_work.specs.Plans.{HasPlan, HasBadPlan}
 use Rattle.sccp_work.specs.Questions.{margin_of}
 use Rattle.sccp_work.specs.Verdict.{IsSafe, IsBad, IsWide, IsOnVerdict}
@@ -31,13 +33,14 @@ use Rattle.trace_text.specs.Forms.{file_name}
 abbrev pub losses_in : List ℕ → Option ℕ
 losses_in word = below 100 (decimal_of 2 word)
 
-unfoldable pub margin_with : List ℕ → List ℕ → Option Task
-margin_with name losses = option_and_then (λ n. option_map (λ l. Margin n l) (losses_in losses)) (file_name name)
+unfoldable pub margin_with : Limits → List ℕ → List ℕ → Option Task
+margin_with limits name losses =
+    option_and_then (λ n. option_map (λ l. Margin (plan_file n limits) l) (losses_in losses)) (file_name name)
 
 -- PLAN LOSSES
-unfoldable pub margin_words : List (List ℕ) → Option Task
-margin_words (name ∷ losses ∷ []) = margin_with name losses
-margin_words words = None
+unfoldable pub margin_words : Limits → List (List ℕ) → Option Task
+margin_words limits (name ∷ losses ∷ []) = margin_with limits name losses
+margin_words limits words = None
 
 -- Margins of this many covers, from this number on: each is asked for, and printed under the number of its cover. The last line and
 -- the answer are those of all margins.
@@ -50,8 +53,8 @@ margins_on plan losses number (suc more) tally =
 abbrev pub each_margin : ℕ → Network → Work
 each_margin losses plan = margins_on plan losses 0 (length plan.covers) none_yet
 
-abbrev pub margin_work : List ℕ → ℕ → Work
-margin_work name losses = with_accepted [] name (each_margin losses)
+abbrev pub margin_work : PlanFile → ℕ → Work
+margin_work file losses = with_accepted [] file (each_margin losses)
 
 -- ---- what the text says
 
@@ -85,10 +88,10 @@ pub record TellsMargins (plan : Network) (losses : ℕ) (given : Status) (text :
   pub survive : given ≡ Done → AllSurviveBelow plan (losses + 1)
 
 -- the sink took such a text after the verdict if the answer is one that a verdict or a margin gives
-abbrev pub MarginTells : Option Contents → List ℕ → ℕ → Status → Option (List ℕ) → Option (List ℕ) → Type 0
-MarginTells contents name losses given taken taken' =
+abbrev pub MarginTells : Option Contents → PlanFile → ℕ → Status → Option (List ℕ) → Option (List ℕ) → Type 0
+MarginTells contents file losses given taken taken' =
     IsOnVerdict given → (text : List ℕ) × (taken' ≡ append_known taken text)
-    × HasPlan contents name (λ plan. TellsPlan [] plan (TellsMargins plan losses) given text)
+    × HasPlan contents file (λ plan. TellsPlan [] plan (TellsMargins plan losses) given text)
 
 -- ---- the causes
 
@@ -103,22 +106,22 @@ HasWideMargin losses plan =
     (number : ℕ) × (count : ℕ) × (number < length plan.covers) × IsMargin plan number losses (WideMargin count)
 
 -- the cause of each answer
-abbrev pub MarginCause : Option Contents → List ℕ → ℕ → Status → Type 0
-MarginCause contents name losses Done = HasPlan contents name (λ plan. IsSafe plan × AllSurviveBelow plan (losses + 1))
-MarginCause contents name losses Refused = HasPlan contents name IsBad ⊎ HasPlan contents name (λ plan. IsSafe plan × HasStop losses plan)
-MarginCause contents name losses TooWide = HasPlan contents name IsWide
-    ⊎ HasPlan contents name (λ plan. IsSafe plan × HasWideMargin losses plan)
-MarginCause contents name losses BadPlan = HasBadPlan contents name
-MarginCause contents name losses TooLong = HasLongFile contents name
-MarginCause contents name losses answer = ⊥
+abbrev pub MarginCause : Option Contents → PlanFile → ℕ → Status → Type 0
+MarginCause contents file losses Done = HasPlan contents file (λ plan. IsSafe plan × AllSurviveBelow plan (losses + 1))
+MarginCause contents file losses Refused = HasPlan contents file IsBad ⊎ HasPlan contents file (λ plan. IsSafe plan × HasStop losses plan)
+MarginCause contents file losses TooWide = HasPlan contents file IsWide
+    ⊎ HasPlan contents file (λ plan. IsSafe plan × HasWideMargin losses plan)
+MarginCause contents file losses BadPlan = HasBadPlan contents file
+MarginCause contents file losses TooLong = HasLongFile contents file
+MarginCause contents file losses answer = ⊥
 
 -- what gives an answer for sure: what is wide may be reported as too wide
-abbrev pub MarginSure : Option Contents → List ℕ → ℕ → Status → Type 0
-MarginSure contents name losses Done =
-    HasPlan contents name (λ plan. IsSurelySafe plan × AllSurviveBelow plan (losses + 1) × (HasWideMargin losses plan → ⊥))
-MarginSure contents name losses Refused = ⊥
-MarginSure contents name losses TooWide = ⊥
-MarginSure contents name losses answer = MarginCause contents name losses answer
+abbrev pub MarginSure : Option Contents → PlanFile → ℕ → Status → Type 0
+MarginSure contents file losses Done =
+    HasPlan contents file (λ plan. IsSurelySafe plan × AllSurviveBelow plan (losses + 1) × (HasWideMargin losses plan → ⊥))
+MarginSure contents file losses Refused = ⊥
+MarginSure contents file losses TooWide = ⊥
+MarginSure contents file losses answer = MarginCause contents file losses answer
 
 -- ---- what the code gives while the work is done
 

@@ -33,18 +33,18 @@ abbrev pub work_of : Option Task → Work
 work_of None = answered (Usage, usage)
 work_of (Some (ShowHex octets)) = show_hex_work octets
 work_of (Some (Show name)) = show_work name
-work_of (Some (Verify name)) = verify_work name
-work_of (Some (Route name start)) = route_work name start
+work_of (Some (Verify file)) = verify_work file
+work_of (Some (Route file start)) = route_work file start
 work_of (Some (Replay plan trace workers)) = replay_work plan trace workers
 work_of (Some (Load number size workers)) = load_work number size
 work_of (Some (Cuts octets)) = cuts_work octets
 work_of (Some (Import plan file)) = import_work plan file
 work_of (Some (Change old new)) = change_work old new
-work_of (Some (Connect name calling)) = connect_work name calling
-work_of (Some (SendOn name incoming)) = send_on_work name incoming
-work_of (Some (Covers name)) = covers_work name
-work_of (Some (Unused name)) = unused_work name
-work_of (Some (Margin name losses)) = margin_work name losses
+work_of (Some (Connect file calling)) = connect_work file calling
+work_of (Some (SendOn file incoming)) = send_on_work file incoming
+work_of (Some (Covers file)) = covers_work file
+work_of (Some (Unused file)) = unused_work file
+work_of (Some (Margin file losses)) = margin_work file losses
 
 -- words of no shape
 abbrev pub UsageCause : Status → Type 0
@@ -56,28 +56,28 @@ abbrev pub Cause : Contents → Option Task → Status → Type 0
 Cause c None answer = UsageCause answer
 Cause c (Some (ShowHex octets)) answer = ShowHexCause answer
 Cause c (Some (Show name)) answer = ShowCause (Some c) name answer
-Cause c (Some (Verify name)) answer = VerifyCause (Some c) name answer
-Cause c (Some (Route name start)) answer = TextCause (Some c) name answer
+Cause c (Some (Verify file)) answer = VerifyCause (Some c) file answer
+Cause c (Some (Route file start)) answer = TextCause (Some c) file answer
 Cause c (Some (Replay plan trace workers)) answer = ReplayCause c plan trace answer
 Cause c (Some (Load number size workers)) answer = LoadCause answer
 Cause c (Some (Cuts octets)) answer = CutsCause answer
 Cause c (Some (Import plan file)) answer = ImportCause (Some c) plan file answer
 Cause c (Some (Change old new)) answer = ChangeCause (Some c) old new answer
-Cause c (Some (Connect name calling)) answer = VerifyCause (Some c) name answer
-Cause c (Some (SendOn name incoming)) answer = TextCause (Some c) name answer
-Cause c (Some (Covers name)) answer = CoversCause (Some c) name answer
-Cause c (Some (Unused name)) answer = UnusedCause (Some c) name answer
-Cause c (Some (Margin name losses)) answer = MarginCause (Some c) name losses answer
+Cause c (Some (Connect file calling)) answer = VerifyCause (Some c) file answer
+Cause c (Some (SendOn file incoming)) answer = TextCause (Some c) file answer
+Cause c (Some (Covers file)) answer = CoversCause (Some c) file answer
+Cause c (Some (Unused file)) answer = UnusedCause (Some c) file answer
+Cause c (Some (Margin file losses)) answer = MarginCause (Some c) file losses answer
 
 -- if this holds, the answer is given, but for a fault or want of memory before it
 abbrev pub SureCause : Contents → Option Task → Status → Type 0
-SureCause c (Some (Verify name)) answer = VerifySure (Some c) name answer
+SureCause c (Some (Verify file)) answer = VerifySure (Some c) file answer
 SureCause c (Some (Replay plan trace workers)) answer = ReplaySure c plan trace answer
 SureCause c (Some (Change old new)) answer = ChangeSure (Some c) old new answer
-SureCause c (Some (Connect name calling)) answer = VerifySure (Some c) name answer
-SureCause c (Some (Covers name)) answer = CoversSure (Some c) name answer
-SureCause c (Some (Unused name)) answer = UnusedSure (Some c) name answer
-SureCause c (Some (Margin name losses)) answer = MarginSure (Some c) name losses answer
+SureCause c (Some (Connect file calling)) answer = VerifySure (Some c) file answer
+SureCause c (Some (Covers file)) answer = CoversSure (Some c) file answer
+SureCause c (Some (Unused file)) answer = UnusedSure (Some c) file answer
+SureCause c (Some (Margin file losses)) answer = MarginSure (Some c) file losses answer
 SureCause c task answer = Cause c task answer
 
 -- What the sink took gives the verdict on a plan, on each of its covers by itself, or those on two plans and the answer on their
@@ -85,16 +85,16 @@ SureCause c task answer = Cause c task answer
 -- a faulty line. Of a long message that leaves a relay it is octets that carry its data in segments. Of a load it is counts that
 -- add up.
 abbrev pub TellsAnswer : Contents → Option Task → Status → Option (List ℕ) → Option (List ℕ) → Type 0
-TellsAnswer c (Some (Verify name)) given taken taken' = VerifyTells (Some c) name given taken taken'
+TellsAnswer c (Some (Verify file)) given taken taken' = VerifyTells (Some c) file given taken taken'
 TellsAnswer c (Some (Replay plan trace workers)) given taken taken' = ReplayTells c plan given taken taken'
 TellsAnswer c (Some (Change old new)) given taken taken' = ChangeTells (Some c) old new given taken taken'
-TellsAnswer c (Some (Connect name calling)) given taken taken' = ReplayTells c name given taken taken'
+TellsAnswer c (Some (Connect file calling)) given taken taken' = ReplayTells c file given taken taken'
 TellsAnswer c (Some (Load number size workers)) given taken taken' = LoadTells number size given taken taken'
 TellsAnswer c (Some (Import plan file)) given taken taken' = ImportTells (Some c) plan file given taken taken'
-TellsAnswer c (Some (SendOn name incoming)) given taken taken' = SendOnTells (Some c) name incoming given taken taken'
-TellsAnswer c (Some (Covers name)) given taken taken' = CoversTells (Some c) name given taken taken'
-TellsAnswer c (Some (Unused name)) given taken taken' = UnusedTells (Some c) name given taken taken'
-TellsAnswer c (Some (Margin name losses)) given taken taken' = MarginTells (Some c) name losses given taken taken'
+TellsAnswer c (Some (SendOn file incoming)) given taken taken' = SendOnTells (Some c) file incoming given taken taken'
+TellsAnswer c (Some (Covers file)) given taken taken' = CoversTells (Some c) file given taken taken'
+TellsAnswer c (Some (Unused file)) given taken taken' = UnusedTells (Some c) file given taken taken'
+TellsAnswer c (Some (Margin file losses)) given taken taken' = MarginTells (Some c) file losses given taken taken'
 TellsAnswer c task given taken taken' = Unit {0}
 
 -- what the sink took of a replay gives the bound of the first plan and, of each message that was routed, its whole journey
@@ -106,16 +106,16 @@ TellsJourneys c task given taken taken' = Unit {0}
 -- each file is there that the words name, or that a line of the trace names as a later plan
 abbrev pub HasNamedFiles : Contents → Option Task → Type 0
 HasNamedFiles c (Some (Show name)) = IsThere c name
-HasNamedFiles c (Some (Verify name)) = IsThere c name
-HasNamedFiles c (Some (Route name start)) = IsThere c name
-HasNamedFiles c (Some (Replay plan trace workers)) = IsThere c plan × IsThere c trace × LaterPlansThere c (lines_in c trace)
-HasNamedFiles c (Some (Import plan file)) = IsThere c plan × IsThere c file
-HasNamedFiles c (Some (Change old new)) = IsThere c old × IsThere c new
-HasNamedFiles c (Some (Connect name calling)) = IsThere c name
-HasNamedFiles c (Some (SendOn name incoming)) = IsThere c name
-HasNamedFiles c (Some (Covers name)) = IsThere c name
-HasNamedFiles c (Some (Unused name)) = IsThere c name
-HasNamedFiles c (Some (Margin name losses)) = IsThere c name
+HasNamedFiles c (Some (Verify file)) = IsThere c file.name
+HasNamedFiles c (Some (Route file start)) = IsThere c file.name
+HasNamedFiles c (Some (Replay plan trace workers)) = IsThere c plan.name × IsThere c trace × LaterPlansThere c (lines_in c trace)
+HasNamedFiles c (Some (Import plan file)) = IsThere c plan.name × IsThere c file
+HasNamedFiles c (Some (Change old new)) = IsThere c old.name × IsThere c new.name
+HasNamedFiles c (Some (Connect file calling)) = IsThere c file.name
+HasNamedFiles c (Some (SendOn file incoming)) = IsThere c file.name
+HasNamedFiles c (Some (Covers file)) = IsThere c file.name
+HasNamedFiles c (Some (Unused file)) = IsThere c file.name
+HasNamedFiles c (Some (Margin file losses)) = IsThere c file.name
 HasNamedFiles c task = Unit {0}
 
 -- this answer is given exactly if the cause holds, but for a fault or want of memory before it

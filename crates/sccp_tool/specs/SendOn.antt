@@ -8,6 +8,7 @@ use Rattle.long_segments.specs.Sending.{sending}
 use Rattle.long_segments.specs.declared.long_fault.LongFault.{LongFault}
 use Rattle.long_segments.specs.declared.long_fault.LongFault.TheVariants.{NotLong, AlreadySegment, ZeroSize, TooMany, NotWritable}
 use Rattle.long_segments.specs.declared.long_fault.LongFault.TheVariants.{OutOfMemory}
+use Rattle.plan_model.specs.declared.limits.Limits.{Limits}
 use Rattle.plan_model.specs.Network.{Network, IsPlan, has_name}
 use Rattle.sccp_address.specs.declared.address.Address.{Address}
 use Rattle.sccp_base.specs.Names.{name_of}
@@ -27,6 +28,7 @@ use Rattle.sccp_scrc.specs.declared.arrival.Arrival.{Arrival}
 use Rattle.sccp_scrc.specs.declared.arrival.Arrival.TheVariants.{Relayed, Ended, Local, Returned, Connection, Management, Undecodable}
 use Rattle.trace_text.specs.Forms.{file_name}
 use Rattle.trace_text.specs.Hex.{hex_word}
+use Rattle.sccp_work.specs.PlanFile.{PlanFile, plan_file}
 use Rattle.sccp_work.specs.Plans.{with_plan, HasPlan}
 use Rattle.sccp_tool.specs.Task.{Task, SendOn}
 use Rattle.sccp_tool.specs.Texts.{unknown_node}
@@ -48,14 +50,15 @@ incoming_of node origin size digits =
     Some (record { node = name; origin = pc; size = n; octets = octets }))
     (hex_word digits)) (size_of size)) (point_code_of origin)) (name_of node)
 
-unfoldable pub send_on_of : List ℕ → List ℕ → List ℕ → List ℕ → List ℕ → Option Task
-send_on_of plan node origin size digits = option_and_then (λ name. option_map (SendOn name) (incoming_of node origin size digits))
+unfoldable pub send_on_of : Limits → List ℕ → List ℕ → List ℕ → List ℕ → List ℕ → Option Task
+send_on_of limits plan node origin size digits = option_and_then (λ name. option_map (SendOn (plan_file name limits))
+    (incoming_of node origin size digits))
     (file_name plan)
 
 -- PLAN NODE ORIGIN SIZE HEX
-unfoldable pub send_on_words : List (List ℕ) → Option Task
-send_on_words (plan ∷ node ∷ origin ∷ size ∷ digits ∷ []) = send_on_of plan node origin size digits
-send_on_words words = None
+unfoldable pub send_on_words : Limits → List (List ℕ) → Option Task
+send_on_words limits (plan ∷ node ∷ origin ∷ size ∷ digits ∷ []) = send_on_of limits plan node origin size digits
+send_on_words limits words = None
 
 -- ---- the lines
 
@@ -106,8 +109,8 @@ abbrev pub send_on_text : Network → Incoming → List ℕ
 send_on_text plan i = lines_at plan i (position (has_name i.node) plan.nodes)
 
 -- the plan is read first, and not verified
-abbrev pub send_on_work : List ℕ → Incoming → Work
-send_on_work name i = with_plan name (λ plan. answered (Done, send_on_text plan i))
+abbrev pub send_on_work : PlanFile → Incoming → Work
+send_on_work file i = with_plan file (λ plan. answered (Done, send_on_text plan i))
 
 -- ---- what the text says
 
@@ -140,8 +143,8 @@ pub record IsGiven (i : Incoming) : Type 0 where
   pub octets : AllByRecursion (λ o. o < 256) i.octets
 
 -- The sink took a text that says so of what becomes of the octets at the relay of that name. What is read from a text is a plan.
-abbrev pub SendOnTells : Option Contents → List ℕ → Incoming → Status → Option (List ℕ) → Option (List ℕ) → Type 0
-SendOnTells contents name i given taken taken' = given ≡ Done → HasPlan contents name (λ plan. (text : List ℕ)
+abbrev pub SendOnTells : Option Contents → PlanFile → Incoming → Status → Option (List ℕ) → Option (List ℕ) → Type 0
+SendOnTells contents file i given taken taken' = given ≡ Done → HasPlan contents file (λ plan. (text : List ℕ)
     × (taken' ≡ append_known taken text) × (IsPlan plan → IsGiven i → (node : ℕ)
     → position (has_name i.node) plan.nodes ≡ Some node → TellsLeaving (arrival plan node [] i.origin i.octets) text))
 

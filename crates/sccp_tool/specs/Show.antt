@@ -11,6 +11,7 @@ use Rattle.trace_text.specs.declared.line_fault.LineFault.{LineFault}
 use Rattle.trace_text.specs.declared.line_fault.LineKind.TheVariants.{NotALine}
 use Rattle.sccp_work.specs.Limit.{within_limit, HasFile, HasLongFile}
 use Rattle.sccp_work.specs.LineFault.{bad_line}
+use Rattle.sccp_work.specs.PlanFile.{plain}
 use Rattle.sccp_tool.specs.Task.{Task, Show}
 use Rattle.sccp_work.specs.Work.{Work, answered}
 use Rattle.sccp_tool.specs.declared.show.ShowError.{ShowError}
@@ -60,14 +61,14 @@ show_answer octets = answer_for (shown_lines 1 (lines_of octets))
 
 -- the file is read and checked whole before anything is printed
 abbrev pub show_work : List ℕ → Work
-show_work name = within_limit name (λ octets. answered (show_answer octets))
+show_work name = within_limit (plain name) (λ octets. answered (show_answer octets))
 
 -- The cause of each answer. Either the file is within the limit and has no faulty line. Or it has a line that is no word of
 -- hexadecimal digits or breaks a limit of lines. Or it is too long.
 abbrev pub ShowCause : Option Contents → List ℕ → Status → Type 0
-ShowCause contents name Done = HasFile contents name (λ octets. IsOk (shown_lines 1 (lines_of octets)))
-ShowCause contents name BadTrace = HasFile contents name (λ octets. IsErr (shown_lines 1 (lines_of octets)))
-ShowCause contents name TooLong = HasLongFile contents name
+ShowCause contents name Done = HasFile contents (plain name) (λ octets. IsOk (shown_lines 1 (lines_of octets)))
+ShowCause contents name BadTrace = HasFile contents (plain name) (λ octets. IsErr (shown_lines 1 (lines_of octets)))
+ShowCause contents name TooLong = HasLongFile contents (plain name)
 ShowCause contents name answer = ⊥
 
 -- the code gives the text or the fault, unless memory ran out

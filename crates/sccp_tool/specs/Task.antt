@@ -1,5 +1,6 @@
 -- What the words of the command line ask for.
 use Rattle.std.specs.Prelude.{ℕ, List}
+use Rattle.sccp_work.specs.PlanFile.{PlanFile}
 use Rattle.sccp_tool.specs.declared.connect.Calling.{Calling}
 use Rattle.sccp_tool.specs.declared.send_on.Incoming.{Incoming}
 use Rattle.sccp_tool.specs.declared.start.Start.{Start}
@@ -9,27 +10,27 @@ pub data Task : Type 0 where
   ShowHex : List ℕ → Task
   -- shows the messages of the file of this name
   Show : List ℕ → Task
-  -- verifies the plan of the file of this name
-  Verify : List ℕ → Task
-  -- follows a title from its start, under the plan of the file of this name
-  Route : List ℕ → Start → Task
+  -- verifies the plan of this file
+  Verify : PlanFile → Task
+  -- follows a title from its start, under the plan of this file
+  Route : PlanFile → Start → Task
   -- replays the trace of the second file under the plan of the first one, with this number of workers
-  Replay : List ℕ → List ℕ → ℕ → Task
+  Replay : PlanFile → List ℕ → ℕ → Task
   -- makes a plan and messages from a number, and sends them over its relays: the number, how many messages, how many workers
   Load : ℕ → ℕ → ℕ → Task
   -- shows every cut of the message of these octets
   Cuts : List ℕ → Task
   -- makes a trace of the DATA messages of the second file, for the nodes of the plan of the first one
-  Import : List ℕ → List ℕ → Task
-  -- says whether relays may hold either of the plans of the files of these names, the old one and the new one
-  Change : List ℕ → List ℕ → Task
-  -- makes one connection over the relays of the plan of the file of this name, and reports its outcome
-  Connect : List ℕ → Calling → Task
-  -- prints what becomes of octets at a relay of the plan of the file of this name, and cuts a long message that leaves it
-  SendOn : List ℕ → Incoming → Task
-  -- verifies each cover of the plan of the file of this name by itself
-  Covers : List ℕ → Task
-  -- lists what no covered title of the plan of the file of this name can use
-  Unused : List ℕ → Task
-  -- says how many points can be lost before a title of a cover is stopped, up to this number, of the plan of the file of this name
-  Margin : List ℕ → ℕ → Task
+  Import : PlanFile → List ℕ → Task
+  -- says whether relays may hold either of the plans of these files, the old one and the new one
+  Change : PlanFile → PlanFile → Task
+  -- makes one connection over the relays of the plan of this file, and reports its outcome
+  Connect : PlanFile → Calling → Task
+  -- prints what becomes of octets at a relay of the plan of this file, and cuts a long message that leaves it
+  SendOn : PlanFile → Incoming → Task
+  -- verifies each cover of the plan of this file by itself
+  Covers : PlanFile → Task
+  -- lists what no covered title of the plan of this file can use
+  Unused : PlanFile → Task
+  -- says how many points can be lost before a title of a cover is stopped, up to this number, of the plan of this file
+  Margin : PlanFile → ℕ → Task

@@ -10,10 +10,11 @@ use crate::answer::Answer;
 use crate::command::Command;
 use plan_change::{Change, ChangeFault};
 use plan_check::Accepted;
+use plan_model::Limits;
 use sccp_base::{Octets, OutOfMemory};
 use sccp_io::{Files, Sink};
 use sccp_report::change_text;
-use sccp_work::{Status, Stop, print_last, with_accepted};
+use sccp_work::{PlanPath, Status, Stop, print_last, with_accepted};
 use std::alloc::Global;
 use trace_text::is_file_name;
 
@@ -25,19 +26,19 @@ const OTHER_NODES: &[u8] = b"other nodes\n";
 
 /// The command of the words `OLD NEW`, or none if they have another shape.
 #[tactic(auto, unfolding(crate::specs::Change::change_words))]
-pub fn change_words(words: &[String]) -> Option<Command<'_>>
-    ensures { task_in result ≡ change_words (texts words.now) }
+pub fn change_words<'a>(limits: Limits, words: &'a [String]) -> Option<Command<'a>>
+    ensures { task_in result ≡ change_words limits (texts words.now) }
 {
     match words {
-        [old, new] => change_of(old.as_str(), new.as_str()),
+        [old, new] => change_of(limits, old.as_str(), new.as_str()),
         _ => None,
     }
 }
 
 /// The command of these two words.
 #[tactic(auto, unfolding(crate::specs::Change::change_of))]
-fn change_of<'a>(old: &'a str, new: &'a str) -> Option<Command<'a>>
-    ensures { task_in result ≡ change_of old.now new.now }
+fn change_of<'a>(limits: Limits, old: &'a str, new: &'a str) -> Option<Command<'a>>
+    ensures { task_in result ≡ change_of limits old.now new.now }
 {
     if !is_file_name(old.as_bytes()) {
         return None;
@@ -45,7 +46,10 @@ fn change_of<'a>(old: &'a str, new: &'a str) -> Option<Command<'a>>
     if !is_file_name(new.as_bytes()) {
         return None;
     }
-    Some(Command::Change(old, new))
+    Some(Command::Change(
+        PlanPath::new(old, limits),
+        PlanPath::new(new, limits),
+    ))
 }
 
 /// Prints whether relays may hold either of the plans of two files. The first file that has no accepted plan gives the
@@ -53,8 +57,8 @@ fn change_of<'a>(old: &'a str, new: &'a str) -> Option<Command<'a>>
 #[tactic(auto, unfolding(crate::specs::Change::old_word, crate::specs::Change::new_word))]
 pub fn change<F: Files, K: Sink>(
     alloc: Global,
-    old: &str,
-    new: &str,
+    old: &PlanPath<'_>,
+    new: &PlanPath<'_>,
     files: &mut F,
     out: &mut K,
 ) -> Result<Status, Stop>

@@ -14,12 +14,12 @@ use crate::command::Command;
 use crate::route::UNKNOWN_NODE;
 use crate::start::{Start, StartWords, start_of};
 use chain_call::{Call, Outcome, Through};
-use plan_model::Plan;
+use plan_model::{Limits, Plan};
 use sccp_base::{Name, Octets, OutOfMemory, PointCode};
 use sccp_io::{Files, Sink};
 use sccp_message::CauseTable;
 use sccp_report::{Text, put_cause, put_point_code};
-use sccp_work::{Status, Stop, if_accepted, print_last, with_plan};
+use sccp_work::{PlanPath, Status, Stop, if_accepted, print_last, with_plan};
 use std::alloc::Global;
 use trace_text::{is_file_name, octets_of};
 
@@ -37,8 +37,12 @@ pub struct Calling {
 
 /// The command of the words `PLAN NODE FROM SELECTOR SSN DIGITS HEX`, or none if they have another shape.
 #[tactic(auto, unfolding(crate::specs::Connect::connect_words))]
-pub fn connect_words(alloc: Global, words: &[String]) -> Result<Option<Command<'_>>, OutOfMemory>
-    ensures { IfOk result (λ command. task_in command ≡ connect_words (texts words.now)) }
+pub fn connect_words<'a>(
+    alloc: Global,
+    limits: Limits,
+    words: &'a [String],
+) -> Result<Option<Command<'a>>, OutOfMemory>
+    ensures { IfOk result (λ command. task_in command ≡ connect_words limits (texts words.now)) }
 {
     match words {
         [plan, node, from, selector, ssn, digits, octets] => {
@@ -48,7 +52,14 @@ pub fn connect_words(alloc: Global, words: &[String]) -> Result<Option<Command<'
                 ssn: ssn.as_str(),
                 digits: digits.as_str(),
             };
-            connect_of(alloc, plan.as_str(), &start, from.as_str(), octets.as_str())
+            connect_of(
+                alloc,
+                limits,
+                plan.as_str(),
+                &start,
+                from.as_str(),
+                octets.as_str(),
+            )
         }
         _ => Ok(None),
     }
@@ -58,19 +69,23 @@ pub fn connect_words(alloc: Global, words: &[String]) -> Result<Option<Command<'
 #[tactic(auto, unfolding(crate::specs::Connect::connect_of))]
 fn connect_of<'a>(
     alloc: Global,
+    limits: Limits,
     plan: &'a str,
     start: &StartWords<'_>,
     from: &str,
     octets: &str,
 ) -> Result<Option<Command<'a>>, OutOfMemory>
     ensures { IfOk result (λ command. task_in command
-        ≡ connect_of plan.now start.now.node.now from.now start.now.selector.now start.now.ssn.now start.now.digits.now octets.now) }
+        ≡ connect_of limits plan.now start.now.node.now from.now start.now.selector.now start.now.ssn.now start.now.digits.now octets.now) }
 {
     if !is_file_name(plan.as_bytes()) {
         return Ok(None);
     }
     match calling_of(alloc, start, from, octets)? {
-        Some(calling) => Ok(Some(Command::Connect(plan, calling))),
+        Some(calling) => Ok(Some(Command::Connect(
+            PlanPath::new(plan, limits),
+            calling,
+        ))),
         None => Ok(None),
     }
 }
@@ -115,16 +130,16 @@ fn is_unsaid(start: &Start) -> bool
 /// Makes a connection over the relays of the plan of a file, which is verified first, and prints the outcome.
 pub fn connect<F: Files, K: Sink>(
     alloc: Global,
-    name: &str,
+    file: &PlanPath<'_>,
     calling: &Calling,
     files: &mut F,
     out: &mut K,
 ) -> Result<Status, Stop>
-    ensures { Works (connect_work name.now calling.now) result
+    ensures { Works (connect_work file.now calling.now) result
         (moment F.contents F.sound F.faults K.taken K.faults files.old out.old)
         (moment F.contents F.sound F.faults K.taken K.faults files.new out.new) }
 {
-    let plan = with_plan(alloc, name, files, out)?;
+    let plan = with_plan(alloc, file, files, out)?;
     let accepted = if_accepted(alloc, b"", plan, out)?;
     connect_accepted(alloc, accepted.into_plan(), calling, out)
 }

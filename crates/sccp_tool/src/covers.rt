@@ -1,6 +1,6 @@
 //! The command that gives a verdict on each cover of a plan by itself.
-ghost use Rattle.std.specs.Prelude.{◌≡◌, ◌+◌, ◌<◌, [], ◌∷◌, IfOk};
-ghost use Rattle.plan_model.specs.Network.{IsPlan, network};
+ghost use Rattle.std.specs.Prelude.{◌≡◌, ◌+◌, ◌<◌, ◌≤◌, [], ◌∷◌, IfOk};
+ghost use Rattle.plan_model.specs.Network.{IsPlan, network_within};
 ghost use Rattle.plan_verify.specs.Lawful.{IsLawful, plan_of};
 ghost use Rattle.sccp_report.specs.Covers.{cover_text};
 ghost use Rattle.sccp_tool.specs.Commands.{texts};
@@ -13,24 +13,24 @@ ghost use Rattle.sccp_work.specs.Writing.{Writes};
 
 use crate::command::Command;
 use crate::tally::Tally;
-use plan_model::{Cover, Node, Plan};
+use plan_model::{Cover, Limits, Node, Plan};
 use plan_verify::Verdict;
 use sccp_base::List;
 use sccp_io::{Files, Sink};
 use sccp_report::cover_text;
-use sccp_work::{Status, Stop, plan_of, print_last, put_all, with_plan};
+use sccp_work::{PlanPath, Status, Stop, plan_of, print_last, put_all, with_plan};
 use std::alloc::Global;
 use trace_text::is_file_name;
 
-/// The command of the word `PLAN`, or none if the words have another shape.
+/// The command of the word `PLAN`, whose plan is read under these limits, or none if the words have another shape.
 #[tactic(auto, unfolding(crate::specs::Covers::covers_words))]
-pub fn covers_words(words: &[String]) -> Option<Command<'_>>
-    ensures { task_in result ≡ covers_words (texts words.now) }
+pub fn covers_words<'a>(limits: Limits, words: &'a [String]) -> Option<Command<'a>>
+    ensures { task_in result ≡ covers_words limits (texts words.now) }
 {
     match words {
         [name] => {
             if is_file_name(name.as_bytes()) {
-                Some(Command::Covers(name.as_str()))
+                Some(Command::Covers(PlanPath::new(name.as_str(), limits)))
             } else {
                 None
             }
@@ -42,15 +42,15 @@ pub fn covers_words(words: &[String]) -> Option<Command<'_>>
 /// Prints the verdict on each cover of the plan of a file by itself, and what they come to.
 pub fn covers<F: Files, K: Sink>(
     alloc: Global,
-    name: &str,
+    file: &PlanPath<'_>,
     files: &mut F,
     out: &mut K,
 ) -> Result<Status, Stop>
-    ensures { Works (covers_work name.now) result
+    ensures { Works (covers_work file.now) result
         (moment F.contents F.sound F.faults K.taken K.faults files.old out.old)
         (moment F.contents F.sound F.faults K.taken K.faults files.new out.new) }
 {
-    let plan = with_plan(alloc, name, files, out)?;
+    let plan = with_plan(alloc, file, files, out)?;
     let tally = judge_covers(alloc, plan, out)?;
     let line = tally.line(alloc)?;
     print_last(out, line.as_slice(), tally.status())
@@ -67,8 +67,9 @@ struct Judging {
 fn judge_covers<K: Sink>(alloc: Global, plan: Plan, out: &mut K) -> Result<Tally, Stop>
     ensures gives { (any : Moment) → GivesTally plan result
         (with_sink any K.taken K.faults out.old) (with_sink any K.taken K.faults out.new) }
-    ensures few { IfOk result (λ tally. total tally < 65535) }
+    ensures few { IfOk result (λ tally. total tally ≤ 65535) }
 {
+    let limits = plan.limits();
     let (nodes, covers) = plan.into_parts();
     let mut judging = Judging {
         nodes,
@@ -76,7 +77,7 @@ fn judge_covers<K: Sink>(alloc: Global, plan: Plan, out: &mut K) -> Result<Tally
     };
     let mut number: u16 = 0;
     for cover in covers.into_vec() {
-        judging = judge_cover(alloc, judging, cover, number, out)?;
+        judging = judge_cover(alloc, limits, judging, cover, number, out)?;
         number += 1;
     }
     let Judging { nodes, tally } = judging;
@@ -88,20 +89,21 @@ fn judge_covers<K: Sink>(alloc: Global, plan: Plan, out: &mut K) -> Result<Tally
 /// given back.
 fn judge_cover<K: Sink>(
     alloc: Global,
+    limits: Limits,
     judging: Judging,
     cover: Cover,
     number: u16,
     out: &mut K,
 ) -> Result<Judging, Stop>
-    requires plan { IsPlan (network judging.nodes (cover ∷ [])) }
+    requires plan { IsPlan (network_within limits judging.nodes (cover ∷ [])) }
     requires few { total judging.tally < 65535 }
-    ensures gives { (any : Moment) → GivesNext judging.nodes number cover judging.tally result
+    ensures gives { (any : Moment) → GivesNext limits judging.nodes number cover judging.tally result
         (with_sink any K.taken K.faults out.old) (with_sink any K.taken K.faults out.new) }
     ensures nodes { IfOk result (λ next. next.nodes ≡ judging.nodes) }
     ensures one_more { IfOk result (λ next. total next.tally ≡ total judging.tally + 1) }
 {
     let Judging { nodes, tally } = judging;
-    let plan = Plan::alone(alloc, nodes, cover)?;
+    let plan = Plan::alone(alloc, limits, nodes, cover)?;
     let verdict = plan_verify::verify(alloc, plan)?;
     match print_verdict(alloc, number, &verdict, out) {
         Ok(()) => {

@@ -8,33 +8,33 @@ ghost use Rattle.sccp_tool.specs.Parsed.{task_in};
 
 use crate::command::Command;
 use m3ua_trace::ImportError;
-use plan_model::Plan;
+use plan_model::{Limits, Plan};
 use sccp_io::{Files, Sink};
-use sccp_work::{Opened, Status, Stop, bad_line, print_last, with_plan, within_limit};
+use sccp_work::{Opened, PlanPath, Status, Stop, bad_line, print_last, with_plan, within_limit};
 use std::alloc::{AllocError, Global};
 use trace_text::is_file_name;
 
 /// The command of the words `PLAN FILE`, or none if they have another shape.
 #[tactic(auto, unfolding(crate::specs::Import::import_words))]
-pub fn import_words(words: &[String]) -> Option<Command<'_>>
-    ensures { task_in result ≡ import_words (texts words.now) }
+pub fn import_words<'a>(limits: Limits, words: &'a [String]) -> Option<Command<'a>>
+    ensures { task_in result ≡ import_words limits (texts words.now) }
 {
     match words {
-        [plan, file] => import_of(plan.as_str(), file.as_str()),
+        [plan, file] => import_of(limits, plan.as_str(), file.as_str()),
         _ => None,
     }
 }
 
 /// The command of these two words.
 #[tactic(auto, unfolding(crate::specs::Import::import_of))]
-fn import_of<'a>(plan: &'a str, file: &'a str) -> Option<Command<'a>>
-    ensures { task_in result ≡ import_of plan.now file.now }
+fn import_of<'a>(limits: Limits, plan: &'a str, file: &'a str) -> Option<Command<'a>>
+    ensures { task_in result ≡ import_of limits plan.now file.now }
 {
     if !is_file_name(plan.as_bytes()) {
         return None;
     }
     if is_file_name(file.as_bytes()) {
-        Some(Command::Import(plan, file))
+        Some(Command::Import(PlanPath::new(plan, limits), file))
     } else {
         None
     }
@@ -43,7 +43,7 @@ fn import_of<'a>(plan: &'a str, file: &'a str) -> Option<Command<'a>>
 /// Prints the trace of a file under the plan of another, which is read and not verified.
 pub fn import<F: Files, K: Sink>(
     alloc: Global,
-    plan: &str,
+    plan: &PlanPath<'_>,
     file: &str,
     files: &mut F,
     out: &mut K,
@@ -68,7 +68,7 @@ fn print_trace<F: Files, K: Sink>(
         (moment F.contents F.sound F.faults K.taken K.faults files.old out.old)
         (moment F.contents F.sound F.faults K.taken K.faults files.new out.new) }
 {
-    let octets = within_limit(alloc, Opened::First, file, files, out)?;
+    let octets = within_limit(alloc, Opened::First, &PlanPath::plain(file), files, out)?;
     let (status, text) = import_answer(alloc, plan, &octets)?;
     print_last(out, &text, status)
 }

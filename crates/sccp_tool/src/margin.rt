@@ -15,34 +15,34 @@ use crate::command::Command;
 use crate::losses::Losses;
 use crate::margin_tally::MarginTally;
 use plan_margin::{Margin, find_margin};
-use plan_model::Plan;
+use plan_model::{Limits, Plan};
 use sccp_io::{Files, Sink};
 use sccp_report::margin_text;
-use sccp_work::{Status, Stop, print_last, put_all, with_accepted};
+use sccp_work::{PlanPath, Status, Stop, print_last, put_all, with_accepted};
 use std::alloc::Global;
 use trace_text::is_file_name;
 
 /// The command of the words `PLAN LOSSES`, or none if they have another shape.
 #[tactic(auto, unfolding(crate::specs::Margin::margin_words))]
-pub fn margin_words(words: &[String]) -> Option<Command<'_>>
-    ensures { task_in result ≡ margin_words (texts words.now) }
+pub fn margin_words<'a>(limits: Limits, words: &'a [String]) -> Option<Command<'a>>
+    ensures { task_in result ≡ margin_words limits (texts words.now) }
 {
     match words {
-        [name, losses] => margin_with(name.as_str(), losses.as_str()),
+        [name, losses] => margin_with(limits, name.as_str(), losses.as_str()),
         _ => None,
     }
 }
 
 /// The command of these two words.
 #[tactic(auto, unfolding(crate::specs::Margin::margin_with))]
-fn margin_with<'a>(name: &'a str, losses: &str) -> Option<Command<'a>>
-    ensures { task_in result ≡ margin_with name.now losses.now }
+fn margin_with<'a>(limits: Limits, name: &'a str, losses: &str) -> Option<Command<'a>>
+    ensures { task_in result ≡ margin_with limits name.now losses.now }
 {
     if !is_file_name(name.as_bytes()) {
         return None;
     }
     match Losses::parse(losses.as_bytes()) {
-        Some(losses) => Some(Command::Margin(name, losses)),
+        Some(losses) => Some(Command::Margin(PlanPath::new(name, limits), losses)),
         None => None,
     }
 }
@@ -51,17 +51,17 @@ fn margin_with<'a>(name: &'a str, losses: &str) -> Option<Command<'a>>
 /// numbers come to. The plan has to be accepted.
 pub fn margin<F: Files, K: Sink>(
     alloc: Global,
-    name: &str,
+    file: &PlanPath<'_>,
     losses: &Losses,
     files: &mut F,
     out: &mut K,
 ) -> Result<Status, Stop>
-    ensures { Works (margin_work name.now losses.now.count) result
+    ensures { Works (margin_work file.now losses.now.count) result
         (moment F.contents F.sound F.faults K.taken K.faults files.old out.old)
         (moment F.contents F.sound F.faults K.taken K.faults files.new out.new) }
 {
     let losses = losses.count();
-    let accepted = with_accepted(alloc, b"", name, files, out)?;
+    let accepted = with_accepted(alloc, b"", file, files, out)?;
     let tally = measure_covers(alloc, accepted.plan(), losses, out);
     drop(accepted);
     let tally = tally?;

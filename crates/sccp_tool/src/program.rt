@@ -31,7 +31,7 @@ use std::sync::Wait;
 use std::thread::Threads;
 
 const USAGE: &[u8] =
-    b"usage: show-hex HEX | show FILE | verify PLAN | route PLAN NODE SELECTOR SSN DIGITS | replay PLAN TRACE WORKERS | load NUMBER SIZE WORKERS | cuts HEX | change OLD NEW | connect PLAN NODE FROM SELECTOR SSN DIGITS HEX | send-on PLAN NODE ORIGIN SIZE HEX | import PLAN FILE | covers PLAN | unused PLAN | margin PLAN LOSSES\n";
+    b"usage: show-hex HEX | show FILE | verify PLAN | route PLAN NODE SELECTOR SSN DIGITS | replay PLAN TRACE WORKERS | load NUMBER SIZE WORKERS | cuts HEX | change OLD NEW | connect PLAN NODE FROM SELECTOR SSN DIGITS HEX | send-on PLAN NODE ORIGIN SIZE HEX | import PLAN FILE | covers PLAN | unused PLAN | margin PLAN LOSSES | wide COMMAND\n";
 
 const READ_FAULT: &[u8] = b"read fault\n";
 
@@ -108,8 +108,8 @@ fn obey<R: Threads + Wait + Sync, G: Gate + Sync, F: Files, K: Sink>(
     match command {
         Command::ShowHex(octets) => show_hex(alloc, octets.as_slice(), out),
         Command::Show(name) => show(alloc, name, files, out),
-        Command::Verify(name) => verify(alloc, name, files, out),
-        Command::Route(name, start) => route(alloc, name, start, files, out),
+        Command::Verify(file) => verify(alloc, file, files, out),
+        Command::Route(file, start) => route(alloc, file, start, files, out),
         Command::Replay(plan, trace, workers) => {
             let host = Host { rt, gate, alloc };
             replay(&host, plan, trace, workers, files, out)
@@ -118,11 +118,11 @@ fn obey<R: Threads + Wait + Sync, G: Gate + Sync, F: Files, K: Sink>(
         Command::Cuts(octets) => cuts(alloc, octets.as_slice(), out),
         Command::Import(plan, file) => import(alloc, plan, file, files, out),
         Command::Change(old, new) => change(alloc, old, new, files, out),
-        Command::Connect(name, calling) => connect(alloc, name, calling, files, out),
-        Command::SendOn(name, incoming) => send_on(alloc, name, incoming, files, out),
-        Command::Covers(name) => covers(alloc, name, files, out),
-        Command::Unused(name) => unused(alloc, name, files, out),
-        Command::Margin(name, losses) => margin(alloc, name, losses, files, out),
+        Command::Connect(file, calling) => connect(alloc, file, calling, files, out),
+        Command::SendOn(file, incoming) => send_on(alloc, file, incoming, files, out),
+        Command::Covers(file) => covers(alloc, file, files, out),
+        Command::Unused(file) => unused(alloc, file, files, out),
+        Command::Margin(file, losses) => margin(alloc, file, losses, files, out),
     }
 }
 

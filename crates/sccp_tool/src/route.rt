@@ -9,11 +9,11 @@ ghost use Rattle.sccp_tool.specs.Route.{route_words, route_of, unmarked, hops_fr
 
 use crate::command::Command;
 use crate::start::{Start, StartWords, start_of};
-use plan_model::{Plan, Spot};
+use plan_model::{Limits, Plan, Spot};
 use sccp_base::{Marking, Octets, OutOfMemory};
 use sccp_io::{Files, Sink};
 use sccp_report::hops_text;
-use sccp_work::{Status, Stop, print_last, with_plan};
+use sccp_work::{PlanPath, Status, Stop, print_last, with_plan};
 use std::alloc::Global;
 use trace_text::is_file_name;
 
@@ -25,8 +25,8 @@ const MOST_HOPS: u8 = 15;
 
 /// The command of the words `PLAN NODE SELECTOR SSN DIGITS`, or none if they have another shape.
 #[tactic(auto, unfolding(crate::specs::Route::route_words))]
-pub fn route_words(words: &[String]) -> Option<Command<'_>>
-    ensures { task_in result ≡ route_words (texts words.now) }
+pub fn route_words<'a>(limits: Limits, words: &'a [String]) -> Option<Command<'a>>
+    ensures { task_in result ≡ route_words limits (texts words.now) }
 {
     match words {
         [plan, node, selector, ssn, digits] => {
@@ -36,7 +36,7 @@ pub fn route_words(words: &[String]) -> Option<Command<'_>>
                 ssn: ssn.as_str(),
                 digits: digits.as_str(),
             };
-            route_of(plan.as_str(), &start)
+            route_of(limits, plan.as_str(), &start)
         }
         _ => None,
     }
@@ -44,14 +44,18 @@ pub fn route_words(words: &[String]) -> Option<Command<'_>>
 
 /// The command of these five words.
 #[tactic(auto, unfolding(crate::specs::Route::route_of))]
-fn route_of<'a>(plan: &'a str, start: &StartWords<'_>) -> Option<Command<'a>>
-    ensures { task_in result ≡ route_of plan.now start.now.node.now start.now.selector.now start.now.ssn.now start.now.digits.now }
+fn route_of<'a>(
+    limits: Limits,
+    plan: &'a str,
+    start: &StartWords<'_>,
+) -> Option<Command<'a>>
+    ensures { task_in result ≡ route_of limits plan.now start.now.node.now start.now.selector.now start.now.ssn.now start.now.digits.now }
 {
     if !is_file_name(plan.as_bytes()) {
         return None;
     }
     match start_of(start) {
-        Some(start) => Some(Command::Route(plan, start)),
+        Some(start) => Some(Command::Route(PlanPath::new(plan, limits), start)),
         None => None,
     }
 }
@@ -59,16 +63,16 @@ fn route_of<'a>(plan: &'a str, start: &StartWords<'_>) -> Option<Command<'a>>
 /// Prints the hops of a title under the plan of a file.
 pub fn route<F: Files, K: Sink>(
     alloc: Global,
-    name: &str,
+    file: &PlanPath<'_>,
     start: &Start,
     files: &mut F,
     out: &mut K,
 ) -> Result<Status, Stop>
-    ensures { Works (route_work name.now start.now) result
+    ensures { Works (route_work file.now start.now) result
         (moment F.contents F.sound F.faults K.taken K.faults files.old out.old)
         (moment F.contents F.sound F.faults K.taken K.faults files.new out.new) }
 {
-    let plan = with_plan(alloc, name, files, out)?;
+    let plan = with_plan(alloc, file, files, out)?;
     let text = route_text(alloc, &plan, start);
     drop(plan);
     let text = text?;

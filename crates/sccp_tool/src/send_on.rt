@@ -21,12 +21,12 @@ ghost use Rattle.sccp_tool.specs.SendOn.{send_on_text, send_on_words, send_on_wo
 use crate::command::Command;
 use crate::route::UNKNOWN_NODE;
 use long_segments::LongFault;
-use plan_model::Plan;
+use plan_model::{Limits, Plan};
 use sccp_base::{Marking, Name, Octets, OutOfMemory, PointCode, Reference, cut, decimal};
 use sccp_io::{Files, Sink};
 use sccp_report::{Text, message_text, put_point_code};
 use sccp_scrc::{Arrival, arrive};
-use sccp_work::{Status, Stop, print_last, with_plan};
+use sccp_work::{PlanPath, Status, Stop, print_last, with_plan};
 use std::alloc::Global;
 use trace_text::{is_file_name, octets_of};
 
@@ -44,12 +44,17 @@ pub struct Incoming {
 
 /// The command of the words `PLAN NODE ORIGIN SIZE HEX`, or none if they have another shape.
 #[tactic(auto, unfolding(crate::specs::SendOn::send_on_words))]
-pub fn send_on_words(alloc: Global, words: &[String]) -> Result<Option<Command<'_>>, OutOfMemory>
-    ensures { IfOk result (λ command. task_in command ≡ send_on_words (texts words.now)) }
+pub fn send_on_words<'a>(
+    alloc: Global,
+    limits: Limits,
+    words: &'a [String],
+) -> Result<Option<Command<'a>>, OutOfMemory>
+    ensures { IfOk result (λ command. task_in command ≡ send_on_words limits (texts words.now)) }
 {
     match words {
         [plan, node, origin, size, digits] => send_on_of(
             alloc,
+            limits,
             plan.as_str(),
             node.as_str(),
             origin.as_str(),
@@ -64,19 +69,23 @@ pub fn send_on_words(alloc: Global, words: &[String]) -> Result<Option<Command<'
 #[tactic(auto, unfolding(crate::specs::SendOn::send_on_of))]
 fn send_on_of<'a>(
     alloc: Global,
+    limits: Limits,
     plan: &'a str,
     node: &str,
     origin: &str,
     size: &str,
     digits: &str,
 ) -> Result<Option<Command<'a>>, OutOfMemory>
-    ensures { IfOk result (λ command. task_in command ≡ send_on_of plan.now node.now origin.now size.now digits.now) }
+    ensures { IfOk result (λ command. task_in command ≡ send_on_of limits plan.now node.now origin.now size.now digits.now) }
 {
     if !is_file_name(plan.as_bytes()) {
         return Ok(None);
     }
     match incoming_of(alloc, node, origin, size, digits)? {
-        Some(incoming) => Ok(Some(Command::SendOn(plan, incoming))),
+        Some(incoming) => Ok(Some(Command::SendOn(
+            PlanPath::new(plan, limits),
+            incoming,
+        ))),
         None => Ok(None),
     }
 }
@@ -126,16 +135,16 @@ fn size_of(word: &[u8]) -> Option<u8>
 /// the relay leaves it in segments.
 pub fn send_on<F: Files, K: Sink>(
     alloc: Global,
-    name: &str,
+    file: &PlanPath<'_>,
     incoming: &Incoming,
     files: &mut F,
     out: &mut K,
 ) -> Result<Status, Stop>
-    ensures { Works (send_on_work name.now incoming.now) result
+    ensures { Works (send_on_work file.now incoming.now) result
         (moment F.contents F.sound F.faults K.taken K.faults files.old out.old)
         (moment F.contents F.sound F.faults K.taken K.faults files.new out.new) }
 {
-    let plan = with_plan(alloc, name, files, out)?;
+    let plan = with_plan(alloc, file, files, out)?;
     let text = send_on_text(alloc, &plan, incoming);
     drop(plan);
     let text = text?;

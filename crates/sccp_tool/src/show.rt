@@ -12,7 +12,7 @@ use crate::command::Command;
 use sccp_base::OutOfMemory;
 use sccp_io::{Files, Sink};
 use sccp_report::message_text;
-use sccp_work::{Opened, Status, Stop, bad_line, print_last, within_limit};
+use sccp_work::{Opened, PlanPath, Status, Stop, bad_line, print_last, within_limit};
 use std::alloc::{AllocError, Global};
 use trace_text::{LineFault, LineKind, content, first_line, is_file_name, octets_of};
 
@@ -67,7 +67,7 @@ pub fn show<F: Files, K: Sink>(
         (moment F.contents F.sound F.faults K.taken K.faults files.old out.old)
         (moment F.contents F.sound F.faults K.taken K.faults files.new out.new) }
 {
-    let octets = within_limit(alloc, Opened::First, name, files, out)?;
+    let octets = within_limit(alloc, Opened::First, &PlanPath::plain(name), files, out)?;
     let (status, text) = show_answer(alloc, &octets)?;
     print_last(out, &text, status)
 }

@@ -1,5 +1,5 @@
 //! What the verdicts on the covers of a plan come to.
-ghost use Rattle.std.specs.Prelude.{◌≡◌, ◌<◌, IfOk};
+ghost use Rattle.std.specs.Prelude.{◌≡◌, ◌<◌, ◌≤◌, IfOk};
 ghost use Rattle.sccp_tool.specs.Tallies.{none_yet, counted, total, tally_status, all_accepted_line, counts_line, tally_line};
 
 use plan_verify::Verdict;
@@ -64,7 +64,7 @@ impl Tally {
 
     /// The last line: the bound if all covers are accepted, and otherwise the three numbers.
     pub fn line(self, alloc: Global) -> Result<Octets, OutOfMemory>
-        requires { total self < 65535 }
+        requires { total self ≤ 65535 }
         ensures { IfOk result (λ text. text ≡ tally_line self) }
     {
         if self.refused + self.wide > 0 {

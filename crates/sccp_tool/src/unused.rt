@@ -9,24 +9,24 @@ ghost use Rattle.sccp_work.specs.Moment.{moment};
 
 use crate::answer::Answer;
 use crate::command::Command;
-use plan_model::Plan;
+use plan_model::{Limits, Plan};
 use plan_unused::{Survey, find_unused};
 use sccp_base::OutOfMemory;
 use sccp_io::{Files, Sink};
 use sccp_report::survey_text;
-use sccp_work::{Status, Stop, print_last, with_plan};
+use sccp_work::{PlanPath, Status, Stop, print_last, with_plan};
 use std::alloc::Global;
 use trace_text::is_file_name;
 
-/// The command of the word `PLAN`, or none if the words have another shape.
+/// The command of the word `PLAN`, whose plan is read under these limits, or none if the words have another shape.
 #[tactic(auto, unfolding(crate::specs::Unused::unused_words))]
-pub fn unused_words(words: &[String]) -> Option<Command<'_>>
-    ensures { task_in result ≡ unused_words (texts words.now) }
+pub fn unused_words<'a>(limits: Limits, words: &'a [String]) -> Option<Command<'a>>
+    ensures { task_in result ≡ unused_words limits (texts words.now) }
 {
     match words {
         [name] => {
             if is_file_name(name.as_bytes()) {
-                Some(Command::Unused(name.as_str()))
+                Some(Command::Unused(PlanPath::new(name.as_str(), limits)))
             } else {
                 None
             }
@@ -38,15 +38,15 @@ pub fn unused_words(words: &[String]) -> Option<Command<'_>>
 /// Prints what no covered title of the plan of a file can use, and titles that a relay has no row for.
 pub fn unused<F: Files, K: Sink>(
     alloc: Global,
-    name: &str,
+    file: &PlanPath<'_>,
     files: &mut F,
     out: &mut K,
 ) -> Result<Status, Stop>
-    ensures { Works (unused_work name.now) result
+    ensures { Works (unused_work file.now) result
         (moment F.contents F.sound F.faults K.taken K.faults files.old out.old)
         (moment F.contents F.sound F.faults K.taken K.faults files.new out.new) }
 {
-    let plan = with_plan(alloc, name, files, out)?;
+    let plan = with_plan(alloc, file, files, out)?;
     let answer = survey(alloc, &plan);
     drop(plan);
     let answer = answer?;

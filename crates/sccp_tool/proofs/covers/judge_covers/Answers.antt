@@ -6,7 +6,7 @@ use Rattle.std.proofs.lemmas.List.{drop_more}
 use Rattle.std.proofs.lemmas.Option.{slice_get_read}
 use Rattle.std.proofs.lemmas.Result.{err_from_is_err_and}
 use Rattle.plan_model.proofs.Alone.{alone_sound}
-use Rattle.plan_model.specs.Network.{IsPlan, network}
+use Rattle.plan_model.specs.Network.{IsPlan, network_within}
 use Rattle.plan_model.specs.declared.cover.Cover.{Cover}
 use Rattle.sccp_tool.specs.Covers.{GivesNext}
 use Rattle.sccp_work.specs.Moment.{Moment, with_sink}
@@ -23,8 +23,9 @@ judge_cover-requires-clause-plan g c =
     c.next.new.self c.in-Some.cover c.in-Some.is c.next.ensures.steps in
     let at : slice_get c.args.plan.covers (length c.loop-cover.yielded) ≡ Some c.in-Some.cover =
     slice_get_read c.args.plan.covers (length c.args.plan.covers) (length c.loop-cover.yielded) c.in-Some.cover refl t.0 t.1 in
-    subst (λ nodes. IsPlan (network nodes (c.in-Some.cover ∷ []))) (sym c.loop-cover.invariant.nodes)
-    (alone_sound c.args.plan (length c.loop-cover.yielded) c.in-Some.cover c.into_parts-nodes.ensures.sound at)
+    subst (λ limits. IsPlan (network_within limits c.loop-cover.judging.nodes (c.in-Some.cover ∷ []))) (sym c.limits.ensures)
+    (subst (λ nodes. IsPlan (network_within c.args.plan.limits nodes (c.in-Some.cover ∷ []))) (sym c.loop-cover.invariant.nodes)
+    (alone_sound c.args.plan (length c.loop-cover.yielded) c.in-Some.cover c.into_parts-nodes.ensures.sound at))
 
 pub returns-in_err-judging-clause-gives : goal.returns-in_err-judging-clause-gives
 returns-in_err-judging-clause-gives g c =
@@ -45,8 +46,10 @@ returns-in_err-judging-clause-gives g c =
     stopped_left c.args.plan c.loop-cover.number c.in-Some.cover rest c.loop-cover.judging.tally c.in_err-judging.field-0.0 first now after
     (subst (λ covers. CoversLeft c.args.plan c.loop-cover.number covers c.loop-cover.judging.tally first now) more
     (c.loop-cover.invariant.left any))
-    (subst (λ nodes. GivesNext nodes c.loop-cover.number c.in-Some.cover c.loop-cover.judging.tally
-    (Err c.in_err-judging.field-0.0) now after) c.loop-cover.invariant.nodes (c.in_err-judging.ensures.gives any)))
+    (subst (λ nodes. GivesNext c.args.plan.limits nodes c.loop-cover.number c.in-Some.cover c.loop-cover.judging.tally
+    (Err c.in_err-judging.field-0.0) now after) c.loop-cover.invariant.nodes
+    (subst (λ limits. GivesNext limits c.loop-cover.judging.nodes c.loop-cover.number c.in-Some.cover c.loop-cover.judging.tally
+    (Err c.in_err-judging.field-0.0) now after) c.limits.ensures (c.in_err-judging.ensures.gives any))))
 
 pub loop-cover-preserved : goal.loop-cover-preserved
 loop-cover-preserved g c =
@@ -71,8 +74,10 @@ loop-cover-preserved g c =
           next_left c.args.plan c.loop-cover.number c.in-Some.cover rest c.loop-cover.judging.tally c.in_ok-judging.judging first now after
           (subst (λ covers. CoversLeft c.args.plan c.loop-cover.number covers c.loop-cover.judging.tally first now) more
           (kept.left any))
-          (subst (λ nodes. GivesNext nodes c.loop-cover.number c.in-Some.cover c.loop-cover.judging.tally (Ok c.in_ok-judging.judging) now
-          after) kept.nodes (e.gives any)));
+          (subst (λ nodes. GivesNext c.args.plan.limits nodes c.loop-cover.number c.in-Some.cover c.loop-cover.judging.tally
+          (Ok c.in_ok-judging.judging) now after) kept.nodes
+          (subst (λ limits. GivesNext limits c.loop-cover.judging.nodes c.loop-cover.number c.in-Some.cover c.loop-cover.judging.tally
+          (Ok c.in_ok-judging.judging) now after) c.limits.ensures (e.gives any))));
       nodes = e.nodes ∙ kept.nodes;
       place = omega (arith, count, kept.place);
       count = omega (arith, count, kept.count, e.one_more);

@@ -26,7 +26,7 @@ returns-in_err-tally g c =
     c.measure_covers-tally.new.out in
     let losses = c.count-losses.result in
     let stop = c.in_err-tally.field-0.0 in
-    rw (p.1, p.2) (subst (λ l. Works (margin_work c.args.name.now l) (Err stop) b m) c.count-losses.ensures.value
+    rw (p.1, p.2) (subst (λ l. Works (margin_work c.args.file.now l) (Err stop) b m) c.count-losses.ensures.value
     (c.in_ok-accepted.ensures (each_margin losses) (Err stop) m
     (subst (λ plan. Works (each_margin losses plan) (Err stop) n m) c.plan.ensures.value (c.in_err-tally.ensures n))))
 
@@ -41,7 +41,7 @@ returns-in_err-line g c =
     c.measure_covers-tally.new.out in
     let losses = c.count-losses.result in
     let tally = c.in_ok-tally.tally in
-    rw (p.1, p.2) (subst (λ l. Works (margin_work c.args.name.now l) (Err Memory) b m) c.count-losses.ensures.value
+    rw (p.1, p.2) (subst (λ l. Works (margin_work c.args.file.now l) (Err Memory) b m) c.count-losses.ensures.value
     (c.in_ok-accepted.ensures (each_margin losses) (Err Memory) m
     (subst (λ plan. Works (each_margin losses plan) (Err Memory) n m) c.plan.ensures.value
     (c.in_ok-tally.ensures n (Err Memory) m (Works-memory (answered (margin_status tally, margin_line losses tally)) m)))))
@@ -58,7 +58,7 @@ returns g c =
     c.print_last.new.out in
     let losses = c.count-losses.result in
     let tally = c.in_ok-tally.tally in
-    subst (λ l. Works (margin_work c.args.name.now l) c.print_last.result b a) c.count-losses.ensures.value
+    subst (λ l. Works (margin_work c.args.file.now l) c.print_last.result b a) c.count-losses.ensures.value
     (c.in_ok-accepted.ensures (each_margin losses) c.print_last.result a
     (subst (λ plan. Works (each_margin losses plan) c.print_last.result n a) c.plan.ensures.value
     (c.in_ok-tally.ensures n c.print_last.result a
