@@ -9,7 +9,7 @@ use std::alloc::Global;
 use std::test::Fail;
 
 /// A class of subsystem 6.
-fn class(cover: u16, node: u8, known: &str, least: u8, most: u8) -> Result<Class, Fail> {
+fn class(cover: u32, node: u8, known: &str, least: u8, most: u8) -> Result<Class, Fail> {
     let selector = Selector::new(4, 0, 1, 4).ok_or("a selector")?;
     let known = Digits::parse(known.as_bytes())?;
     Ok(Class::new(cover, node, selector, 6, known, least, most).ok_or("a class")?)
@@ -167,7 +167,7 @@ fn the_latest_rank_counts(rt: HostRuntime) -> Result<(), Fail> {
 fn full(alloc: Global) -> Result<Ranks, Fail> {
     let mut ranks = Ranks::new(alloc);
     for place in 0..262_144_u32 {
-        let at = class((place % 65_536) as u16, (place / 65_536) as u8, "49", 0, 0)?;
+        let at = class(place % 65_536, (place / 65_536) as u8, "49", 0, 0)?;
         ranks.put(at, 1)?;
     }
     Ok(ranks)
