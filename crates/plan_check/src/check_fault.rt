@@ -8,7 +8,7 @@ use sccp_base::OutOfMemory;
 #[derive(Clone, Copy, Debug, PartialEq, Eq)]
 pub enum CheckFault {
     /// The start of this cover has no rank.
-    NoStart(u16),
+    NoStart(u32),
     /// A class that follows this one has no rank: a part of it if it is undecided, otherwise a next class under a reached
     /// target.
     NoRank(Class),

@@ -142,7 +142,7 @@ fn test_row(
 fn is_of_plan(plan: &Plan, class: &Class) -> bool
     ensures { IsTrue result ↔ ((class.now.cover < length plan.now.covers) × (class.now.node < length plan.now.nodes)) }
 {
-    usize::from(class.cover()) < plan.covers().as_slice().len()
+    (class.cover() as usize) < plan.covers().as_slice().len()
         && usize::from(class.node()) < plan.nodes().as_slice().len()
 }
 

@@ -15,11 +15,11 @@ use sccp_base::{List, OutOfMemory, PointCode};
 use std::alloc::Global;
 
 /// Whether a cover allows a place.
-pub fn allows(plan: &Plan, cover: u16, pc: PointCode, ssn: u8) -> bool
+pub fn allows(plan: &Plan, cover: u32, pc: PointCode, ssn: u8) -> bool
     requires { cover < length plan.now.covers }
     ensures { IsTrue result ↔ Allows plan.now cover pc ssn }
 {
-    plan.covers().as_slice()[usize::from(cover)].allows(pc, ssn)
+    plan.covers().as_slice()[cover as usize].allows(pc, ssn)
 }
 
 /// What the targets that can be the first open one make of a class.
@@ -45,7 +45,7 @@ pub(crate) fn images(
 }
 
 /// Whether the image is another class, or an end that the cover allows.
-fn may_lead(plan: &Plan, cover: u16, image: &Image) -> bool
+fn may_lead(plan: &Plan, cover: u32, image: &Image) -> bool
     requires { cover < length plan.now.covers }
     ensures { IsTrue result ↔ MayLead plan.now cover image.now }
 {
@@ -57,7 +57,7 @@ fn may_lead(plan: &Plan, cover: u16, image: &Image) -> bool
     }
 }
 
-pub(crate) fn all_may_lead(plan: &Plan, cover: u16, images: &[Image]) -> bool
+pub(crate) fn all_may_lead(plan: &Plan, cover: u32, images: &[Image]) -> bool
     requires { cover < length plan.now.covers }
     ensures { IsTrue result ↔ All (MayLead plan.now cover) images.now }
 {

@@ -11,7 +11,7 @@ use std::marker::Model;
 /// ordered by these fields as they are written, digits as lists.
 #[derive(Clone, Copy, Debug, PartialEq, Eq, PartialOrd, Ord)]
 pub struct Class {
-    cover: u16,
+    cover: u32,
     node: u8,
     selector: Selector,
     ssn: u8,
@@ -39,7 +39,7 @@ impl Class {
     /// The class with these fields. It is `None` if `least` is above `most`, or if the number of known digits and `most` add up
     /// to more than 32.
     pub fn new(
-        cover: u16,
+        cover: u32,
         node: u8,
         selector: Selector,
         ssn: u8,
@@ -65,7 +65,7 @@ impl Class {
     }
 
     /// The place of its cover in the plan.
-    pub fn cover(&self) -> u16
+    pub fn cover(&self) -> u32
         ensures value { result ≡ self.now.cover }
         ensures class { IsClass self.now }
     {
@@ -183,13 +183,13 @@ impl Hash for Class {
     ghost use Rattle.std.proofs.Common.{rules};
     ghost use Rattle.std.specs.Cmp.Rules.{hashing};
 
-    ghost hash_input = { λ c. fed.u16 c.cover ++ c.known
+    ghost hash_input = { λ c. fed.u32 c.cover ++ c.known
         ∷ (c.node ∷ c.selector.kind ∷ c.selector.translation ∷ c.selector.plan ∷ c.selector.nature ∷ c.ssn ∷ c.least ∷ c.most ∷ []) ∷ [] };
 
     ghost respects_eq = { Prim.search (hashing, rules) };
 
     fn hash<H: Hasher>(&self, state: &mut H) {
-        state.write_u16(self.cover);
+        state.write_u32(self.cover);
         state.write(self.known.as_slice());
         state.write(&[
             self.node,

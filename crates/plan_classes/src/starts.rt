@@ -11,16 +11,16 @@ use plan_model::{Cover, Plan};
 use sccp_base::Digits;
 
 /// The cover at a place of the plan.
-fn cover_at(plan: &Plan, place: u16) -> &Cover
+fn cover_at(plan: &Plan, place: u32) -> &Cover
     requires { place < length plan.now.covers }
     ensures value { slice_get plan.now.covers place ≡ Some result.now }
     ensures sound { IsCover plan.now.nodes result.now }
 {
-    &plan.covers().as_slice()[usize::from(place)]
+    &plan.covers().as_slice()[place as usize]
 }
 
 /// The titles of a cover with this place.
-fn class_of(place: u16, cover: &Cover) -> Class
+fn class_of(place: u32, cover: &Cover) -> Class
     requires range { cover.now.least ≤ cover.now.most }
     requires room { length cover.now.prefix ≤ cover.now.most }
     requires most { cover.now.most ≤ 32 }
@@ -43,7 +43,7 @@ fn class_of(place: u16, cover: &Cover) -> Class
 
 /// The titles of the cover at this place of the plan: its prefix is the known digits. If the cover's least is below its
 /// prefix's length, the class's least is 0.
-pub fn start(plan: &Plan, cover: u16) -> Class
+pub fn start(plan: &Plan, cover: u32) -> Class
     requires { cover < length plan.now.covers }
     ensures value { IsSomeAnd (slice_get plan.now.covers cover) (λ c. result ≡ start_of cover c) }
     ensures exact { IsSomeAnd (slice_get plan.now.covers cover) (λ c. (spot : Spot) → HasTitle result spot ↔ Covers c spot) }
