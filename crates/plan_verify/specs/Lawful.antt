@@ -1,6 +1,5 @@
 -- What a verdict says of a plan.
 use Rattle.std.specs.Prelude.{ℕ, ◌≤◌}
-use Rattle.plan_model.specs.Limits.{most_classes}
 use Rattle.plan_model.specs.Network.{Network}
 use Rattle.plan_model.specs.Verdicts.{Safe, Tight}
 use Rattle.plan_model.specs.Spots.{IsInRange}
@@ -22,13 +21,13 @@ pub record IsSafeFor (plan : Network) (bound : ℕ) : Type 0 where
   pub safe : Safe plan bound
 
 -- An accepted plan is safe for its bound, which its longest route reaches, and the numbers of that route are in range. A refused
--- plan has the bad route that is shown. A plan that is too wide reaches at least 262,144 classes of titles.
+-- plan has the bad route that is shown. A plan that is too wide reaches at least as many classes of titles as its limit.
 abbrev pub IsLawful : Network → Verdict → Type 0
 IsLawful plan (Accepted accepted) =
     IsSafeFor plan accepted.bound × Tight plan accepted.bound accepted.longest.spot accepted.longest.markings
     × IsInRange plan accepted.longest.spot accepted.longest.markings
 IsLawful plan (Refused same witness) = IsWitness plan witness
-IsLawful plan (TooWide same) = ReachesAtLeast plan most_classes
+IsLawful plan (TooWide same) = ReachesAtLeast plan plan.limits.classes
 
 abbrev pub IsAccepted : Verdict → Type 0
 IsAccepted (Accepted accepted) = Unit {0}

@@ -1,6 +1,5 @@
 -- What the search keeps of its table, and what it finds.
 use Rattle.std.specs.Prelude.{ℕ, ◌≡◌, ◌+◌, ◌-◌, ◌<◌, ◌≤◌, List, length, Option, Some, IsSomeAnd, slice_get}
-use Rattle.plan_model.specs.Limits.{most_classes}
 use Rattle.plan_model.specs.Network.{Network}
 use Rattle.plan_classes.specs.declared.leads.Image.{Image}
 use Rattle.plan_classes.specs.Titles.{Titles}
@@ -38,7 +37,7 @@ pub record MayExplore (plan : Network) (c : Titles) (depth : ℕ) : Type 0 where
 abbrev pub IsFound : Network → Titles → ℕ → List (Titles × ℕ) → Found → Type 0
 IsFound plan c depth ranks (Rank r) = (rank_in ranks c ≡ Some r) × (depth + r ≤ 14)
 IsFound plan c depth ranks (Bad trace) = IsTrace plan c depth trace
-IsFound plan c depth ranks Wide = ReachesAtLeast plan most_classes
+IsFound plan c depth ranks Wide = ReachesAtLeast plan plan.limits.classes
 
 -- a rank that agrees with the classes that follow, and is not too high
 pub record IsBorneOut (plan : Network) (rank : Titles → Option ℕ) (c : Titles) (r : ℕ) : Type 0 where
@@ -49,7 +48,7 @@ pub record IsBorneOut (plan : Network) (rank : Titles → Option ℕ) (c : Title
 abbrev pub IsFollowed : Network → Titles → ℕ → List (Titles × ℕ) → Found → Type 0
 IsFollowed plan c depth ranks (Rank r) = IsBorneOut plan (rank_in ranks) c r × (depth + r ≤ 14)
 IsFollowed plan c depth ranks (Bad trace) = IsTrace plan c depth trace
-IsFollowed plan c depth ranks Wide = ReachesAtLeast plan most_classes
+IsFollowed plan c depth ranks Wide = ReachesAtLeast plan plan.limits.classes
 
 -- a rank above what one target leads to, and no higher than it must be
 pub record IsLedTo (plan : Network) (rank : Titles → Option ℕ) (c : Titles) (place r : ℕ) : Type 0 where
@@ -61,7 +60,7 @@ pub record IsLedTo (plan : Network) (rank : Titles → Option ℕ) (c : Titles) 
 abbrev pub IsLed : Network → Titles → ℕ → ℕ → List (Titles × ℕ) → Found → Type 0
 IsLed plan c depth place ranks (Rank r) = IsLedTo plan (rank_in ranks) c place r × (depth + r ≤ 14)
 IsLed plan c depth place ranks (Bad trace) = IsTrace plan c depth trace
-IsLed plan c depth place ranks Wide = ReachesAtLeast plan most_classes
+IsLed plan c depth place ranks Wide = ReachesAtLeast plan plan.limits.classes
 
 -- the start of this cover has this rank
 abbrev pub HasStart : Network → List (Titles × ℕ) → Greatest → Type 0
@@ -73,4 +72,4 @@ abbrev pub IsOutcome : Network → List (Titles × ℕ) → Outcome → Type 0
 IsOutcome plan ranks (Ranked greatest) = StartsBelow plan (rank_in ranks) greatest.rank × HasStart plan ranks greatest
 IsOutcome plan ranks (Refuted number trace) = IsSomeAnd (slice_get plan.covers number)
     (λ cover. IsTrace plan (start_of number cover) 0 trace)
-IsOutcome plan ranks TooMany = ReachesAtLeast plan most_classes
+IsOutcome plan ranks TooMany = ReachesAtLeast plan plan.limits.classes

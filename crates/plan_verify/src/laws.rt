@@ -3,7 +3,6 @@ ghost use Rattle.std.specs.Prelude.{ℕ, ◌<◌, ◌≤◌, ◌↔◌, List, le
 ghost use Rattle.std.specs.List.{All, Any};
 ghost use Rattle.sccp_base.specs.declared.mark.Mark.{Mark};
 ghost use Rattle.plan_model.specs.declared.spot.Spot.{Spot};
-ghost use Rattle.plan_model.specs.Limits.{most_classes};
 ghost use Rattle.plan_model.specs.Network.{Network};
 ghost use Rattle.plan_model.specs.Verdicts.{Safe, Tight};
 ghost use Rattle.plan_classes.specs.Classes.{ReachesAtLeast};
@@ -11,10 +10,10 @@ ghost use Rattle.plan_verify.specs.declared.verdict.Verdict.{Verdict};
 ghost use Rattle.plan_verify.specs.Covers.{AreVerdictsOn, IsRefused, greatest_bound};
 ghost use Rattle.plan_verify.specs.Lawful.{IsLawful, IsAccepted, IsSafeFor};
 
-/// If fewer than 262,144 classes are reached, the lawful verdict is `Accepted` exactly if the plan is safe for some bound from
-/// 1 to 14. Otherwise it is `Refused`.
+/// If fewer classes are reached than the limit of the plan, the lawful verdict is `Accepted` exactly if the plan is safe for some
+/// bound from 1 to 14. Otherwise it is `Refused`.
 pub fn verdicts_are_exact()
-    ensures { (plan : Network) (verdict : Verdict) → IsLawful plan verdict → (ReachesAtLeast plan most_classes → ⊥)
+    ensures { (plan : Network) (verdict : Verdict) → IsLawful plan verdict → (ReachesAtLeast plan plan.limits.classes → ⊥)
         → (IsAccepted verdict ↔ (bound : ℕ) × IsSafeFor plan bound) }
 {}
 

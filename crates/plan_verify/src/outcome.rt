@@ -4,7 +4,7 @@ use crate::trace::Trace;
 /// The cover whose start has the greatest rank, and that rank.
 #[derive(Clone, Copy)]
 pub(crate) struct Greatest {
-    pub cover: u16,
+    pub cover: u32,
     pub rank: u8,
 }
 
@@ -14,7 +14,7 @@ pub(crate) enum Outcome {
     /// All starts have ranks.
     Ranked(Greatest),
     /// A title of this cover has a bad route.
-    Refuted(u16, Trace),
+    Refuted(u32, Trace),
     /// The plan reaches too many classes.
     TooMany,
 }

@@ -23,7 +23,7 @@ pub(crate) fn explore_starts(
     ensures sound { IsSound plan.now ranks.new }
     ensures outcome { IfOk result (IsOutcome plan.now ranks.new) }
 {
-    let count = plan.covers().as_slice().len() as u16;
+    let count = plan.covers().as_slice().len() as u32;
     let mut greatest = Greatest { cover: 0, rank: 0 };
     for number in 0..count {
         match explore(alloc, plan, &start(plan, number), 0, ranks)? {
@@ -36,7 +36,7 @@ pub(crate) fn explore_starts(
 }
 
 /// The one of two covers whose start has the greater rank.
-fn greater(greatest: Greatest, number: u16, rank: u8) -> Greatest
+fn greater(greatest: Greatest, number: u32, rank: u8) -> Greatest
     ensures least { greatest.rank ≤ result.rank }
     ensures above { rank ≤ result.rank }
     ensures one { (result ≡ greatest) ⊎ ((result.cover ≡ number) × (result.rank ≡ rank)) }

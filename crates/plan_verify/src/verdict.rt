@@ -13,7 +13,7 @@ pub enum Verdict {
     Accepted(Accepted),
     /// Some route is bad, so the plan is not safe for any bound up to 14.
     Refused(Plan, Witness),
-    /// The plan reaches at least 262,144 classes: there is no verdict on its safety.
+    /// The plan reaches at least as many classes as its limit says: there is no verdict on its safety.
     TooWide(Plan),
 }
 

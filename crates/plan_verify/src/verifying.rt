@@ -24,7 +24,7 @@ use std::alloc::Global;
 
 /// The verdict on a plan. It is `Accepted` if each covered title is blocked or has an allowed end within fourteen hops,
 /// whatever the relays on its route have prohibited. It is `Refused` if some covered title has a bad route. It is `TooWide`
-/// if the search gave up, which happens only if the plan reaches at least 262,144 classes of titles.
+/// if the search gave up, which happens only if the plan reaches at least as many classes of titles as its limit says.
 pub fn verify(alloc: Global, plan: Plan) -> Result<Verdict, OutOfMemory>
     ensures same { IfOk result (λ verdict. plan_of verdict ≡ plan) }
     ensures lawful { IfOk result (IsLawful plan) }
@@ -63,7 +63,7 @@ fn judge(
 }
 
 /// The plan with the witness of a title that a cover has.
-fn refuse(alloc: Global, plan: Plan, number: u16, trace: Trace) -> Result<Verdict, OutOfMemory>
+fn refuse(alloc: Global, plan: Plan, number: u32, trace: Trace) -> Result<Verdict, OutOfMemory>
     requires plan { IsPlan plan }
     requires trace { IsSomeAnd (slice_get plan.covers number) (λ cover. IsTrace plan (start_of number cover) 0 trace) }
     ensures same { IfOk result (λ verdict. plan_of verdict ≡ plan) }
@@ -79,7 +79,7 @@ fn refuse(alloc: Global, plan: Plan, number: u16, trace: Trace) -> Result<Verdic
 }
 
 /// The witness of a title that a cover has.
-fn refute(alloc: Global, plan: &Plan, number: u16, trace: Trace) -> Result<Witness, OutOfMemory>
+fn refute(alloc: Global, plan: &Plan, number: u32, trace: Trace) -> Result<Witness, OutOfMemory>
     requires plan { IsPlan plan.now }
     requires trace { IsSomeAnd (slice_get plan.now.covers number) (λ cover. IsTrace plan.now (start_of number cover) 0 trace) }
     ensures { IfOk result (IsWitness plan.now) }

@@ -1,5 +1,4 @@
 use Rattle.std.proofs.Common.{ℕ, ◌↔◌}
-use Rattle.plan_model.specs.Limits.{most_classes}
 use Rattle.plan_model.specs.Network.{Network}
 use Rattle.plan_model.proofs.SafeWays.{safe_not_bad}
 use Rattle.plan_classes.specs.Classes.{ReachesAtLeast}
@@ -8,7 +7,7 @@ use Rattle.plan_verify.specs.declared.verdict.Verdict.TheVariants.{Accepted, Ref
 use Rattle.plan_verify.specs.Lawful.{IsLawful, IsAccepted, IsSafeFor}
 use Rattle.plan_verify.proofs.laws.verdicts_are_exact.Goals as goal
 
-exact : (plan : Network) (verdict : Verdict) → IsLawful plan verdict → (ReachesAtLeast plan most_classes → ⊥)
+exact : (plan : Network) (verdict : Verdict) → IsLawful plan verdict → (ReachesAtLeast plan plan.limits.classes → ⊥)
     → (IsAccepted verdict ↔ (bound : ℕ) × IsSafeFor plan bound)
 exact plan (Accepted accepted) lawful narrow = (λ t. (accepted.bound, lawful.0), λ s. tt)
 exact plan (Refused same w) lawful narrow =
