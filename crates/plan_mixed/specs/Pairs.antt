@@ -1,7 +1,6 @@
 -- The titles that a cover of each of two plans has.
 use Rattle.std.specs.Prelude.{ℕ, ◌≡◌, ◌+◌, ◌-◌, ◌*◌, ◌/◌, ◌%◌, ◌≤◌, ◌⊎◌, IsTrue, nat_eq, nat_lt, if◌then◌else◌, max, min, List, length}
 use Rattle.std.specs.List.{starts_with}
-use Rattle.plan_model.specs.Limits.{most_covers}
 use Rattle.plan_model.specs.declared.cover.Cover.{Cover}
 use Rattle.plan_classes.specs.Titles.{Titles, titles}
 
@@ -25,16 +24,20 @@ pub record Meet (a b : Cover) : Type 0 where
   pub begins : IsTrue (starts_with nat_eq a.prefix b.prefix) ⊎ IsTrue (starts_with nat_eq b.prefix a.prefix)
   pub fits : least_of_both a b ≤ most_of_both a b
 
--- the number of a pair of covers, one of each plan, which are given by their places: a plan has at most 256 covers
+-- how many places two octets can name: a plan has fewer covers
+abbrev pub place_range : ℕ
+place_range = 65536
+
+-- the number of a pair of covers, one of each plan, which are given by their places
 abbrev pub pair : ℕ → ℕ → ℕ
-pair old new = old * most_covers + new
+pair old new = old * place_range + new
 
 -- the places of a pair's covers
 abbrev pub old_of : ℕ → ℕ
-old_of number = number / most_covers
+old_of number = number / place_range
 
 abbrev pub new_of : ℕ → ℕ
-new_of number = number % most_covers
+new_of number = number % place_range
 
 -- the titles that both covers have, under a number: the longer prefix, and as many further digits as suit both
 abbrev pub shared : ℕ → Cover → Cover → Titles

@@ -1,39 +1,41 @@
 //! The titles that a cover of each plan has.
 ghost use Rattle.std.specs.Prelude.{◌≡◌, ◌<◌, ◌≤◌, ◌-◌, ◌↔◌, ◌⊎◌, nat_eq, IsTrue, IfSome, IsSomeAnd, None, length, slice_get};
 ghost use Rattle.std.specs.List.{starts_with};
-ghost use Rattle.plan_model.specs.Limits.{most_covers};
 ghost use Rattle.plan_model.specs.declared.spot.Spot.{Spot};
 ghost use Rattle.plan_model.specs.Network.{IsCover};
 ghost use Rattle.plan_model.specs.Covered.{Covers};
 ghost use Rattle.plan_classes.specs.Titles.{HasTitle};
-ghost use Rattle.plan_mixed.specs.Pairs.{Meet, longer, least_of_both, most_of_both, pair, old_of, new_of, shared};
+ghost use Rattle.plan_mixed.specs.Pairs.{Meet, place_range, longer, least_of_both, most_of_both, pair, old_of, new_of, shared};
 
 use plan_classes::Class;
-use plan_model::{Cover, MOST_COVERS, Plan};
+use plan_model::{Cover, Plan};
 use sccp_base::Digits;
 
-/// The number of a pair of covers, which are given by their places in the two plans. A plan has at most 256 covers, so no two
-/// pairs have the same number.
-pub fn pair(old: u16, new: u16) -> u16
-    requires old { old < most_covers }
-    requires new { new < most_covers }
+/// How many places two octets can name. A plan has fewer covers.
+const PLACE_RANGE: u32 = 65_536;
+
+/// The number of a pair of covers, which are given by their places in the two plans. A place has two octets, and the number is
+/// the old one before the new one, so no two pairs have the same number.
+pub fn pair(old: u32, new: u32) -> u32
+    requires old { old < place_range }
+    requires new { new < place_range }
     ensures { result ≡ pair old new }
 {
-    old * MOST_COVERS + new
+    old * PLACE_RANGE + new
 }
 
 /// The place of the old plan's cover of a pair.
-pub fn old_of(number: u16) -> u16
+pub fn old_of(number: u32) -> u32
     ensures { result ≡ old_of number }
 {
-    number / MOST_COVERS
+    number / PLACE_RANGE
 }
 
 /// The place of the new plan's cover of a pair.
-pub fn new_of(number: u16) -> u16
+pub fn new_of(number: u32) -> u32
     ensures { result ≡ new_of number }
 {
-    number % MOST_COVERS
+    number % PLACE_RANGE
 }
 
 /// The longer of two prefixes.
@@ -78,7 +80,7 @@ fn meet(a: &Cover, b: &Cover) -> bool
 }
 
 /// The titles that both covers have, under a number.
-fn shared_by(number: u16, a: &Cover, b: &Cover) -> Class
+fn shared_by(number: u32, a: &Cover, b: &Cover) -> Class
     requires meet { Meet a.now b.now }
     requires most { a.now.most ≤ 32 }
     ensures { result ≡ shared number a.now b.now }
@@ -100,18 +102,18 @@ fn shared_by(number: u16, a: &Cover, b: &Cover) -> Class
 }
 
 /// The cover at a place of a plan.
-fn cover_at(plan: &Plan, place: u16) -> &Cover
+fn cover_at(plan: &Plan, place: u32) -> &Cover
     requires { place < length plan.now.covers }
     ensures value { slice_get plan.now.covers place ≡ Some result.now }
     ensures sound { IsCover plan.now.nodes result.now }
-    ensures few { length plan.now.covers ≤ most_covers }
+    ensures few { length plan.now.covers < place_range }
 {
-    &plan.covers().as_slice()[usize::from(place)]
+    &plan.covers().as_slice()[place as usize]
 }
 
 /// The titles that the old plan's cover at place i and the new plan's cover at place j both have. The class has the pair's
 /// number in place of a cover's. The result is `None` exactly if no title has both. It takes no memory.
-pub fn shared(old: &Plan, new: &Plan, i: u16, j: u16) -> Option<Class>
+pub fn shared(old: &Plan, new: &Plan, i: u32, j: u32) -> Option<Class>
     requires old { i < length old.now.covers }
     requires new { j < length new.now.covers }
     ensures some { IsSomeAnd (slice_get old.now.covers i)
