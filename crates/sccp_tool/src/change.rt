@@ -46,10 +46,7 @@ fn change_of<'a>(limits: Limits, old: &'a str, new: &'a str) -> Option<Command<'
     if !is_file_name(new.as_bytes()) {
         return None;
     }
-    Some(Command::Change(
-        PlanPath::new(old, limits),
-        PlanPath::new(new, limits),
-    ))
+    Some(Command::Change(PlanPath::new(old, limits), PlanPath::new(new, limits)))
 }
 
 /// Prints whether relays may hold either of the plans of two files. The first file that has no accepted plan gives the

@@ -82,10 +82,7 @@ fn connect_of<'a>(
         return Ok(None);
     }
     match calling_of(alloc, start, from, octets)? {
-        Some(calling) => Ok(Some(Command::Connect(
-            PlanPath::new(plan, limits),
-            calling,
-        ))),
+        Some(calling) => Ok(Some(Command::Connect(PlanPath::new(plan, limits), calling))),
         None => Ok(None),
     }
 }

@@ -40,11 +40,7 @@ fn replay_of<'a>(
         return None;
     }
     match Workers::parse(workers.as_bytes()) {
-        Some(workers) => Some(Command::Replay(
-            PlanPath::new(plan, limits),
-            trace,
-            workers,
-        )),
+        Some(workers) => Some(Command::Replay(PlanPath::new(plan, limits), trace, workers)),
         None => None,
     }
 }

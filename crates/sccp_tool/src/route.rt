@@ -44,11 +44,7 @@ pub fn route_words<'a>(limits: Limits, words: &'a [String]) -> Option<Command<'a
 
 /// The command of these five words.
 #[tactic(auto, unfolding(crate::specs::Route::route_of))]
-fn route_of<'a>(
-    limits: Limits,
-    plan: &'a str,
-    start: &StartWords<'_>,
-) -> Option<Command<'a>>
+fn route_of<'a>(limits: Limits, plan: &'a str, start: &StartWords<'_>) -> Option<Command<'a>>
     ensures { task_in result ≡ route_of limits plan.now start.now.node.now start.now.selector.now start.now.ssn.now start.now.digits.now }
 {
     if !is_file_name(plan.as_bytes()) {

@@ -82,10 +82,7 @@ fn send_on_of<'a>(
         return Ok(None);
     }
     match incoming_of(alloc, node, origin, size, digits)? {
-        Some(incoming) => Ok(Some(Command::SendOn(
-            PlanPath::new(plan, limits),
-            incoming,
-        ))),
+        Some(incoming) => Ok(Some(Command::SendOn(PlanPath::new(plan, limits), incoming))),
         None => Ok(None),
     }
 }

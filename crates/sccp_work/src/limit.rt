@@ -29,7 +29,8 @@ pub fn within_limit<F: Files, K: Sink>(
     // What is left of the other file stays.
     ensures other { other which (F.left files.new) (F.left_beside files.new) ≡ other which (F.left files.old) (F.left_beside files.old) }
 {
-    match read_whole(alloc, files, which, file.name(), file.limits().octets as usize)? {
+    let most = file.limits().octets as usize;
+    match read_whole(alloc, files, which, file.name(), most)? {
         Some(octets) => Ok(octets),
         None => {
             let line = too_long_text(alloc, file.limits())?;
