@@ -79,11 +79,11 @@ fn put_broken_words(text: &mut Text) -> Result<(), OutOfMemory>
 
 /// Appends the places of two covers, one of each plan, which end the line.
 #[tactic(auto, unfolding(crate::specs::Changes::covers_words))]
-fn put_covers(text: &mut Text, old_cover: u16, new_cover: u16) -> Result<(), OutOfMemory>
+fn put_covers(text: &mut Text, old_cover: u32, new_cover: u32) -> Result<(), OutOfMemory>
     ensures { OnOk result (text.new ≡ text.old ++ covers_words old_cover new_cover) }
 {
-    text.put_numbered(b" covers ", u32::from(old_cover))?;
-    text.put_numbered(b" ", u32::from(new_cover))?;
+    text.put_numbered(b" covers ", old_cover)?;
+    text.put_numbered(b" ", new_cover)?;
     text.put(b"\n")
 }
 
@@ -91,8 +91,8 @@ fn put_covers(text: &mut Text, old_cover: u16, new_cover: u16) -> Result<(), Out
 #[tactic(auto, unfolding(crate::specs::Changes::broken_line))]
 fn put_broken(
     text: &mut Text,
-    old_cover: u16,
-    new_cover: u16,
+    old_cover: u32,
+    new_cover: u32,
     kind: Kind,
 ) -> Result<(), OutOfMemory>
     ensures { OnOk result (text.new ≡ text.old ++ broken_line old_cover new_cover kind) }

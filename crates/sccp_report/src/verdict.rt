@@ -47,12 +47,12 @@ pub fn put_steady(text: &mut Text, steady: bool) -> Result<(), OutOfMemory>
 
 /// Appends the line of a plan that is refused by a route of a title that this cover has.
 #[tactic(auto, unfolding(crate::specs::Verdicts::refused_line))]
-pub fn put_refused(text: &mut Text, cover: u16, kind: Kind, steady: bool) -> Result<(), OutOfMemory>
+pub fn put_refused(text: &mut Text, cover: u32, kind: Kind, steady: bool) -> Result<(), OutOfMemory>
     ensures { OnOk result (text.new ≡ text.old ++ refused_line cover kind steady) }
 {
     text.put(b"refused ")?;
     put_kind(text, kind)?;
-    text.put_numbered(b" cover ", u32::from(cover))?;
+    text.put_numbered(b" cover ", cover)?;
     put_steady(text, steady)
 }
 
