@@ -32,14 +32,15 @@ after_step : {A : Type 0} (limits : Limits) (r : Result A PlanFault) (next : A �
 after_step limits (Ok x) next keeps plan is = keeps x plan is
 after_step limits (Err fault) next keeps plan is = absurd (cc)
 
-same : (p q : Network) → Ok p ≡ {A = Result Network PlanFault} Ok q → p ≡ q
-same p q is = cc
+same : (r : Result Network PlanFault) (p q : Network) → r ≡ Ok p → r ≡ Ok q → p ≡ q
+same r p q first second = cc
 
 of_finished : (limits : Limits) (nodes : List Node) (covers : List Cover) → Keeps limits (finished limits nodes covers)
 unfolding finished
 of_finished limits nodes covers =
     after_test limits (plan_fault_within limits nodes covers) (Ok (network_within limits nodes covers))
-    (λ plan is. ap (λ p. p.limits) (sym (same (network_within limits nodes covers) plan is)))
+    (λ plan is. ap (λ (p : Network). p.limits)
+    (sym (same (Ok (network_within limits nodes covers)) (network_within limits nodes covers) plan refl is)))
 
 of_resolved : (limits : Limits) (version : TextVersion) (nodes covers : List Data) (drafts : List Drafted) (read : List Cover)
     → Keeps limits (resolved limits version nodes covers drafts read)
