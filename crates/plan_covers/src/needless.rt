@@ -105,7 +105,7 @@ pub fn needless_covers(alloc: Global, plan: &Plan) -> Result<List<Needless>, Out
 }
 
 fn list_needless(alloc: Global, covers: &[Cover]) -> Result<List<Needless>, OutOfMemory>
-    requires { length covers.now ≤ 256 }
+    requires { length covers.now ≤ 65535 }
     ensures { IfOk result (AreNeedless covers.now) }
 {
     let mut found = List::new(alloc);
