@@ -6,7 +6,6 @@ use Rattle.std.proofs.Common.{sym, ◌∙◌, ap, subst, inl, inr, ⊎_elim, ari
 use Rattle.std.proofs.lemmas.Bool.{cases_lt}
 use Rattle.std.proofs.lemmas.List.{get_or_past, length-map}
 use Rattle.std.proofs.lemmas.Option.{slice_get_within, slice_get-get_or, get_or_from_slice_get}
-use Rattle.plan_model.specs.Limits.{most_covers}
 use Rattle.plan_model.specs.declared.cover.Cover.{Cover}
 use Rattle.plan_model.specs.declared.spot.Spot.{Spot}
 use Rattle.plan_model.specs.declared.hop.Step.{Step}
@@ -26,7 +25,7 @@ use Rattle.plan_check.proofs.Soundness.{some_of}
 use Rattle.plan_mixed.specs.declared.which.Which.{Which}
 use Rattle.plan_mixed.specs.declared.which.Which.TheVariants.{Old, New}
 use Rattle.plan_model.specs.SameNodes.{SameNodes, without_rows}
-use Rattle.plan_mixed.specs.Pairs.{pair, old_of, new_of, shared}
+use Rattle.plan_mixed.specs.Pairs.{place_range, pair, old_of, new_of, shared}
 use Rattle.plan_mixed.specs.Mixed.{held}
 use Rattle.plan_mixed.proofs.Meeting.{meets, shared_exact}
 use Rattle.plan_mixed.proofs.Pairing.{old_of_pair, new_of_pair}
@@ -156,8 +155,8 @@ suits_all old new spot (Ended pc ssn target) also a b each = (
       subst (λ (o : Option Cover). IsSomeAnd o (λ q. Contains q.allowed (pc, ssn))) c.at there,
 )
   where
-    few : (d : HasCover new spot) → d.number < most_covers
-    few d = omega (arith, slice_get_within new.covers d.number d.cover d.at, also.few_covers)
+    few : (d : HasCover new spot) → d.number < place_range
+    few d = omega (arith, slice_get_within new.covers d.number d.cover d.at, also.cover_places)
 
 -- a walk that ended without a bad title shows that the mixture is safe for its hops
 pub through_safe : (old new : Network) (layers : List (List Stop)) (bound : ℕ) → IsPlan old → IsPlan new → AreLayers old new layers
@@ -222,8 +221,8 @@ first_covered old new layers number spot is also are h =
     start : IsFromStart old new stop.0
     start = of_all (IsFromStart old new) (stops_at layers 0) h.0 stop.0 stop.1 are.first
 
-    few : start.j < most_covers
-    few = omega (arith, slice_get_within new.covers start.j start.b start.new_at, also.few_covers)
+    few : start.j < place_range
+    few = omega (arith, slice_get_within new.covers start.j start.b start.new_at, also.cover_places)
 
     number_is : pair start.i start.j ≡ number
     number_is = sym start.inside.cover ∙ stop.2.0

@@ -17,13 +17,13 @@ pub enum Change {
     /// A title that these covers have takes these hops under these turns, and they are bad. `Forbidden` says that one of the two
     /// covers does not allow the place.
     Broken {
-        old_cover: u16,
-        new_cover: u16,
+        old_cover: u32,
+        new_cover: u32,
         spot: Spot,
         turns: List<Turn>,
         hops: List<MixedHop>,
         kind: Kind,
     },
-    /// The two plans reach at least 262,144 classes: there is no answer on the mixture.
+    /// The two plans reach at least as many classes as the limit of the old plan says: there is no answer on the mixture.
     TooWide,
 }

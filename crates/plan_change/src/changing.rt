@@ -22,7 +22,8 @@ use std::alloc::Global;
 
 /// Whether two accepted plans may be mixed. Then each title that both cover is blocked, or reaches a place that all its covers
 /// in both plans allow. That holds whichever of the two plans each relay on its route has, and whatever it has prohibited.
-/// `Broken` shows a title for which it does not hold. `TooWide` is given only if the two plans reach at least 262,144 classes.
+/// `Broken` shows a title for which it does not hold. `TooWide` is given only if the two plans reach at least as many classes as
+/// the limit of the old plan says.
 /// The fault is `OtherNodes` exactly if names, point codes, subsystems and concerned points, in order, are not the same.
 pub fn change(alloc: Global, old: &Accepted, new: &Accepted) -> Result<Change, ChangeFault>
     ensures lawful { IfOk result (IsLawfulChange old.now.plan new.now.plan) }

@@ -1,7 +1,6 @@
 //! The titles of a class on their next hop.
 ghost use Rattle.std.specs.Prelude.{◌≡◌, ◌<◌, ◌⊎◌, IsTrue, false, length, IsSomeAnd, IfSome, IfOk, OnOk, Err, None, Some};
 ghost use Rattle.plan_classes.specs.declared.leads.Image.TheVariants.{Ends};
-ghost use Rattle.plan_model.specs.Limits.{most_classes};
 ghost use Rattle.plan_model.specs.Network.{IsPlan};
 ghost use Rattle.plan_classes.specs.Titles.{IsClass, IsMember, IsLongest};
 ghost use Rattle.plan_classes.specs.Classes.{class_row, Reaches};
@@ -40,7 +39,7 @@ pub(crate) fn follow(
     ensures grows { OnOk result (Grows hop.old.stops hop.new.stops (ComesFrom plans.now.old.now plans.now.new.now class.now place)) }
     ensures well { IfOk result (λ way. way ≡ None → LeadsInto plans.now.old.now plans.now.new.now class.now hop.new.stops) }
     ensures bad { IfOk result (λ way. IfSome way (IsBadHere plans.now.old.now plans.now.new.now class.now)) }
-    ensures wide { result ≡ Err halts.Wide → MixedReachAtLeast plans.now.old.now plans.now.new.now most_classes }
+    ensures wide { result ≡ Err halts.Wide → MixedReachAtLeast plans.now.old.now plans.now.new.now plans.now.old.now.limits.classes }
 {
     match follow_plan(alloc, plans, Which::Old, class, place, hop)? {
         Some(way) => Ok(Some(way)),
@@ -64,7 +63,7 @@ fn follow_plan(
     ensures well { IfOk result (λ way. way ≡ None → LeadsUnder plans.now.old.now plans.now.new.now
         (held plans.now.old.now plans.now.new.now which) class.now hop.new.stops) }
     ensures bad { IfOk result (λ way. IfSome way (IsBadHere plans.now.old.now plans.now.new.now class.now)) }
-    ensures wide { result ≡ Err halts.Wide → MixedReachAtLeast plans.now.old.now plans.now.new.now most_classes }
+    ensures wide { result ≡ Err halts.Wide → MixedReachAtLeast plans.now.old.now plans.now.new.now plans.now.old.now.limits.classes }
 {
     match class_row(plans.held(which), class) {
         Some(row) => follow_row(alloc, plans, which, class, row, place, hop),
@@ -92,7 +91,7 @@ fn follow_row(
     ensures well { IfOk result (λ way. way ≡ None → LeadsUnder plans.now.old.now plans.now.new.now
         (held plans.now.old.now plans.now.new.now which) class.now hop.new.stops) }
     ensures bad { IfOk result (λ way. IfSome way (IsBadHere plans.now.old.now plans.now.new.now class.now)) }
-    ensures wide { result ≡ Err halts.Wide → MixedReachAtLeast plans.now.old.now plans.now.new.now most_classes }
+    ensures wide { result ≡ Err halts.Wide → MixedReachAtLeast plans.now.old.now plans.now.new.now plans.now.old.now.limits.classes }
 {
     for target in 0..row.target_count() {
         let origin = Origin {
@@ -126,7 +125,7 @@ fn follow_target(
     ensures well { IfOk result (λ way. way ≡ None → TargetGoesWell plans.now.old.now plans.now.new.now
         (held plans.now.old.now plans.now.new.now origin.which) class.now origin.target hop.new.stops) }
     ensures bad { IfOk result (λ way. IfSome way (IsBadHere plans.now.old.now plans.now.new.now class.now)) }
-    ensures wide { result ≡ Err halts.Wide → MixedReachAtLeast plans.now.old.now plans.now.new.now most_classes }
+    ensures wide { result ≡ Err halts.Wide → MixedReachAtLeast plans.now.old.now plans.now.new.now plans.now.old.now.limits.classes }
 {
     let plan = plans.held(origin.which);
     if !reaches_by(plan, class, row, origin.target) {
@@ -165,7 +164,7 @@ fn ended(
 }
 
 /// Whether both covers of a pair allow a place.
-fn both_allow(plans: &Plans<'_>, number: u16, pc: PointCode, ssn: u8) -> bool
+fn both_allow(plans: &Plans<'_>, number: u32, pc: PointCode, ssn: u8) -> bool
     requires pair { IsPair plans.now.old.now plans.now.new.now number }
     ensures yes { IsTrue result → PairAllows plans.now.old.now plans.now.new.now number pc ssn }
     ensures no { result ≡ false → Forbids plans.now.old.now (old_of number) pc ssn ⊎ Forbids plans.now.new.now (new_of number) pc ssn }

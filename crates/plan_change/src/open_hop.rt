@@ -2,7 +2,7 @@
 ghost use Rattle.std.specs.Prelude.{◌≡◌, []};
 
 use crate::stop::Stop;
-use plan_check::Ranks;
+use plan_check::RankTable;
 use sccp_base::List;
 use std::alloc::Global;
 
@@ -10,7 +10,7 @@ use std::alloc::Global;
 /// titles.
 #[derive(Drop)]
 pub(crate) struct OpenHop {
-    pub met: Ranks,
+    pub met: RankTable,
     pub stops: List<Stop>,
 }
 
@@ -21,7 +21,7 @@ impl OpenHop {
         ensures stops { result.stops ≡ [] }
     {
         OpenHop {
-            met: Ranks::new(alloc),
+            met: RankTable::new(alloc),
             stops: List::new(alloc),
         }
     }

@@ -1,5 +1,4 @@
 use Rattle.std.proofs.Common.{ℕ, ◌↔◌}
-use Rattle.plan_model.specs.Limits.{most_classes}
 use Rattle.plan_model.specs.Network.{Network}
 use Rattle.plan_mixed.specs.Mixed.{MixedReachAtLeast}
 use Rattle.plan_change.specs.declared.answer.Change.{Change}
@@ -8,7 +7,7 @@ use Rattle.plan_change.specs.Changes.{IsLawfulChange, IsKept, IsMixedSafeFor}
 use Rattle.plan_change.proofs.SafeMixtures.{safe_not_bad}
 use Rattle.plan_change.proofs.laws.changes_are_exact.Goals as goal
 
-exact : (old new : Network) (change : Change) → IsLawfulChange old new change → (MixedReachAtLeast old new most_classes → ⊥)
+exact : (old new : Network) (change : Change) → IsLawfulChange old new change → (MixedReachAtLeast old new old.limits.classes → ⊥)
     → (IsKept change ↔ (bound : ℕ) × IsMixedSafeFor old new bound)
 exact old new (Kept bound spot turns) lawful narrow = (λ t. (bound, (lawful.0, lawful.1)), λ s. tt)
 exact old new (Broken i j spot turns hops kind) lawful narrow =
