@@ -36,7 +36,7 @@ fn row_at(plan: &Plan, place: RowPlace) -> Option<&Row>
     ensures { option_copied result ≡ row_at plan.now place }
 {
     match plan.nodes().as_slice().get(usize::from(place.node)) {
-        Some(node) => node.table.rows().get(usize::from(place.row)),
+        Some(node) => node.table.rows().get(place.row as usize),
         None => None,
     }
 }
@@ -67,12 +67,12 @@ fn put_at_row(
     words: &[u8],
     plan: &Plan,
     node: u8,
-    row: u16,
+    row: u32,
 ) -> Result<(), OutOfMemory>
     ensures { OnOk result (text.new ≡ text.old ++ at_row words.now plan.now node row) }
 {
     put_at_node(text, words, plan, node)?;
-    text.put_numbered(b" ", u32::from(row))
+    text.put_numbered(b" ", row)
 }
 
 /// Appends the last number of a line.
@@ -133,7 +133,7 @@ fn put_gap(alloc: Global, text: &mut Text, plan: &Plan, gap: &Gap) -> Result<(),
     requires { gap.now.spot.node < length plan.now.nodes }
     ensures { OnOk result (text.new ≡ text.old ++ gap_line plan.now gap.now) }
 {
-    text.put_numbered(b"gap cover ", u32::from(gap.cover))?;
+    text.put_numbered(b"gap cover ", gap.cover)?;
     put_step_of(alloc, text, plan, &gap.spot)?;
     text.put(b" ")?;
     put_spot(text, plan, &gap.spot)?;
