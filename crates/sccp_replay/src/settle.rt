@@ -2,7 +2,7 @@
 ghost use Rattle.std.specs.Prelude.{◌≡◌, ◌+◌, ◌≤◌, ◌++◌, [], ◌∷◌, length, IfOk, OnOk};
 ghost use Rattle.plan_model.specs.Network.{IsPlan, Network};
 ghost use Rattle.plan_model.specs.SameNodes.{SameNodes};
-ghost use Rattle.plan_text.specs.PlanText.{plan_of as read_plan};
+ghost use Rattle.plan_text.specs.PlanText.{plan_within};
 ghost use Rattle.plan_verify.specs.Lawful.{IsLawful, plan_of};
 ghost use Rattle.sccp_report.specs.Events.{event_text};
 ghost use Rattle.sccp_report.specs.Roles.{StandsIn, role_of};
@@ -117,11 +117,12 @@ fn read_later(
 ) -> Result<Settled, OutOfMemory>
     requires plans { HasRoom at.now.first (ahead at.now coming.old).later }
     ensures plans { OnOk result (AtMostOneMore at.now.first (ahead at.now coming.old).later (ahead at.now coming.new).later) }
-    ensures gives { IfOk result (λ s. GivesPlanLine (ahead at.now coming.old) line name.now (read_plan text.now) (ahead at.now coming.new)
-        (settled_in s)) }
+    ensures gives { IfOk result (λ s. GivesPlanLine (ahead at.now coming.old) line name.now (plan_within at.now.first.limits text.now)
+        (ahead at.now coming.new) (settled_in s)) }
     ensures fits { IfOk result (ComesToNode at.now.first) }
 {
-    match plan_text::read(alloc, text) {
+    let limits = at.limits();
+    match plan_text::read_within(alloc, limits, text) {
         Ok(plan) => {
             if have_same_nodes(at.first(), &plan) {
                 judge_later(alloc, at, coming, line, name, plan)
@@ -130,11 +131,11 @@ fn read_later(
                 Ok(Settled::Prints(other_nodes_line(alloc, line, name)?))
             }
         }
-        Err(fault) => Ok(Settled::Prints(bad_plan_line(alloc, line, name, &fault)?)),
+        Err(fault) => Ok(Settled::Prints(bad_plan_line(alloc, line, name, limits, &fault)?)),
     }
 }
 
-/// Settles a plan line: its file is read beside the trace.
+/// Settles a plan line: its file is read beside the trace, under the limits of the first plan.
 fn settle_plan<F: Files, K: Sink>(
     at: &Replayer,
     coming: &mut List<Accepted>,
@@ -152,7 +153,8 @@ fn settle_plan<F: Files, K: Sink>(
     ensures left { F.left files.new ≡ F.left files.old }
 {
     let alloc = at.alloc();
-    let text = within_limit(alloc, Opened::Beside, name, files, out)?;
+    let file = at.later_file(name);
+    let text = within_limit(alloc, Opened::Beside, &file, files, out)?;
     Ok(read_later(alloc, at, coming, line, name, &text)?)
 }
 
