@@ -9,8 +9,9 @@ ghost use Rattle.sccp_report.specs.Roles.{StandsIn, role_of};
 ghost use Rattle.sccp_report.specs.Verdicts.{verdict_text};
 ghost use Rattle.sccp_replay.specs.Gathering.{MayBeDone, joining_role, lines_in};
 ghost use Rattle.sccp_replay.specs.LaterPlans.{accepted_plan_line, refused_plan_head};
+ghost use Rattle.sccp_work.specs.Limit.{GivesWhole};
 ghost use Rattle.sccp_work.specs.Moment.{moment};
-ghost use Rattle.sccp_replay.specs.Replay.{accepted, prints};
+ghost use Rattle.sccp_replay.specs.Replay.{accepted, later_file, prints};
 ghost use Rattle.sccp_replay.specs.Replayers.{ComesToNode, MayBeRouted, settled_in};
 ghost use Rattle.sccp_replay.specs.Routings.{ArePlans, AtMostOneMore, HasRoom, ahead};
 ghost use Rattle.sccp_replay.specs.Settling.{JudgesLine, GivesPlanLine, GivesPlanFile, GivesLine, GivesSettled};
@@ -135,7 +136,23 @@ fn read_later(
     }
 }
 
-/// Settles a plan line: its file is read beside the trace, under the limits of the first plan.
+/// The text of a later plan. Its file is read beside the trace, under the limits of the first plan.
+fn later_text<F: Files, K: Sink>(
+    at: &Replayer,
+    name: &str,
+    files: &mut F,
+    out: &mut K,
+) -> Result<Vec<u8>, Stop>
+    ensures whole { GivesWhole (later_file at.now name.now) result
+        (moment F.contents F.sound F.faults K.taken K.faults files.old out.old)
+        (moment F.contents F.sound F.faults K.taken K.faults files.new out.new) }
+    ensures left { F.left files.new ≡ F.left files.old }
+{
+    let file = at.later_file(name);
+    within_limit(at.alloc(), Opened::Beside, &file, files, out)
+}
+
+/// Settles a plan line by the text of its file.
 fn settle_plan<F: Files, K: Sink>(
     at: &Replayer,
     coming: &mut List<Accepted>,
@@ -152,10 +169,8 @@ fn settle_plan<F: Files, K: Sink>(
     ensures fits { IfOk result (ComesToNode at.now.first) }
     ensures left { F.left files.new ≡ F.left files.old }
 {
-    let alloc = at.alloc();
-    let file = at.later_file(name);
-    let text = within_limit(alloc, Opened::Beside, &file, files, out)?;
-    Ok(read_later(alloc, at, coming, line, name, &text)?)
+    let text = later_text(at, name, files, out)?;
+    Ok(read_later(at.alloc(), at, coming, line, name, &text)?)
 }
 
 /// Settles a line that is only printed.
