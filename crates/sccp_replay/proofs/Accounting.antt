@@ -12,6 +12,7 @@ use Rattle.plan_model.specs.Network.{Network}
 use Rattle.relay_net.specs.Batches.{Incoming, Due}
 use Rattle.relay_net.specs.States.{State}
 use Rattle.sccp_report.specs.Events.{event_text}
+use Rattle.sccp_report.specs.Limits.{too_long_line}
 use Rattle.sccp_report.specs.Roles.{Role, routed, later, aside, alone, role_of}
 use Rattle.sccp_replay.specs.Trace.{lines_in, fault_in}
 use Rattle.trace_text.specs.declared.line.Numbered.{Numbered}
@@ -22,7 +23,6 @@ use Rattle.sccp_replay.specs.LaterPlans.{first_plan_line}
 use Rattle.sccp_replay.specs.Replay.{Standing, batch_of, batch_work, told_at, is_full, settle, start}
 use Rattle.sccp_replay.specs.Replay.{done_alone, alone_work, batch_printed, gathered, line_work, lines_work, closing_of, end_line}
 use Rattle.sccp_replay.specs.ReplayEnds.{LaterPlansFit, SomeLaterPlanIsLong}
-use Rattle.sccp_work.specs.Texts.{too_long}
 use Rattle.trace_text.specs.declared.line.Line.{Line}
 use Rattle.trace_text.specs.declared.line.Line.TheVariants.{Plan}
 use Rattle.sccp_work.specs.Work.{Work, answered, serve, read_on}
@@ -31,7 +31,7 @@ use Rattle.sccp_work.specs.declared.status.Status.TheVariants.{Done, BadTrace, T
 use Rattle.sccp_replay.proofs.BatchRuns.{IsOpen, IsRun, run_of, run_more, open_none, open_more, full_ends, alone_ends}
 use Rattle.sccp_replay.proofs.Holding.{Joins, alone_changes, managers_alone}
 use Rattle.sccp_replay.proofs.Parts.{no_parts, single, all_front, all_back, all_push}
-use Rattle.sccp_replay.proofs.Settling.{Scene, settled_of, Settles, MayStop, settle_through, one_of}
+use Rattle.sccp_replay.proofs.Settling.{Scene, file_of, settled_of, Settles, MayStop, settle_through, one_of}
 use Rattle.sccp_replay.proofs.SoFar.{SoFar, SoFar-more, texts, batch_pieces, batch_done, is_done}
 use Rattle.sccp_replay.proofs.Telling.{Goes, HasOctets, piece_of}
 use Rattle.sccp_work.proofs.Through.{Through}
@@ -50,7 +50,7 @@ Settles-none z at same = record {
 
 batch_through : (ends : Status → List ℕ → Type 0) (reads fronts : List ℕ → Type 0) (goes : Goes) (z : Scene) (lines ls : List Numbered)
     (pieces : List Piece) (at : Standing) (acc : List ℕ) (next : Standing → List ℕ → Work)
-    → MayStop ends reads fronts z.c ls acc → SoFar z lines pieces at → AllByRecursion (HasOctets z.first.plan) ls
+    → MayStop ends reads fronts z.c z.first.plan.limits ls acc → SoFar z lines pieces at → AllByRecursion (HasOctets z.first.plan) ls
     → AllByRecursion (Joins z.first.plan) ls → IsRun z.first.plan lines ls
     → ((at' : Standing) (more : List Piece) → SoFar z (lines ++ ls) (pieces ++ more) at'
     → Through ends reads fronts (Some z.c) (next at' (texts more)) acc)
@@ -73,21 +73,21 @@ all_lines : Scene → List Numbered
 all_lines z = lines_in z.c z.trace_name
 
 abbrev pub Fronts : Scene → List ℕ → Type 0
-Fronts z acc = IsTold z.c z.first.name z.trace_name z.workers WriteFault acc
+Fronts z acc = IsTold z.c (file_of z) z.trace_name z.workers WriteFault acc
 
 pub record Reads (z : Scene) (acc : List ℕ) : Type 0 where
   pub count : ℕ
-  pub account : Account z.c z.first.name z.workers (take count (lines_in z.c z.trace_name)) [] acc
+  pub account : Account z.c (file_of z) z.workers (take count (lines_in z.c z.trace_name)) [] acc
 
 -- why a replay of a trace that is there ends so
 abbrev pub TraceEnds : Scene → Status → Type 0
-TraceEnds z Done = (fault_in z.c z.trace_name ≡ None) × LaterPlansFit z.c (lines_in z.c z.trace_name)
-TraceEnds z BadTrace = IsSome (fault_in z.c z.trace_name) × LaterPlansFit z.c (lines_in z.c z.trace_name)
-TraceEnds z TooLong = SomeLaterPlanIsLong z.c (lines_in z.c z.trace_name)
+TraceEnds z Done = (fault_in z.c z.trace_name ≡ None) × LaterPlansFit z.c z.first.plan.limits (lines_in z.c z.trace_name)
+TraceEnds z BadTrace = IsSome (fault_in z.c z.trace_name) × LaterPlansFit z.c z.first.plan.limits (lines_in z.c z.trace_name)
+TraceEnds z TooLong = SomeLaterPlanIsLong z.c z.first.plan.limits (lines_in z.c z.trace_name)
 TraceEnds z s = ⊥
 
 abbrev pub Ends : Scene → Status → List ℕ → Type 0
-Ends z s acc = IsTold z.c z.first.name z.trace_name z.workers s acc × TraceEnds z s
+Ends z s acc = IsTold z.c (file_of z) z.trace_name z.workers s acc × TraceEnds z s
 
 -- what was written is made of these pieces
 abbrev pub IsWritten : Scene → List Piece → List ℕ → Type 0
@@ -96,11 +96,12 @@ IsWritten z pieces acc = acc ≡ first_plan_line z.first.name z.first.bound ++ t
 pub account_of : (z : Scene) (done rest : List Numbered) (pieces : List Piece) (at : Standing) (last text : List ℕ) → SoFar z done pieces at
     → lines_in z.c z.trace_name ≡ done ++ rest
     → text ≡ first_plan_line z.first.name z.first.bound ++ (texts pieces ++ last)
-    → Account z.c z.first.name z.workers (take (length done) (lines_in z.c z.trace_name)) last text
+    → Account z.c (file_of z) z.workers (take (length done) (lines_in z.c z.trace_name)) last text
 unfolding texts
 account_of z done rest pieces at last text h e whole = record {
   first = z.first;
   named = refl;
+  under = refl;
   accepted = z.accepted;
   pieces = pieces;
   of_lines = h.of_lines ∙ sym (ap (take (length done)) e ∙ take-append_seam done rest);
@@ -139,7 +140,7 @@ behind_last z pieces acc t last is = sym (append_assoc acc t last) ∙ ap (λ u.
 
 front_last : (z : Scene) (done rest : List Numbered) (pieces : List Piece) (at : Standing) (acc t last front : List ℕ) (s : Status)
     → SoFar z done pieces at → lines_in z.c z.trace_name ≡ done ++ rest → IsWritten z pieces (acc ++ t)
-    → IsLastLine z.c z.trace_name (take (length done) (lines_in z.c z.trace_name)) last s → StartsWith (t ++ last) front
+    → IsLastLine z.c z.first.plan.limits z.trace_name (take (length done) (lines_in z.c z.trace_name)) last s → StartsWith (t ++ last) front
     → Fronts z (acc ++ front)
 front_last z done rest pieces at acc t last front s h e is ends starts = record {
   count = length done;
@@ -155,18 +156,19 @@ among z done ls rest l e has = subst (λ k. Contains k l) (sym e)
     (Contains-append_right done (ls ++ rest) l (Contains-append_left ls rest l has))
 
 may_stop : (z : Scene) (done ls rest : List Numbered) (pieces : List Piece) (at : Standing) (acc : List ℕ) → SoFar z done pieces at
-    → lines_in z.c z.trace_name ≡ done ++ (ls ++ rest) → IsWritten z pieces acc → MayStop (Ends z) (Reads z) (Fronts z) z.c ls acc
+    → lines_in z.c z.trace_name ≡ done ++ (ls ++ rest) → IsWritten z pieces acc → MayStop (Ends z) (Reads z) (Fronts z) z.c z.first.plan.limits ls acc
 may_stop z done ls rest pieces at acc h e is =
+    let long_line : List ℕ = too_long_line z.first.plan.limits in
     let here : IsWritten z pieces (acc ++ []) = append-nil acc ∙ is in (
       reads_now z done (ls ++ rest) pieces at acc h e is,
-      (λ front starts. front_last z done (ls ++ rest) pieces at acc [] too_long front TooLong h e here refl starts),
+      (λ front starts. front_last z done (ls ++ rest) pieces at acc [] long_line front TooLong h e here refl starts),
       (λ number name has long. (
         record {
           count = length done;
-          last = too_long;
-          whole = acc ++ too_long;
-          account = account_of z done (ls ++ rest) pieces at too_long
-              (acc ++ too_long) h e (behind_last z pieces acc [] too_long here);
+          last = long_line;
+          whole = acc ++ long_line;
+          account = account_of z done (ls ++ rest) pieces at long_line
+              (acc ++ long_line) h e (behind_last z pieces acc [] long_line here);
           so = (refl, refl);
         },
         (number, name, among z done ls rest (record { number = number; line = Plan name }) e has, long),
@@ -176,7 +178,7 @@ may_stop z done ls rest pieces at acc h e is =
 -- ---- the closing line
 
 closing_so : (z : Scene) (fault : Option LineFault) → fault_in z.c z.trace_name ≡ fault
-    → IsLastLine z.c z.trace_name (take (length (lines_in z.c z.trace_name)) (lines_in z.c z.trace_name))
+    → IsLastLine z.c z.first.plan.limits z.trace_name (take (length (lines_in z.c z.trace_name)) (lines_in z.c z.trace_name))
     (closing_of (length (lines_in z.c z.trace_name)) fault).1 (closing_of (length (lines_in z.c z.trace_name)) fault).0
 closing_so z None e = (
   take_all (length (lines_in z.c z.trace_name)) (lines_in z.c z.trace_name) (omega arith),
@@ -190,8 +192,8 @@ closing_so z (Some f) e = (
 )
 
 closing_told : (z : Scene) (fault : Option LineFault) (whole : List ℕ) → fault_in z.c z.trace_name ≡ fault
-    → LaterPlansFit z.c (lines_in z.c z.trace_name)
-    → Account z.c z.first.name z.workers (take (length (lines_in z.c z.trace_name)) (lines_in z.c z.trace_name))
+    → LaterPlansFit z.c z.first.plan.limits (lines_in z.c z.trace_name)
+    → Account z.c (file_of z) z.workers (take (length (lines_in z.c z.trace_name)) (lines_in z.c z.trace_name))
     (closing_of (length (lines_in z.c z.trace_name)) fault).1 whole
     → Ends z (closing_of (length (lines_in z.c z.trace_name)) fault).0 whole
 closing_told z None whole e fit account = (
@@ -244,7 +246,7 @@ SoFar-alone z lines pieces at l text states h never managers unnamed =
     (λ b p a e x role. absurd (never x (subst (λ q. role_of z.first.plan q.line.line ≡ routed x)
     (sym (single (piece_of l text None) b p a e).1) role)))
     managers (sym (append-nil at.later)) tt fits where
-      fits : LaterPlansFit z.c (l ∷ [])
+      fits : LaterPlansFit z.c z.first.plan.limits (l ∷ [])
       fits number name has = absurd (unnamed name (ap (λ k. k.line) (one_of l (record { number = number; line = Plan name }) has)))
 
 not_routed : {r : Role} {d : Option Due} {x : Incoming} → r ≡ alone d → r ≡ routed x → ⊥
@@ -397,10 +399,10 @@ last_follows goes z fault f batch done pieces at acc h is e oct joins begun = (
   told at' more h' =
       let is' : IsWritten z (pieces ++ more) (acc ++ texts more) = written_more z pieces more acc is in (
         (λ front starts. front_last z (done ++ batch) [] (pieces ++ more) at' acc (texts more) closing.1 front closing.0 h' all is'
-            (subst (λ n. IsLastLine z.c z.trace_name (take n (lines_in z.c z.trace_name)) closing.1 closing.0) (sym count)
+            (subst (λ n. IsLastLine z.c z.first.plan.limits z.trace_name (take n (lines_in z.c z.trace_name)) closing.1 closing.0) (sym count)
             (closing_so z fault f)) starts),
-        closing_told z fault (acc ++ (texts more ++ closing.1)) f (subst (LaterPlansFit z.c) (append-nil' ∙ sym all) h'.fit)
-            (subst (λ n. Account z.c z.first.name z.workers (take n (lines_in z.c z.trace_name)) closing.1
+        closing_told z fault (acc ++ (texts more ++ closing.1)) f (subst (LaterPlansFit z.c z.first.plan.limits) (append-nil' ∙ sym all) h'.fit)
+            (subst (λ n. Account z.c (file_of z) z.workers (take n (lines_in z.c z.trace_name)) closing.1
             (acc ++ (texts more ++ closing.1))) count
             (account_of z (done ++ batch) [] (pieces ++ more) at' closing.1 (acc ++ (texts more ++ closing.1)) h' all
             (behind_last z (pieces ++ more) acc (texts more) closing.1 is'))),
@@ -434,7 +436,7 @@ pub first_written : (z : Scene) → IsWritten z [] (first_plan_line z.first.name
 unfolding texts
 first_written z = sym (append-nil (first_plan_line z.first.name z.first.bound))
 
-pub account_first : (z : Scene) → Account z.c z.first.name z.workers (take 0 (lines_in z.c z.trace_name)) []
+pub account_first : (z : Scene) → Account z.c (file_of z) z.workers (take 0 (lines_in z.c z.trace_name)) []
     (first_plan_line z.first.name z.first.bound)
 unfolding reads_now
 account_first z = (reads_now z [] (lines_in z.c z.trace_name) [] (at_start z) (first_plan_line z.first.name z.first.bound)

@@ -6,14 +6,16 @@ use Rattle.std.specs.Option.{option_map_or}
 use Rattle.std.proofs.lemmas.List.Elements.{filter_map-append}
 use Rattle.plan_model.specs.Network.{Network}
 use Rattle.plan_model.specs.SameNodes.{same_nodes}
+use Rattle.plan_model.specs.declared.limits.Limits.{Limits}
 use Rattle.plan_model.specs.declared.plan_fault.PlanFault.{PlanFault}
-use Rattle.plan_text.specs.PlanText.{plan_of}
+use Rattle.plan_text.specs.PlanText.{plan_within}
 use Rattle.plan_verify.specs.declared.verdict.Verdict.{Verdict}
 use Rattle.plan_verify.specs.declared.verdict.Verdict.TheVariants as verdicts
 use Rattle.relay_net.specs.Batches.{Incoming, Due, applied_after}
 use Rattle.relay_net.specs.States.{State}
 use Rattle.sccp_base.specs.declared.mark.Mark.{Mark}
 use Rattle.sccp_io.specs.Files.{Contents, Reads}
+use Rattle.sccp_report.specs.Limits.{too_long_line}
 use Rattle.sccp_report.specs.Roles.{Role, routed, later, aside, alone, role_of}
 use Rattle.sccp_report.specs.Served.{served_text}
 use Rattle.trace_text.specs.declared.line.Numbered.{Numbered}
@@ -28,9 +30,9 @@ use Rattle.sccp_replay.specs.Trace.{trace_of, lines_in}
 use Rattle.sccp_work.specs.Ending.{Answers, IsCutShort}
 use Rattle.sccp_work.specs.Moment.{Moment}
 use Rattle.sccp_work.specs.Numbers.{Batch, AreNumbers}
+use Rattle.sccp_work.specs.PlanFile.{PlanFile}
 use Rattle.sccp_work.specs.Plans.{planned}
 use Rattle.sccp_work.specs.Questions.{Question, Reply, IsTrueOf}
-use Rattle.sccp_work.specs.Texts.{too_long}
 use Rattle.sccp_work.specs.Work.{Work, print, read, ask, judge, read_on, serve, answered, Ends, ComesToReading, BeginsWith}
 use Rattle.sccp_work.specs.declared.status.Status.{Status}
 use Rattle.sccp_work.specs.declared.status.Status.TheVariants.{Done, Refused, Usage, BadPlan, BadTrace, TooWide, TooLong, OtherNodes}
@@ -201,13 +203,15 @@ line_within : (k : Option Contents) (K : Standing → Settled → Type 0) (at : 
     → ((at' : Standing) (s : Settled) → K at' s → IsWithin k (next at' s) (next' (one at') s))
     → IsWithin k (settle_line at l r next) (settle_line (one at) l r next')
 line_within k K at l (later name) next next' text sent plans go =
-    in_read k name _ _ (λ octets there. by (ltb 1048576 (length octets)) octets)
+    in_read k name _ _ (λ octets there. by (ltb at.first.limits.octets (length octets)) octets)
   where
     by : (b : Bool) (octets : List ℕ)
-        → IsWithin k (cond b (answered (TooLong, too_long)) (later_work at l.number name (plan_of octets) next))
-        (cond b (answered (TooLong, too_long)) (later_work (one at) l.number name (plan_of octets) next'))
-    by true octets = itself k (answered (TooLong, too_long))
-    by false octets = later_within k K at l.number name (plan_of octets) next next' text (plans name refl) go
+        → IsWithin k (cond b (answered (TooLong, too_long_line at.first.limits))
+        (later_work at l.number name (plan_within at.first.limits octets) next))
+        (cond b (answered (TooLong, too_long_line at.first.limits))
+        (later_work (one at) l.number name (plan_within at.first.limits octets) next'))
+    by true octets = itself k (answered (TooLong, too_long_line at.first.limits))
+    by false octets = later_within k K at l.number name (plan_within at.first.limits octets) next next' text (plans name refl) go
 line_within k K at l (routed x) next next' text sent plans go = go at _ (sent x refl)
 line_within k K at l aside next next' text sent plans go = go at _ (text _)
 line_within k K at l (alone d) next next' text sent plans go = go at _ (text _)
@@ -418,24 +422,28 @@ judged_first c plan trace workers first fenced (verdicts.Refused same w) =
 judged_first c plan trace workers first fenced (verdicts.TooWide same) =
     itself (Some c) (replayed plan trace 1 first (verdicts.TooWide same))
 
-plan_within : (c : Contents) (plan trace : List ℕ) (workers : ℕ) (r : Result Network PlanFault)
+planned_first : (c : Contents) (limits : Limits) (plan trace : List ℕ) (workers : ℕ) (r : Result Network PlanFault)
     → ((first : Network) → r ≡ Ok first → IsFenced first (lines_in c trace))
-    → IsWithin (Some c) (planned r (λ first. judge first (replayed plan trace workers first)))
-    (planned r (λ first. judge first (replayed plan trace 1 first)))
-plan_within c plan trace workers (Ok first) fenced =
+    → IsWithin (Some c) (planned limits r (λ first. judge first (replayed plan trace workers first)))
+    (planned limits r (λ first. judge first (replayed plan trace 1 first)))
+planned_first c limits plan trace workers (Ok first) fenced =
     in_ask (Some c) _ _ _ (λ v j. judged_first c plan trace workers first (fenced first refl) v)
-plan_within c plan trace workers (Err fault) fenced = itself (Some c) _
+planned_first c limits plan trace workers (Err fault) fenced = itself (Some c) _
 
-replay_within : (c : Contents) (plan trace : List ℕ) (workers : ℕ) → HasFences c plan trace
+replay_within : (c : Contents) (plan : PlanFile) (trace : List ℕ) (workers : ℕ) → HasFences c plan trace
     → IsWithin (Some c) (replay_work plan trace workers) (replay_work plan trace 1)
 unfolding replay_work
-replay_within c plan trace workers fenced = in_read (Some c) plan _ _ (λ octets there. by (ltb 1048576 (length octets)) octets there) where
-  by : (b : Bool) (octets : List ℕ) → c plan ≡ Some octets
-      → IsWithin (Some c) (cond b (answered (TooLong, too_long))
-      (planned (plan_of octets) (λ first. judge first (replayed plan trace workers first))))
-      (cond b (answered (TooLong, too_long)) (planned (plan_of octets) (λ first. judge first (replayed plan trace 1 first))))
-  by true octets there = itself (Some c) (answered (TooLong, too_long))
-  by false octets there = plan_within c plan trace workers (plan_of octets) (λ first is. fenced octets first there is)
+replay_within c plan trace workers fenced =
+    in_read (Some c) plan.name _ _ (λ octets there. by (ltb plan.limits.octets (length octets)) octets there)
+  where
+    by : (b : Bool) (octets : List ℕ) → c plan.name ≡ Some octets
+        → IsWithin (Some c) (cond b (answered (TooLong, too_long_line plan.limits))
+        (planned plan.limits (plan_within plan.limits octets) (λ first. judge first (replayed plan.name trace workers first))))
+        (cond b (answered (TooLong, too_long_line plan.limits))
+        (planned plan.limits (plan_within plan.limits octets) (λ first. judge first (replayed plan.name trace 1 first))))
+    by true octets there = itself (Some c) (answered (TooLong, too_long_line plan.limits))
+    by false octets there = planned_first c plan.limits plan.name trace workers (plan_within plan.limits octets)
+        (λ first is. fenced octets first there is)
 
 -- ---- whatever the answer
 
@@ -457,7 +465,7 @@ answers_within w v TooWide text b a i h = i.ends TooWide text h
 answers_within w v TooLong text b a i h = i.ends TooLong text h
 answers_within w v OtherNodes text b a i h = i.ends OtherNodes text h
 
-pub as_by_one : (c : Contents) (plan trace : List ℕ) (workers : ℕ) (s : Status) (text : List ℕ) (b a : Moment) → b.contents ≡ Some c
+pub as_by_one : (c : Contents) (plan : PlanFile) (trace : List ℕ) (workers : ℕ) (s : Status) (text : List ℕ) (b a : Moment) → b.contents ≡ Some c
     → HasFences c plan trace → Answers (replay_work plan trace workers) s text b a → Answers (replay_work plan trace 1) s text b a
 as_by_one c plan trace workers s text b a is fenced h = answers_within (replay_work plan trace workers)
     (replay_work plan trace 1) s text b a

@@ -1,8 +1,9 @@
 -- What a later plan gives, whatever the replay goes on with.
-use Rattle.std.proofs.Common.{◌≡◌, ℕ, ◌+◌, List, [], ◌∷◌, ◌++◌, true, false, cond, Result, Ok, Err, sym, subst}
+use Rattle.std.proofs.Common.{◌≡◌, ℕ, ◌+◌, List, [], ◌∷◌, ◌++◌, true, false, cond, Result, Ok, Err, sym, ◌∙◌, ap, subst}
 use Rattle.plan_check.specs.Verified.{Verified}
 use Rattle.plan_model.specs.Network.{Network}
 use Rattle.plan_model.specs.SameNodes.{same_nodes}
+use Rattle.plan_model.specs.declared.limits.Limits.{Limits}
 use Rattle.plan_model.specs.declared.plan_fault.PlanFault.{PlanFault}
 use Rattle.plan_verify.specs.declared.verdict.Verdict.TheVariants.{Accepted, Refused, TooWide}
 use Rattle.plan_verify.specs.declared.witness.Witness.{Witness}
@@ -15,7 +16,7 @@ use Rattle.sccp_work.specs.Ending.{Works}
 use Rattle.sccp_replay.specs.Gathering.{joining_role}
 use Rattle.sccp_replay.specs.Incoming.{incoming_in}
 use Rattle.sccp_replay.specs.LaterPlans.{accepted_plan_line, refused_plan_head, bad_plan_line, other_nodes_line}
-use Rattle.plan_text.specs.PlanText.{plan_of}
+use Rattle.plan_text.specs.PlanText.{plan_within}
 use Rattle.sccp_work.specs.Limit.{within_limit}
 use Rattle.sccp_work.specs.Moment.{Moment}
 use Rattle.sccp_replay.specs.Replayers.{settled_in}
@@ -25,7 +26,7 @@ use Rattle.sccp_replay.specs.declared.joined.Joining.{Joining}
 use Rattle.sccp_replay.specs.declared.joined.Joining.TheVariants.{Routed, Later, Aside}
 use Rattle.sccp_replay.specs.declared.settled as code
 use Rattle.sccp_replay.specs.declared.settled.Settled.TheVariants.{Routes}
-use Rattle.sccp_replay.specs.Replay.{Standing, Settled, prints, routes, accepted, judged_later, later_work, settle_line}
+use Rattle.sccp_replay.specs.Replay.{Standing, Settled, prints, routes, accepted, later_file, judged_later, later_work, settle_line}
 use Rattle.sccp_replay.specs.Settling.{JudgesLine, GivesPlanLine, GivesPlanFile, GivesLine}
 use Rattle.sccp_work.specs.Questions.{verdict_on, IsJudged}
 use Rattle.sccp_work.specs.Work.{Work, judge}
@@ -62,27 +63,35 @@ wide_judges at line name plan p s judged same told = λ next now result after h.
 
 -- ---- its text
 
-pub same_reads : (at : Standing) (line : ℕ) (name : List ℕ) (r : Result Network PlanFault) (plan : Network) (at' : Standing) (s : Settled)
-    → r ≡ Ok plan → same_nodes at.first plan ≡ true
-    → JudgesLine at line name plan at' s → GivesPlanLine at line name r at' s
-same_reads at line name r plan at' s e same judges = λ next now result after h.
-    subst (λ k. Works (later_work at line name k next) result now after) (sym e)
+-- under the limits that a plan's text was read under
+under : (at : Standing) (limits : Limits) (octets : List ℕ) (r : Result Network PlanFault) → limits ≡ at.first.limits
+    → plan_within limits octets ≡ r → r ≡ plan_within at.first.limits octets
+under at limits octets r is e = sym e ∙ ap (λ ls. plan_within ls octets) is
+
+pub same_reads : (at : Standing) (line : ℕ) (name : List ℕ) (limits : Limits) (octets : List ℕ) (plan : Network) (at' : Standing)
+    (s : Settled) → limits ≡ at.first.limits → plan_within limits octets ≡ Ok plan → same_nodes at.first plan ≡ true
+    → JudgesLine at line name plan at' s → GivesPlanLine at line name (plan_within at.first.limits octets) at' s
+same_reads at line name limits octets plan at' s is e same judges = λ next now result after h.
+    subst (λ k. Works (later_work at line name k next) result now after) (under at limits octets (Ok plan) is e)
     (subst (λ b. Works (cond b (judge plan (λ v. judged_later at line name plan v next))
     (next at (prints (other_nodes_line line name)))) result now after) (sym same) (judges next now result after h))
 
-pub other_reads : (at : Standing) (line : ℕ) (name : List ℕ) (r : Result Network PlanFault) (plan : Network) (s : Settled) → r ≡ Ok plan
-    → same_nodes at.first plan ≡ false
-    → s ≡ prints (other_nodes_line line name) → GivesPlanLine at line name r at s
-other_reads at line name r plan s e other told = λ next now result after h.
-    subst (λ k. Works (later_work at line name k next) result now after) (sym e)
+pub other_reads : (at : Standing) (line : ℕ) (name : List ℕ) (limits : Limits) (octets : List ℕ) (plan : Network) (s : Settled)
+    → limits ≡ at.first.limits → plan_within limits octets ≡ Ok plan → same_nodes at.first plan ≡ false
+    → s ≡ prints (other_nodes_line line name) → GivesPlanLine at line name (plan_within at.first.limits octets) at s
+other_reads at line name limits octets plan s is e other told = λ next now result after h.
+    subst (λ k. Works (later_work at line name k next) result now after) (under at limits octets (Ok plan) is e)
     (subst (λ b. Works (cond b (judge plan (λ v. judged_later at line name plan v next))
     (next at (prints (other_nodes_line line name)))) result now after) (sym other)
     (subst (λ t. Works (next at t) result now after) told h))
 
-pub bad_reads : (at : Standing) (line : ℕ) (name : List ℕ) (r : Result Network PlanFault) (fault : PlanFault) (s : Settled) → r ≡ Err fault
-    → s ≡ prints (bad_plan_line line name fault) → GivesPlanLine at line name r at s
-bad_reads at line name r fault s e told = λ next now result after h.
-    subst (λ k. Works (later_work at line name k next) result now after) (sym e) (subst (λ t. Works (next at t) result now after) told h)
+pub bad_reads : (at : Standing) (line : ℕ) (name : List ℕ) (limits : Limits) (octets : List ℕ) (fault : PlanFault) (s : Settled)
+    → limits ≡ at.first.limits → plan_within limits octets ≡ Err fault → s ≡ prints (bad_plan_line line name limits fault)
+    → GivesPlanLine at line name (plan_within at.first.limits octets) at s
+bad_reads at line name limits octets fault s is e told = λ next now result after h.
+    subst (λ k. Works (later_work at line name k next) result now after) (under at limits octets (Err fault) is e)
+    (subst (λ ls. Works (next at (prints (bad_plan_line line name ls fault))) result now after) is
+    (subst (λ t. Works (next at t) result now after) told h))
 
 -- ---- each kind of line
 
@@ -123,15 +132,15 @@ aside_gives at line joining s m kind e told next =
 
 pub named_line : (at : Standing) (line : Numbered) (name : List ℕ) (at' : Standing) (s : Settled) (first now : Moment)
     → later name ≡ role_of at.first line.line
-    → ((next : Standing → Settled → Work) → EndsAs (within_limit name (λ octets. later_work at line.number name (plan_of octets) next))
-    (next at' s) first now)
+    → ((next : Standing → Settled → Work) → EndsAs (within_limit (later_file at name)
+    (λ octets. later_work at line.number name (plan_within at.first.limits octets) next)) (next at' s) first now)
     → (next : Standing → Settled → Work) → EndsAs (settle_line at line (role_of at.first line.line) next) (next at' s) first now
 named_line at line name at' s first now e gives = by_role at line (later name) at' s first now e gives
 
 pub named_stops : (at : Standing) (line : Numbered) (name : List ℕ) (stop : Stop) (first now : Moment)
     → later name ≡ role_of at.first line.line
-    → ((next : Standing → Settled → Work) → Works (within_limit name (λ octets. later_work at line.number name (plan_of octets) next))
-    (Err stop) first now)
+    → ((next : Standing → Settled → Work) → Works (within_limit (later_file at name)
+    (λ octets. later_work at line.number name (plan_within at.first.limits octets) next)) (Err stop) first now)
     → (next : Standing → Settled → Work) → Works (settle_line at line (role_of at.first line.line) next) (Err stop) first now
 named_stops at line name stop first now e stops next = subst (λ r. Works (settle_line at line r next) (Err stop) first now) e (stops next)
 

@@ -3,9 +3,10 @@ use Rattle.std.proofs.Common.{◌≢◌, ℕ, List, [], ◌∷◌, ◌++◌, len
 use Rattle.plan_model.specs.Network.{Network}
 use Rattle.plan_model.specs.SameNodes.{same_nodes}
 use Rattle.plan_model.specs.declared.plan_fault.PlanFault.{PlanFault}
-use Rattle.plan_text.specs.PlanText.{plan_of}
+use Rattle.plan_text.specs.PlanText.{plan_within}
 use Rattle.plan_verify.specs.declared.verdict.Verdict.{Verdict}
 use Rattle.plan_verify.specs.declared.verdict.Verdict.TheVariants as verdicts
+use Rattle.sccp_report.specs.Limits.{too_long_line}
 use Rattle.sccp_report.specs.Roles.{Role, routed, later, aside, alone, role_of}
 use Rattle.trace_text.specs.declared.line.Numbered.{Numbered}
 use Rattle.trace_text.specs.declared.line_fault.LineFault.{LineFault}
@@ -14,7 +15,7 @@ use Rattle.sccp_work.specs.Plans.{planned}
 use Rattle.sccp_replay.specs.Replay.{Standing, Settled, prints, judged_later, later_work, settle_line, settle, batch_of, told_at}
 use Rattle.sccp_replay.specs.Replay.{batch_work, is_full, alone_work, batch_printed, gathered, line_work, lines_work, closing_of, start}
 use Rattle.sccp_replay.specs.Replay.{replayed, replay_work}
-use Rattle.sccp_work.specs.Texts.{too_long}
+use Rattle.sccp_work.specs.PlanFile.{PlanFile}
 use Rattle.sccp_replay.specs.Trace.{trace_of}
 use Rattle.sccp_work.specs.Work.{Work, print, judge, serve, answered}
 use Rattle.sccp_work.specs.declared.status.Status.{Status}
@@ -40,11 +41,12 @@ later_other at line name (Ok plan) next go = by (same_nodes at.first plan) where
 
 line_other : (at : Standing) (l : Numbered) (r : Role) (next : Standing → Settled → Work)
     → ((at' : Standing) (s : Settled) → Finishes Other (next at' s)) → Finishes Other (settle_line at l r next)
-line_other at l (later name) next go = λ octets. within (ltb 1048576 (length octets)) octets where
+line_other at l (later name) next go = λ octets. within (ltb at.first.limits.octets (length octets)) octets where
   within : (b : Bool) (octets : List ℕ)
-      → Finishes Other (cond b (answered (TooLong, too_long)) (later_work at l.number name (plan_of octets) next))
+      → Finishes Other (cond b (answered (TooLong, too_long_line at.first.limits))
+      (later_work at l.number name (plan_within at.first.limits octets) next))
   within true octets = λ e. cc
-  within false octets = later_other at l.number name (plan_of octets) next go
+  within false octets = later_other at l.number name (plan_within at.first.limits octets) next go
 line_other at l (routed x) next go = go at _
 line_other at l aside next go = go at _
 line_other at l (alone d) next go = go at _
@@ -95,21 +97,22 @@ closing_other count None = λ e. cc
 closing_other count (Some fault) = λ e. cc
 
 -- a replay never ends with the usage line
-pub replay_other : (plan trace : List ℕ) (workers : ℕ) → Finishes Other (replay_work plan trace workers)
+pub replay_other : (plan : PlanFile) (trace : List ℕ) (workers : ℕ) → Finishes Other (replay_work plan trace workers)
 unfolding replay_work
-replay_other plan trace workers = λ octets. by (ltb 1048576 (length octets)) (plan_of octets) where
-  on : (first : Network) (v : Verdict) → Finishes Other (replayed plan trace workers first v)
+replay_other plan trace workers = λ octets. by (ltb plan.limits.octets (length octets)) (plan_within plan.limits octets) where
+  on : (first : Network) (v : Verdict) → Finishes Other (replayed plan.name trace workers first v)
   on first (verdicts.Accepted a) = λ text.
       lines_other (closing_of (length (trace_of text).lines) (trace_of text).fault)
       (closing_other (length (trace_of text).lines) (trace_of text).fault) (trace_of text).lines [] (start workers first)
   on first (verdicts.Refused same w) = λ e. cc
   on first (verdicts.TooWide same) = λ e. cc
 
-  read : (r : Result Network PlanFault) → Finishes Other (planned r (λ first. judge first (replayed plan trace workers first)))
+  read : (r : Result Network PlanFault) → Finishes Other (planned plan.limits r (λ first. judge first (replayed plan.name trace workers first)))
   read (Ok first) = λ v. on first v
   read (Err fault) = λ e. cc
 
   by : (b : Bool) (r : Result Network PlanFault)
-      → Finishes Other (cond b (answered (TooLong, too_long)) (planned r (λ first. judge first (replayed plan trace workers first))))
+      → Finishes Other (cond b (answered (TooLong, too_long_line plan.limits))
+      (planned plan.limits r (λ first. judge first (replayed plan.name trace workers first))))
   by true r = λ e. cc
   by false r = read r

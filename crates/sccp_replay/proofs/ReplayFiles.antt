@@ -6,10 +6,11 @@ use Rattle.std.proofs.lemmas.List.Elements.{Contains-append_left, Contains-appen
 use Rattle.plan_model.specs.Network.{Network}
 use Rattle.plan_model.specs.SameNodes.{same_nodes}
 use Rattle.plan_model.specs.declared.plan_fault.PlanFault.{PlanFault}
-use Rattle.plan_text.specs.PlanText.{plan_of}
+use Rattle.plan_text.specs.PlanText.{plan_within}
 use Rattle.plan_verify.specs.declared.verdict.Verdict.{Verdict}
 use Rattle.plan_verify.specs.declared.verdict.Verdict.TheVariants as verdicts
 use Rattle.sccp_io.specs.Files.{Contents}
+use Rattle.sccp_report.specs.Limits.{too_long_line}
 use Rattle.sccp_report.specs.Roles.{Role, routed, later, aside, alone, role_of}
 use Rattle.trace_text.specs.declared.line.Line.TheVariants.{Plan}
 use Rattle.trace_text.specs.declared.line.Numbered.{Numbered}
@@ -20,7 +21,7 @@ use Rattle.sccp_replay.specs.Replay.{Standing, Settled, judged_later, later_work
 use Rattle.sccp_replay.specs.Replay.{is_full, alone_work, batch_printed, gathered, line_work, lines_work, closing_of, start, replayed}
 use Rattle.sccp_replay.specs.Replay.{replay_work}
 use Rattle.sccp_replay.specs.ReplayEnds.{LaterPlansThere}
-use Rattle.sccp_work.specs.Texts.{too_long}
+use Rattle.sccp_work.specs.PlanFile.{PlanFile}
 use Rattle.sccp_replay.specs.Trace.{trace_of, lines_in}
 use Rattle.sccp_work.specs.Work.{Work, print, judge, serve, answered, HasFiles}
 use Rattle.sccp_work.specs.declared.status.Status.{Status}
@@ -53,12 +54,14 @@ line_files : (c : Contents) (at : Standing) (l : Numbered) (next : Standing → 
     → HasFiles c (settle_line at l (role_of at.first l.line) next)
 line_files c at l next here go = by (role_of at.first l.line) refl where
   within : (b : Bool) (name octets : List ℕ)
-      → HasFiles c (cond b (answered (TooLong, too_long)) (later_work at l.number name (plan_of octets) next))
+      → HasFiles c (cond b (answered (TooLong, too_long_line at.first.limits))
+      (later_work at l.number name (plan_within at.first.limits octets) next))
   within true name octets = tt
-  within false name octets = later_files c at l.number name (plan_of octets) next go
+  within false name octets = later_files c at l.number name (plan_within at.first.limits octets) next go
 
   by : (r : Role) → role_of at.first l.line ≡ r → HasFiles c (settle_line at l r next)
-  by (later name) e = let f = here name (of_later at.first l.line name e) in (f.0, f.1, within (ltb 1048576 (length f.0)) name f.0)
+  by (later name) e = let f = here name (of_later at.first l.line name e) in
+      (f.0, f.1, within (ltb at.first.limits.octets (length f.0)) name f.0)
   by (routed x) e = go at _
   by aside e = go at _
   by (alone d) e = go at _
@@ -122,14 +125,14 @@ lines_files c closing (l ∷ lines) batch at h = role_files c closing l lines (l
     (role_of at.first l.line)
 
 -- the files of the words and of the trace's lines are enough
-pub replay_files : (c : Contents) (plan trace : List ℕ) (workers : ℕ) → IsThere c plan → IsThere c trace
+pub replay_files : (c : Contents) (plan : PlanFile) (trace : List ℕ) (workers : ℕ) → IsThere c plan.name → IsThere c trace
     → LaterPlansThere c (lines_in c trace) → HasFiles c (replay_work plan trace workers)
 unfolding replay_work
-replay_files c plan trace workers p t h = (p.0, p.1, by (ltb 1048576 (length p.0)) (plan_of p.0)) where
+replay_files c plan trace workers p t h = (p.0, p.1, by (ltb plan.limits.octets (length p.0)) (plan_within plan.limits p.0)) where
   lines : lines_in c trace ≡ (trace_of t.0).lines
   lines = ap (λ o. option_map_or (λ octets. (trace_of octets).lines) o []) t.1
 
-  on : (first : Network) (v : Verdict) → HasFiles c (replayed plan trace workers first v)
+  on : (first : Network) (v : Verdict) → HasFiles c (replayed plan.name trace workers first v)
   on first (verdicts.Accepted a) = (
     t.0,
     t.1,
@@ -139,11 +142,12 @@ replay_files c plan trace workers p t h = (p.0, p.1, by (ltb 1048576 (length p.0
   on first (verdicts.Refused same w) = tt
   on first (verdicts.TooWide same) = tt
 
-  read : (r : Result Network PlanFault) → HasFiles c (planned r (λ first. judge first (replayed plan trace workers first)))
+  read : (r : Result Network PlanFault) → HasFiles c (planned plan.limits r (λ first. judge first (replayed plan.name trace workers first)))
   read (Ok first) = λ v j. on first v
   read (Err fault) = tt
 
   by : (b : Bool) (r : Result Network PlanFault)
-      → HasFiles c (cond b (answered (TooLong, too_long)) (planned r (λ first. judge first (replayed plan trace workers first))))
+      → HasFiles c (cond b (answered (TooLong, too_long_line plan.limits))
+      (planned plan.limits r (λ first. judge first (replayed plan.name trace workers first))))
   by true r = tt
   by false r = read r

@@ -9,24 +9,28 @@ use Rattle.std.specs.List.{AllByRecursion, flat_map}
 use Rattle.std.specs.Option.{option_map_or, option_and_then}
 use Rattle.std.proofs.lemmas.Bool.{ltb-true, ltb-false}
 use Rattle.plan_model.specs.Network.{Network}
+use Rattle.plan_model.specs.declared.limits.Limits.{Limits}
 use Rattle.plan_model.specs.declared.plan_fault.PlanFault.{PlanFault}
-use Rattle.plan_text.specs.PlanText.{plan_of}
+use Rattle.plan_text.specs.PlanText.{plan_within}
+use Rattle.plan_text.proofs.Limits.{keeps_limits}
 use Rattle.plan_verify.specs.Lawful.{IsLawful}
 use Rattle.plan_verify.specs.declared.verdict.Verdict.{Verdict}
 use Rattle.plan_verify.specs.declared.verdict.Verdict.TheVariants as verdicts
 use Rattle.sccp_io.specs.Files.{Contents}
-use Rattle.sccp_report.specs.Verdicts.{refused_line, too_wide_line, verdict_text}
+use Rattle.sccp_report.specs.Limits.{too_long_line, too_wide_line}
+use Rattle.sccp_report.specs.Verdicts.{refused_line, verdict_text}
 use Rattle.sccp_replay.specs.Trace.{trace_of, lines_in, fault_in}
 use Rattle.trace_text.specs.declared.line.Numbered.{Numbered}
 use Rattle.sccp_replay.specs.Account.{Account, IsTold, TellsReplay, IsTextUnder}
 use Rattle.sccp_work.specs.Ending.{Answers, Outcome, IsCutShort}
 use Rattle.sccp_replay.specs.LaterPlans.{first_plan_line}
 use Rattle.sccp_work.specs.Moment.{Moment}
+use Rattle.sccp_work.specs.PlanFile.{PlanFile, plan_file}
 use Rattle.sccp_work.specs.Plans.{bad_plan, planned, HasPlan}
 use Rattle.sccp_replay.specs.Replay.{start, closing_of, lines_work, trace_work, replayed, replay_work}
 use Rattle.sccp_replay.specs.ReplayEnds.{ReplayCause, ReplayTells}
 use Rattle.sccp_work.specs.Verdict.{IsOnRefusal}
-use Rattle.sccp_work.specs.Texts.{too_long, read_fault}
+use Rattle.sccp_work.specs.Texts.{read_fault}
 use Rattle.sccp_work.specs.Verdict.{status_of, IsSafe, Tells}
 use Rattle.sccp_work.specs.Questions.{IsJudged}
 use Rattle.sccp_work.specs.Work.{Work, finish, print, read, read_on, judge, ask, serve, answered, Ends, ComesToReading}
@@ -37,7 +41,7 @@ use Rattle.sccp_work.specs.declared.status.Status.TheVariants.{NoMemory, ReadFau
 use Rattle.sccp_replay.proofs.Accounting.{lines_through, starts_behind}
 use Rattle.sccp_replay.proofs.Accounting as accounts
 use Rattle.sccp_replay.proofs.BatchRuns.{open_none}
-use Rattle.sccp_replay.proofs.Settling.{Scene}
+use Rattle.sccp_replay.proofs.Settling.{Scene, file_of}
 use Rattle.sccp_replay.proofs.Telling.{Goes, HasOctets}
 use Rattle.sccp_replay.proofs.TraceOctets.{trace_octets}
 use Rattle.sccp_work.proofs.Through.{Through, ends_of, reads_of, fronts_of, starts_whole}
@@ -78,17 +82,17 @@ other octet t ne (o ∷ os) starts is = ne (first starts ∙ second is) where
   second : o ∷ take 6 os ≡ codes "plan 1 " → o ≡ 112
   second e = cc
 
-too_long_other : IsOther too_long
-unfolding too_long
-too_long_other = other 116 _ (λ e. absurd (omega arith))
+too_long_other : (limits : Limits) → IsOther (too_long_line limits)
+unfolding too_long_line
+too_long_other limits = other 116 _ (λ e. absurd (omega arith))
 
 read_fault_other : IsOther read_fault
 unfolding read_fault
 read_fault_other = other 114 _ (λ e. absurd (omega arith))
 
-bad_plan_other : (fault : PlanFault) → IsOther (bad_plan fault)
+bad_plan_other : (limits : Limits) (fault : PlanFault) → IsOther (bad_plan limits fault)
 unfolding bad_plan
-bad_plan_other fault = other 98 _ (λ e. absurd (omega arith))
+bad_plan_other limits fault = other 98 _ (λ e. absurd (omega arith))
 
 refused_other : (plan same : Network) (w : Rattle.plan_verify.specs.declared.witness.Witness.Witness)
     → IsOther (verdict_text plan (verdicts.Refused same w))
@@ -108,20 +112,20 @@ pub record IsVerdict (plan : Network) (s : Status) (text : List ℕ) : Type 0 wh
   pub status : s ≡ status_of verdict
   pub whole : text ≡ verdict_text plan verdict
 
-abbrev pub ToldVerdict : Contents → List ℕ → Status → List ℕ → Type 0
+abbrev pub ToldVerdict : Contents → PlanFile → Status → List ℕ → Type 0
 ToldVerdict c plan s text = IsOnRefusal s → HasPlan (Some c) plan (λ p. IsVerdict p s text)
 
-abbrev EndsAny : Contents → List ℕ → List ℕ → ℕ → Status → List ℕ → Type 0
+abbrev EndsAny : Contents → PlanFile → List ℕ → ℕ → Status → List ℕ → Type 0
 EndsAny c plan trace workers s acc = TellsReplay c plan trace workers s acc × ReplayCause c plan trace s × ToldVerdict c plan s acc
 
 -- nothing was written, or some first lines were printed
-abbrev ReadsAny : Contents → List ℕ → List ℕ → ℕ → List ℕ → Type 0
+abbrev ReadsAny : Contents → PlanFile → List ℕ → ℕ → List ℕ → Type 0
 ReadsAny c plan trace workers acc = (acc ≡ []) ⊎ ((count : ℕ) × Account c plan workers (take count (lines_in c trace)) [] acc)
 
-abbrev FrontsAny : Contents → List ℕ → List ℕ → ℕ → List ℕ → Type 0
+abbrev FrontsAny : Contents → PlanFile → List ℕ → ℕ → List ℕ → Type 0
 FrontsAny c plan trace workers acc = StartsWith acc (codes "plan 1 ") → IsTold c plan trace workers WriteFault acc
 
-other_answer : (c : Contents) (plan trace : List ℕ) (workers : ℕ) (s : Status) (t : List ℕ) → IsOther t → (s ≡ Done → ⊥)
+other_answer : (c : Contents) (plan : PlanFile) (trace : List ℕ) (workers : ℕ) (s : Status) (t : List ℕ) → IsOther t → (s ≡ Done → ⊥)
     → (s ≡ BadTrace → ⊥) → ReplayCause c plan trace s → ToldVerdict c plan s t
     → Through (EndsAny c plan trace workers) (ReadsAny c plan trace workers) (FrontsAny c plan trace workers) (Some c) (answered (s, t)) []
 other_answer c plan trace workers s t never done bad for verdict = (
@@ -141,7 +145,7 @@ first_starts : (name : List ℕ) (bound : ℕ) (rest : List ℕ) → StartsWith 
 unfolding digits first_plan_line
 first_starts name bound rest = refl
 
-begins_so : (z : Scene) (s : Status) (acc : List ℕ) → IsTold z.c z.first.name z.trace_name z.workers s acc → (s ≡ Done) ⊎ (s ≡ BadTrace)
+begins_so : (z : Scene) (s : Status) (acc : List ℕ) → IsTold z.c (file_of z) z.trace_name z.workers s acc → (s ≡ Done) ⊎ (s ≡ BadTrace)
     → StartsWith acc (codes "plan 1 ")
 begins_so z s acc told e = by s e told.so where
   whole : acc ≡ told.whole → StartsWith acc (codes "plan 1 ")
@@ -149,7 +153,7 @@ begins_so z s acc told e = by s e told.so where
       (first_starts z.first.name told.account.first.bound (flat_map (λ p. p.text) told.account.pieces ++ told.last))
 
   by : (s : Status) → (s ≡ Done) ⊎ (s ≡ BadTrace)
-      → IsTextUnder z.c z.trace_name (take told.count (lines_in z.c z.trace_name)) told.last told.whole acc s
+      → IsTextUnder z.c z.first.plan.limits z.trace_name (take told.count (lines_in z.c z.trace_name)) told.last told.whole acc s
       → StartsWith acc (codes "plan 1 ")
   by Done e so = whole so.0
   by BadTrace e so = whole so.0
@@ -172,7 +176,7 @@ begins_so z s acc told e = by s e told.so where
   by WriteFault (inl e) so = cc
   by WriteFault (inr e) so = cc
 
-accepted_plan : (z : Scene) → HasPlan (Some z.c) z.first.name IsSafe
+accepted_plan : (z : Scene) → HasPlan (Some z.c) (file_of z) IsSafe
 accepted_plan z = (
   z.accepted.octets,
   z.accepted.file,
@@ -181,7 +185,7 @@ accepted_plan z = (
 )
 
 why : (z : Scene) (octets : List ℕ) → z.c z.trace_name ≡ Some octets → (s : Status) → accounts.TraceEnds z s
-    → ReplayCause z.c z.first.name z.trace_name s
+    → ReplayCause z.c (file_of z) z.trace_name s
 why z octets there Done h = (accepted_plan z, ap is_some there, h.0, h.1)
 why z octets there BadTrace h = (accepted_plan z, h.0, h.1)
 why z octets there TooLong h = inr (accepted_plan z, h)
@@ -210,8 +214,8 @@ none_refused z WriteFault h on = on
 -- from the reading of the trace on
 traced : (goes : Goes) (z : Scene) → ((octets : List ℕ) → z.c z.trace_name ≡ Some octets
     → AllByRecursion (HasOctets z.first.plan) (trace_of octets).lines)
-    → Through (EndsAny z.c z.first.name z.trace_name z.workers) (ReadsAny z.c z.first.name z.trace_name z.workers)
-    (FrontsAny z.c z.first.name z.trace_name z.workers) (Some z.c)
+    → Through (EndsAny z.c (file_of z) z.trace_name z.workers) (ReadsAny z.c (file_of z) z.trace_name z.workers)
+    (FrontsAny z.c (file_of z) z.trace_name z.workers) (Some z.c)
     (print (first_plan_line z.first.name z.first.bound) (read z.trace_name
     (λ octets. trace_work (start z.workers z.first.plan) (trace_of octets)))) []
 traced goes z oct = (
@@ -222,8 +226,8 @@ traced goes z oct = (
   line = first_plan_line z.first.name z.first.bound
 
   behind : (octets : List ℕ) → z.c z.trace_name ≡ Some octets
-      → Through (EndsAny z.c z.first.name z.trace_name z.workers) (ReadsAny z.c z.first.name z.trace_name z.workers)
-      (FrontsAny z.c z.first.name z.trace_name z.workers) (Some z.c) (trace_work (start z.workers z.first.plan) (trace_of octets))
+      → Through (EndsAny z.c (file_of z) z.trace_name z.workers) (ReadsAny z.c (file_of z) z.trace_name z.workers)
+      (FrontsAny z.c (file_of z) z.trace_name z.workers) (Some z.c) (trace_work (start z.workers z.first.plan) (trace_of octets))
       ([] ++ first_plan_line z.first.name z.first.bound)
   behind octets there =
       let lines : lines_in z.c z.trace_name ≡ (trace_of octets).lines =
@@ -233,9 +237,9 @@ traced goes z oct = (
       let all = lines_through goes z (trace_of octets).fault fault (trace_of octets).lines [] [] [] (start z.workers z.first.plan)
       (first_plan_line z.first.name z.first.bound)
       (accounts.SoFar-start z) (accounts.first_written z) lines (oct octets there) tt (open_none z.first.plan [] refl) in
-      Through-map (accounts.Ends z) (EndsAny z.c z.first.name z.trace_name z.workers) (accounts.Reads z)
-      (ReadsAny z.c z.first.name z.trace_name z.workers)
-      (λ acc. IsTold z.c z.first.name z.trace_name z.workers WriteFault acc) (FrontsAny z.c z.first.name z.trace_name z.workers) (Some z.c)
+      Through-map (accounts.Ends z) (EndsAny z.c (file_of z) z.trace_name z.workers) (accounts.Reads z)
+      (ReadsAny z.c (file_of z) z.trace_name z.workers)
+      (λ acc. IsTold z.c (file_of z) z.trace_name z.workers WriteFault acc) (FrontsAny z.c (file_of z) z.trace_name z.workers) (Some z.c)
       (λ s acc told. (
         record { told = λ is. told.0; begins = begins_so z s acc told.0 },
         why z octets there s told.1,
@@ -245,28 +249,41 @@ traced goes z oct = (
       (λ acc r. inr (r.count, r.account))
       (λ acc told is. told)
       (trace_work (start z.workers z.first.plan) (trace_of octets)) (first_plan_line z.first.name z.first.bound)
-      (subst (λ n. Through (accounts.Ends z) (accounts.Reads z) (λ acc. IsTold z.c z.first.name z.trace_name z.workers WriteFault acc)
+      (subst (λ n. Through (accounts.Ends z) (accounts.Reads z) (λ acc. IsTold z.c (file_of z) z.trace_name z.workers WriteFault acc)
       (Some z.c)
       (lines_work (closing_of n (trace_of octets).fault) (start z.workers z.first.plan) [] (trace_of octets).lines)
       (first_plan_line z.first.name z.first.bound)) (ap length lines) all)
 
 -- the plan's verdict
-on_verdict : (goes : Goes) (c : Contents) (plan trace : List ℕ) (workers : ℕ)
+on_verdict : (goes : Goes) (c : Contents) (plan : PlanFile) (trace : List ℕ) (workers : ℕ)
     → ((first : Network) (octets : List ℕ) → c trace ≡ Some octets → AllByRecursion (HasOctets first) (trace_of octets).lines)
-    → (octets : List ℕ) → c plan ≡ Some octets → length octets ≤ 1048576 → (first : Network) → plan_of octets ≡ Ok first → (v : Verdict)
+    → (octets : List ℕ) → c plan.name ≡ Some octets → length octets ≤ plan.limits.octets → (first : Network)
+    → plan_within plan.limits octets ≡ Ok first → (v : Verdict)
     → IsJudged first v
     → Through (EndsAny c plan trace workers) (ReadsAny c plan trace workers) (FrontsAny c plan trace workers) (Some c)
-    (replayed plan trace workers first v)
+    (replayed plan.name trace workers first v)
     []
 on_verdict goes c plan trace workers oct octets file few first is (verdicts.Accepted a) j =
-    traced goes (record {
+    let under : first.limits ≡ plan.limits = keeps_limits plan.limits octets first is in
+    let same : plan_file plan.name first.limits ≡ plan = ap (plan_file plan.name) under in
+    subst (λ (f : PlanFile). Through (EndsAny c f trace workers) (ReadsAny c f trace workers) (FrontsAny c f trace workers) (Some c)
+    (replayed plan.name trace workers first (verdicts.Accepted a)) []) same
+    (traced goes (record {
       c = c;
       trace_name = trace;
       workers = workers;
-      first = record { name = plan; plan = first; bound = a.bound };
-      accepted = record { octets = octets; file = file; within = few; reads = is; safe = j.1.0; longest = a.longest; tight = j.1.1 };
+      first = record { name = plan.name; plan = first; bound = a.bound };
+      accepted = record {
+        octets = octets;
+        file = file;
+        within = subst (λ (ls : Limits). length octets ≤ ls.octets) (sym under) few;
+        reads = subst (λ (ls : Limits). plan_within ls octets ≡ Ok first) (sym under) is;
+        safe = j.1.0;
+        longest = a.longest;
+        tight = j.1.1;
+      };
       is_plan = j.0;
-    }) (oct first)
+    }) (oct first))
 on_verdict goes c plan trace workers oct octets file few first is (verdicts.Refused same w) j =
     other_answer c plan trace workers Refused (verdict_text first (verdicts.Refused same w)) (refused_other first same w) (λ e. cc)
     (λ e. cc) (octets, file, few, (first, is, (w, j.1)))
@@ -276,28 +293,31 @@ on_verdict goes c plan trace workers oct octets file few first is (verdicts.TooW
     (octets, file, few, (first, is, j.1))
     (λ on. (octets, file, few, (first, is, record { verdict = verdicts.TooWide same; lawful = j.1; status = refl; whole = refl })))
 
-on_plan : (goes : Goes) (c : Contents) (plan trace : List ℕ) (workers : ℕ)
+on_plan : (goes : Goes) (c : Contents) (plan : PlanFile) (trace : List ℕ) (workers : ℕ)
     → ((first : Network) (octets : List ℕ) → c trace ≡ Some octets → AllByRecursion (HasOctets first) (trace_of octets).lines)
-    → (octets : List ℕ) → c plan ≡ Some octets → length octets ≤ 1048576 → (r : Result Network PlanFault) → plan_of octets ≡ r
+    → (octets : List ℕ) → c plan.name ≡ Some octets → length octets ≤ plan.limits.octets → (r : Result Network PlanFault)
+    → plan_within plan.limits octets ≡ r
     → Through (EndsAny c plan trace workers) (ReadsAny c plan trace workers) (FrontsAny c plan trace workers) (Some c)
-    (planned r (λ first. judge first (replayed plan trace workers first))) []
+    (planned plan.limits r (λ first. judge first (replayed plan.name trace workers first))) []
 on_plan goes c plan trace workers oct octets file few (Ok first) is =
     λ v j. on_verdict goes c plan trace workers oct octets file few first is v j
-on_plan goes c plan trace workers oct octets file few (Err fault) is = other_answer c plan trace workers BadPlan (bad_plan fault)
-    (bad_plan_other fault) (λ e. cc) (λ e. cc) (octets, file, few, ap is_err is) (λ on. absurd on)
+on_plan goes c plan trace workers oct octets file few (Err fault) is = other_answer c plan trace workers BadPlan (bad_plan plan.limits fault)
+    (bad_plan_other plan.limits fault) (λ e. cc) (λ e. cc) (octets, file, few, ap is_err is) (λ on. absurd on)
 
-replay_through : (goes : Goes) (c : Contents) (plan trace : List ℕ) (workers : ℕ)
+replay_through : (goes : Goes) (c : Contents) (plan : PlanFile) (trace : List ℕ) (workers : ℕ)
     → ((first : Network) (octets : List ℕ) → c trace ≡ Some octets → AllByRecursion (HasOctets first) (trace_of octets).lines)
     → Through (EndsAny c plan trace workers) (ReadsAny c plan trace workers) (FrontsAny c plan trace workers) (Some c)
     (replay_work plan trace workers) []
 unfolding replay_work
-replay_through goes c plan trace workers oct = (inl refl, λ octets file. by octets file (ltb 1048576 (length octets)) refl) where
-  by : (octets : List ℕ) → c plan ≡ Some octets → (b : Bool) → ltb 1048576 (length octets) ≡ b
+replay_through goes c plan trace workers oct = (inl refl, λ octets file. by octets file (ltb plan.limits.octets (length octets)) refl) where
+  by : (octets : List ℕ) → c plan.name ≡ Some octets → (b : Bool) → ltb plan.limits.octets (length octets) ≡ b
       → Through (EndsAny c plan trace workers) (ReadsAny c plan trace workers) (FrontsAny c plan trace workers) (Some c)
-      (cond b (answered (TooLong, too_long)) (planned (plan_of octets) (λ first. judge first (replayed plan trace workers first)))) []
-  by octets file true e = other_answer c plan trace workers TooLong too_long too_long_other (λ e. cc) (λ e. cc)
-      (inl (octets, file, ltb-true 1048576 (length octets) e)) (λ on. absurd on)
-  by octets file false e = on_plan goes c plan trace workers oct octets file (ltb-false 1048576 (length octets) e) (plan_of octets) refl
+      (cond b (answered (TooLong, too_long_line plan.limits))
+      (planned plan.limits (plan_within plan.limits octets) (λ first. judge first (replayed plan.name trace workers first)))) []
+  by octets file true e = other_answer c plan trace workers TooLong (too_long_line plan.limits)
+      (too_long_other plan.limits) (λ e. cc) (λ e. cc) (inl (octets, file, ltb-true plan.limits.octets (length octets) e)) (λ on. absurd on)
+  by octets file false e = on_plan goes c plan trace workers oct octets file (ltb-false plan.limits.octets (length octets) e)
+      (plan_within plan.limits octets) refl
 
 -- ---- whatever the answer
 
@@ -305,21 +325,22 @@ neither : {s : Status} → (s ≡ Done → ⊥) → (s ≡ BadTrace → ⊥) →
 neither p q (inl e) = p e
 neither p q (inr e) = q e
 
-with_last : {c : Contents} {plan : List ℕ} {workers : ℕ} {lines : List Numbered} {text : List ℕ} (last : List ℕ)
+with_last : {c : Contents} {plan : PlanFile} {workers : ℕ} {lines : List Numbered} {text : List ℕ} (last : List ℕ)
     → Account c plan workers lines [] text → Account c plan workers lines last (text ++ last)
 with_last {c} {plan} {workers} {lines} {text} last h = record {
   first = h.first;
   named = h.named;
+  under = h.under;
   accepted = h.accepted;
   pieces = h.pieces;
   of_lines = h.of_lines;
   plans = h.plans;
   messages = h.messages;
-  whole = ap (λ t. t ++ last) (h.whole ∙ ap (λ t. first_plan_line plan h.first.bound ++ t) (append-nil (flat_map (λ p. p.text) h.pieces)))
-      ∙ append_assoc (first_plan_line plan h.first.bound) (flat_map (λ p. p.text) h.pieces) last;
+  whole = ap (λ t. t ++ last) (h.whole ∙ ap (λ t. first_plan_line plan.name h.first.bound ++ t) (append-nil (flat_map (λ p. p.text) h.pieces)))
+      ∙ append_assoc (first_plan_line plan.name h.first.bound) (flat_map (λ p. p.text) h.pieces) last;
 }
 
-faulted : (c : Contents) (plan trace : List ℕ) (workers : ℕ) (written : List ℕ) → ReadsAny c plan trace workers written
+faulted : (c : Contents) (plan : PlanFile) (trace : List ℕ) (workers : ℕ) (written : List ℕ) → ReadsAny c plan trace workers written
     → TellsReplay c plan trace workers ReadFault (written ++ read_fault)
 faulted c plan trace workers written (inl e) = record {
   told = λ is. absurd (read_fault_other read_fault (starts_whole read_fault)
@@ -339,7 +360,7 @@ faulted c plan trace workers written (inr r) = record {
 }
 
 -- a front of what was written before a reading and of the line on the fault
-cut_faulted : (c : Contents) (plan trace : List ℕ) (workers : ℕ) (written front : List ℕ) → ReadsAny c plan trace workers written
+cut_faulted : (c : Contents) (plan : PlanFile) (trace : List ℕ) (workers : ℕ) (written front : List ℕ) → ReadsAny c plan trace workers written
     → StartsWith read_fault front
     → FrontsAny c plan trace workers (written ++ front)
 cut_faulted c plan trace workers written front (inl e) starts is =
@@ -352,26 +373,26 @@ cut_faulted c plan trace workers written front (inr r) starts is = record {
   so = (starts_behind written read_fault front starts, inr (ReadFault, refl));
 }
 
-none_begun : (c : Contents) (plan trace : List ℕ) (workers : ℕ) → FrontsAny c plan trace workers []
+none_begun : (c : Contents) (plan : PlanFile) (trace : List ℕ) (workers : ℕ) → FrontsAny c plan trace workers []
 none_begun c plan trace workers = λ is. absurd (nothing is) where
   nothing : StartsWith [] (codes "plan 1 ") → ⊥
   nothing e = cc
 
-front_so : (c : Contents) (plan trace : List ℕ) (workers : ℕ) (work : Work) (text : List ℕ)
+front_so : (c : Contents) (plan : PlanFile) (trace : List ℕ) (workers : ℕ) (work : Work) (text : List ℕ)
     → Through (EndsAny c plan trace workers) (ReadsAny c plan trace workers) (FrontsAny c plan trace workers) (Some c) work []
     → BeginsWith (Some c) work text → FrontsAny c plan trace workers text
 front_so c plan trace workers work text h e = fronts_of (EndsAny c plan trace workers) (ReadsAny c plan trace workers)
     (FrontsAny c plan trace workers)
     (Some c) work [] text (none_begun c plan trace workers) h e
 
-reads_so : (c : Contents) (plan trace : List ℕ) (workers : ℕ) (work : Work) (text : List ℕ)
+reads_so : (c : Contents) (plan : PlanFile) (trace : List ℕ) (workers : ℕ) (work : Work) (text : List ℕ)
     → Through (EndsAny c plan trace workers) (ReadsAny c plan trace workers) (FrontsAny c plan trace workers) (Some c) work []
     → ComesToReading (Some c) work text → ReadsAny c plan trace workers text
 reads_so c plan trace workers work text h e = reads_of (EndsAny c plan trace workers) (ReadsAny c plan trace workers)
     (FrontsAny c plan trace workers)
     (Some c) work [] text h e
 
-ends_so : (c : Contents) (plan trace : List ℕ) (workers : ℕ) (work : Work) (s : Status) (text : List ℕ)
+ends_so : (c : Contents) (plan : PlanFile) (trace : List ℕ) (workers : ℕ) (work : Work) (s : Status) (text : List ℕ)
     → Through (EndsAny c plan trace workers) (ReadsAny c plan trace workers) (FrontsAny c plan trace workers) (Some c) work []
     → Ends (Some c) work s text
     → EndsAny c plan trace workers s text
@@ -379,13 +400,13 @@ ends_so c plan trace workers work s text h e = ends_of (EndsAny c plan trace wor
     (FrontsAny c plan trace workers)
     (Some c) work [] text s h e
 
-front_of_fault : (c : Contents) (plan trace : List ℕ) (workers : ℕ) (text written front : List ℕ) → ReadsAny c plan trace workers written
+front_of_fault : (c : Contents) (plan : PlanFile) (trace : List ℕ) (workers : ℕ) (text written front : List ℕ) → ReadsAny c plan trace workers written
     → StartsWith read_fault front
     → text ≡ written ++ front → FrontsAny c plan trace workers text
 front_of_fault c plan trace workers text written front r starts same =
     subst (FrontsAny c plan trace workers) (sym same) (cut_faulted c plan trace workers written front r starts)
 
-cut_short : (c : Contents) (plan trace : List ℕ) (workers : ℕ) (work : Work) (text : List ℕ) (b a : Moment) → b.contents ≡ Some c
+cut_short : (c : Contents) (plan : PlanFile) (trace : List ℕ) (workers : ℕ) (work : Work) (text : List ℕ) (b a : Moment) → b.contents ≡ Some c
     → Through (EndsAny c plan trace workers) (ReadsAny c plan trace workers) (FrontsAny c plan trace workers) (Some c) work []
     → IsCutShort work text b a → FrontsAny c plan trace workers text
 cut_short c plan trace workers work text b a is h (inl e) =
@@ -394,11 +415,11 @@ cut_short c plan trace workers work text b a is h (inr e) =
     front_of_fault c plan trace workers text e.1.0 e.1.1 (reads_so c plan trace workers work e.1.0 h
     (subst (λ k. ComesToReading k work e.1.0) is e.1.2)) e.1.3 e.1.4
 
-as_wanting : (c : Contents) (plan trace : List ℕ) (workers : ℕ) (text : List ℕ) → IsTold c plan trace workers WriteFault text
+as_wanting : (c : Contents) (plan : PlanFile) (trace : List ℕ) (workers : ℕ) (text : List ℕ) → IsTold c plan trace workers WriteFault text
     → IsTold c plan trace workers NoMemory text
 as_wanting c plan trace workers text t = record { count = t.count; last = t.last; whole = t.whole; account = t.account; so = t.so }
 
-pub told_so : (c : Contents) (plan trace : List ℕ) (workers : ℕ) (work : Work) (s : Status) (text : List ℕ) (b a : Moment)
+pub told_so : (c : Contents) (plan : PlanFile) (trace : List ℕ) (workers : ℕ) (work : Work) (s : Status) (text : List ℕ) (b a : Moment)
     → b.contents ≡ Some c
     → Through (EndsAny c plan trace workers) (ReadsAny c plan trace workers) (FrontsAny c plan trace workers) (Some c) work []
     → Answers work s text b a
@@ -417,14 +438,14 @@ told_so c plan trace workers work ReadFault text b a is h e =
 told_so c plan trace workers work s text b a is h e = (ends_so c plan trace workers work s text h (subst (λ k. Ends k work s text) is e)).0
 
 -- what a replay prints, whatever it answers
-pub replay_told : (goes : Goes) (c : Contents) (plan trace : List ℕ) (workers : ℕ) (s : Status) (b a : Moment) → b.contents ≡ Some c
+pub replay_told : (goes : Goes) (c : Contents) (plan : PlanFile) (trace : List ℕ) (workers : ℕ) (s : Status) (b a : Moment) → b.contents ≡ Some c
     → (o : Outcome (replay_work plan trace workers) s b a) → TellsReplay c plan trace workers s o.text
 replay_told goes c plan trace workers s b a is o =
     told_so c plan trace workers (replay_work plan trace workers) s o.text b a is
     (replay_through goes c plan trace workers (λ first octets there. trace_octets first octets)) o.answers
 
 -- why a replay that was not cut short ended so
-pub replay_ends : (goes : Goes) (c : Contents) (plan trace : List ℕ) (workers : ℕ) (s : Status) (text : List ℕ)
+pub replay_ends : (goes : Goes) (c : Contents) (plan : PlanFile) (trace : List ℕ) (workers : ℕ) (s : Status) (text : List ℕ)
     → Ends (Some c) (replay_work plan trace workers) s text → ReplayCause c plan trace s
 replay_ends goes c plan trace workers s text e =
     (ends_so c plan trace workers (replay_work plan trace workers) s text
@@ -441,7 +462,7 @@ told_verdict taken taken' is v = record {
 }
 
 -- a refusal gives a lawful verdict
-pub verdict_ends : (goes : Goes) (c : Contents) (plan trace : List ℕ) (workers : ℕ) (s : Status) (text : List ℕ)
+pub verdict_ends : (goes : Goes) (c : Contents) (plan : PlanFile) (trace : List ℕ) (workers : ℕ) (s : Status) (text : List ℕ)
     (taken taken' : Option (List ℕ)) → taken' ≡ append_known taken text
     → (IsOnRefusal s → Ends (Some c) (replay_work plan trace workers) s text) → ReplayTells c plan s taken taken'
 verdict_ends goes c plan trace workers s text taken taken' is ends = λ on.

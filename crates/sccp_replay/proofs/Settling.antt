@@ -10,8 +10,10 @@ use Rattle.std.proofs.lemmas.List.Elements.{Contains-append_left, Contains-appen
 use Rattle.std.proofs.lemmas.Bool.{ltb-true, ltb-false}
 use Rattle.plan_model.specs.Network.{Network, IsPlan}
 use Rattle.plan_model.specs.SameNodes.{same_nodes}
+use Rattle.plan_model.specs.declared.limits.Limits.{Limits}
 use Rattle.plan_model.specs.declared.plan_fault.PlanFault.{PlanFault}
-use Rattle.plan_text.specs.PlanText.{plan_of}
+use Rattle.plan_text.specs.PlanText.{plan_within}
+use Rattle.plan_text.proofs.Limits.{keeps_limits}
 use Rattle.plan_verify.specs.declared.verdict.Verdict.{Verdict}
 use Rattle.plan_verify.specs.declared.verdict.Verdict.TheVariants.{Accepted, Refused, TooWide}
 use Rattle.relay_net.specs.Batches.{Incoming, Due}
@@ -22,6 +24,7 @@ use Rattle.sccp_message.specs.Reading.{reading}
 use Rattle.sccp_message.specs.declared.fault.DecodeFault.{DecodeFault}
 use Rattle.sccp_message.specs.declared.message.Message.{Message}
 use Rattle.sccp_message.specs.Unitdata.{called_of}
+use Rattle.sccp_report.specs.Limits.{too_long_line}
 use Rattle.sccp_report.specs.Roles.{Role, routed, later, aside, alone, role_of, role_by_called, role_of_message, role_at, is_for_management}
 use Rattle.sccp_report.specs.Roles.{management_data, status_due, named}
 use Rattle.sccp_report.specs.Verdicts.{verdict_text}
@@ -33,7 +36,7 @@ use Rattle.sccp_replay.specs.LaterPlans.{accepted_plan_line, refused_plan_head, 
 use Rattle.sccp_replay.specs.Replay.{Standing, Settled, prints, routes, accepted, judged_later, later_work, settle_line, settle}
 use Rattle.sccp_work.specs.Limit.{HasFile, HasLongFile}
 use Rattle.sccp_replay.specs.ReplayEnds.{LaterPlansFit}
-use Rattle.sccp_work.specs.Texts.{too_long}
+use Rattle.sccp_work.specs.PlanFile.{PlanFile, plan_file}
 use Rattle.sccp_work.specs.Questions.{IsJudged}
 use Rattle.sccp_work.specs.Work.{Work, judge, answered}
 use Rattle.sccp_work.specs.declared.status.Status.{Status}
@@ -51,6 +54,10 @@ pub record Scene : Type 0 where
   pub first : Published
   pub accepted : IsAcceptedIn c first
   pub is_plan : IsPlan first.plan
+
+-- the file of the first plan
+abbrev pub file_of : Scene → PlanFile
+file_of z = plan_file z.first.name z.first.plan.limits
 
 -- a line of a batch, what it was settled to, and the plan that was accepted at it, if any
 pub record Entry : Type 0 where
@@ -88,15 +95,15 @@ pub record Settles (z : Scene) (base : Standing) (es : List Entry) (at : Standin
   pub later : at.later ≡ base.later ++ map plan_in (plans_in es)
   pub each : (b : List Entry) (e : Entry) (a : List Entry) → es ≡ b ++ e ∷ a
       → IsEntry z (accepted base + length (plans_in b)) e.line e.settled e.accepted
-  pub fit : LaterPlansFit z.c (entry_lines es)
+  pub fit : LaterPlansFit z.c z.first.plan.limits (entry_lines es)
 
--- the file is there and within the limit
-abbrev pub Fits : Contents → List ℕ → Type 0
-Fits c name = HasFile (Some c) name (λ octets. Unit {0})
+-- the file is there and has no more octets than limits allow
+abbrev pub Fits : Contents → Limits → List ℕ → Type 0
+Fits c limits name = HasFile (Some c) (plan_file name limits) (λ octets. Unit {0})
 
--- the file of a later plan that this line names is there and within the limit
-abbrev LineFits : Contents → Numbered → Type 0
-LineFits c l = (name : List ℕ) → l.line ≡ Plan name → Fits c name
+-- so is the file of a later plan that this line names
+abbrev LineFits : Contents → Limits → Numbered → Type 0
+LineFits c limits l = (name : List ℕ) → l.line ≡ Plan name → Fits c limits name
 
 pub one_of : {X : Type 0} (y x : X) → Contains (y ∷ []) x → y ≡ x
 one_of y x c = on c.0 c.1 c.2 where
@@ -104,10 +111,11 @@ one_of y x c = on c.0 c.1 c.2 where
   on zero le e = e
   on (suc k) le e = absurd (omega (arith, le))
 
-pub fit_more : (c : Contents) (ls : List Numbered) (l : Numbered) → LaterPlansFit c ls → LineFits c l → LaterPlansFit c (ls ++ l ∷ [])
-fit_more c ls l h own number name has = on (Contains-append_cases ls (l ∷ []) (record { number = number; line = Plan name }) has) where
+pub fit_more : (c : Contents) (limits : Limits) (ls : List Numbered) (l : Numbered) → LaterPlansFit c limits ls → LineFits c limits l
+    → LaterPlansFit c limits (ls ++ l ∷ [])
+fit_more c limits ls l h own number name has = on (Contains-append_cases ls (l ∷ []) (record { number = number; line = Plan name }) has) where
   on : Contains ls (record { number = number; line = Plan name }) ⊎ Contains (l ∷ []) (record { number = number; line = Plan name })
-      → Fits c name
+      → Fits c limits name
   on (inl e) = h number name e
   on (inr e) = own name (ap (λ k. k.line) (one_of l (record { number = number; line = Plan name }) e))
 
@@ -136,7 +144,8 @@ each_more z base es e each own b f a is = on (parted es (e ∷ []) b f a is) whe
 -- one more line
 Settles-more : (z : Scene) (base : Standing) (es : List Entry) (at at' : Standing) (l : Numbered) (s : Settled) (o : Option Published)
     → Settles z base es at → at'.first ≡ at.first → at'.workers ≡ at.workers → at'.states ≡ at.states
-    → at'.later ≡ at.later ++ map plan_in (plans_in (new_entry l s o ∷ [])) → IsEntry z (accepted at) l s o → LineFits z.c l
+    → at'.later ≡ at.later ++ map plan_in (plans_in (new_entry l s o ∷ [])) → IsEntry z (accepted at) l s o
+    → LineFits z.c z.first.plan.limits l
     → Settles z base (es ++ new_entry l s o ∷ []) at'
 Settles-more z base es at at' l s o h first workers states laters is fits = record {
   first = first ∙ h.first;
@@ -147,32 +156,39 @@ Settles-more z base es at at' l s o h first workers states laters is fits = reco
       ∙ ap (λ ps. base.later ++ ps) (sym (map-append plan_in (plans_in es) (plans_in (new_entry l s o ∷ [])))
       ∙ ap (map plan_in) (sym (filter_map-append (λ e. e.accepted) es (new_entry l s o ∷ []))));
   each = each_more z base es (new_entry l s o) h.each (subst (λ n. IsEntry z n l s o) (accepted_by z base es at h.later) is);
-  fit = subst (LaterPlansFit z.c) (sym (map-append (λ e. e.line) es (new_entry l s o ∷ []))) (fit_more z.c (entry_lines es) l h.fit fits);
+  fit = subst (LaterPlansFit z.c z.first.plan.limits) (sym (map-append (λ e. e.line) es (new_entry l s o ∷ [])))
+      (fit_more z.c z.first.plan.limits (entry_lines es) l h.fit fits);
 }
 
 -- a line that adds no plan
 pub Settles-line : (z : Scene) (base : Standing) (es : List Entry) (at : Standing) (l : Numbered) (s : Settled) → Settles z base es at
-    → IsEntry z (accepted at) l s None → LineFits z.c l → Settles z base (es ++ new_entry l s None ∷ []) at
+    → IsEntry z (accepted at) l s None → LineFits z.c z.first.plan.limits l → Settles z base (es ++ new_entry l s None ∷ []) at
 Settles-line z base es at l s h is fits = Settles-more z base es at at l s None h refl refl refl (sym (append-nil at.later)) is fits
 
 -- a line whose plan is accepted
 Settles-plan : (z : Scene) (base : Standing) (es : List Entry) (at : Standing) (l : Numbered) (a : Published) → Settles z base es at
-    → l.line ≡ Plan a.name → IsAcceptedIn z.c a → IsPlan a.plan → IsTrue (same_nodes at.first a.plan)
-    → Settles z base
+    → l.line ≡ Plan a.name → IsAcceptedIn z.c a → IsPlan a.plan → a.plan.limits ≡ z.first.plan.limits
+    → IsTrue (same_nodes at.first a.plan) → Settles z base
     (es ++ new_entry l (prints (accepted_plan_line l.number (accepted at + 1) a.name a.bound)) (Some a) ∷ [])
     (record at { later = at.later ++ a.plan ∷ [] })
-Settles-plan z base es at l a h is_line accepted_in is_plan relays =
+Settles-plan z base es at l a h is_line accepted_in is_plan same_limits relays =
     Settles-more z base es at (record at { later = at.later ++ a.plan ∷ [] }) l
     (prints (accepted_plan_line l.number (accepted at + 1) a.name a.bound)) (Some a) h refl refl refl refl (
       record {
         named = is_line;
         accepted = accepted_in;
+        under = same_limits;
         relays = subst (λ n. IsTrue (same_nodes n a.plan)) h.first relays;
         told = refl;
       },
       is_plan,
     )
-    (λ n e. subst (Fits z.c) (same_plan_name (sym is_line ∙ e)) (accepted_in.octets, accepted_in.file, accepted_in.within, tt)) where
+    (λ n e. subst (Fits z.c z.first.plan.limits) (same_plan_name (sym is_line ∙ e)) (
+      accepted_in.octets,
+      accepted_in.file,
+      subst (λ (ls : Limits). length accepted_in.octets ≤ ls.octets) same_limits accepted_in.within,
+      tt,
+    )) where
       same_plan_name : {m n : List ℕ} → Plan m ≡ Plan n → m ≡ n
       same_plan_name e = cc
 
@@ -219,30 +235,31 @@ of_later first Skip name e = cc
 -- ---- all that the settling of a batch may write
 
 -- a later plan that is too long ends the replay
-abbrev pub MayStop : (ends : Status → List ℕ → Type 0) (reads fronts : List ℕ → Type 0) → Contents → List Numbered → List ℕ → Type 0
-MayStop ends reads fronts c lines acc =
-    reads acc × ((front : List ℕ) → StartsWith too_long front → fronts (acc ++ front))
-    × ((number : ℕ) (name : List ℕ) → Contains lines (record { number = number; line = Plan name }) → HasLongFile (Some c) name
-    → ends TooLong (acc ++ too_long))
+abbrev pub MayStop : (ends : Status → List ℕ → Type 0) (reads fronts : List ℕ → Type 0) → Contents → Limits → List Numbered → List ℕ
+    → Type 0
+MayStop ends reads fronts c limits lines acc =
+    reads acc × ((front : List ℕ) → StartsWith (too_long_line limits) front → fronts (acc ++ front))
+    × ((number : ℕ) (name : List ℕ) → Contains lines (record { number = number; line = Plan name })
+    → HasLongFile (Some c) (plan_file name limits) → ends TooLong (acc ++ too_long_line limits))
 
-pub named_fits : (c : Contents) (l : Numbered) (name : List ℕ) → l.line ≡ Plan name → (octets : List ℕ) → c name ≡ Some octets
-    → length octets ≤ 1048576 → LineFits c l
-named_fits c l name is_line octets there few n e = subst (Fits c) (same (sym is_line ∙ e)) (octets, there, few, tt) where
+pub named_fits : (c : Contents) (limits : Limits) (l : Numbered) (name : List ℕ) → l.line ≡ Plan name → (octets : List ℕ)
+    → c name ≡ Some octets → length octets ≤ limits.octets → LineFits c limits l
+named_fits c limits l name is_line octets there few n e = subst (Fits c limits) (same (sym is_line ∙ e)) (octets, there, few, tt) where
   same : {m n : List ℕ} → Plan m ≡ Plan n → m ≡ n
   same f = cc
 
 -- a line that is not of that role names none
-unnamed : (c : Contents) (first : Network) (l : Numbered) (r : Role) → role_of first l.line ≡ r → ((name : List ℕ) → r ≡ later name → ⊥)
-    → LineFits c l
-unnamed c first l r is never name e = absurd (never name (sym is ∙ ap (role_of first) e))
+unnamed : (c : Contents) (limits : Limits) (first : Network) (l : Numbered) (r : Role) → role_of first l.line ≡ r
+    → ((name : List ℕ) → r ≡ later name → ⊥) → LineFits c limits l
+unnamed c limits first l r is never name e = absurd (never name (sym is ∙ ap (role_of first) e))
 
 -- a plan line that accepts no plan
 not_accepted : (z : Scene) (l : Numbered) (name : List ℕ) (text octets : List ℕ) → l.line ≡ Plan name → z.c name ≡ Some octets
-    → TellsRefusal z.first.plan l.number name (plan_of octets) text → IsRefused z.c z.first.plan l text
+    → TellsRefusal z.first.plan l.number name (plan_within z.first.plan.limits octets) text → IsRefused z.c z.first.plan l text
 not_accepted z l name text octets is_line there why n e = (
   octets,
   subst (λ m. (z.c m ≡ Some octets)) (same (sym is_line ∙ e)) there,
-  subst (λ m. TellsRefusal z.first.plan l.number m (plan_of octets) text) (same (sym is_line ∙ e)) why,
+  subst (λ m. TellsRefusal z.first.plan l.number m (plan_within z.first.plan.limits octets) text) (same (sym is_line ∙ e)) why,
 ) where
   same : {m n : List ℕ} → Plan m ≡ Plan n → m ≡ n
   same f = cc
@@ -256,15 +273,23 @@ Goes ends reads fronts z base es l acc next = (at' : Standing) (s : Settled) (o 
 judged_through : (ends : Status → List ℕ → Type 0) (reads fronts : List ℕ → Type 0) (z : Scene) (base : Standing) (es : List Entry)
     (at : Standing) (l : Numbered) (name : List ℕ) (acc : List ℕ) (next : Standing → Settled → Work) → Settles z base es at
     → l.line ≡ Plan name → role_of z.first.plan l.line ≡ later name → Goes ends reads fronts z base es l acc next
-    → (octets : List ℕ) → z.c name ≡ Some octets → length octets ≤ 1048576 → (plan : Network) → plan_of octets ≡ Ok plan
-    → IsTrue (same_nodes at.first plan) → (v : Verdict) → IsJudged plan v
+    → (octets : List ℕ) → z.c name ≡ Some octets → length octets ≤ z.first.plan.limits.octets → (plan : Network)
+    → plan_within z.first.plan.limits octets ≡ Ok plan → IsTrue (same_nodes at.first plan) → (v : Verdict) → IsJudged plan v
     → Through ends reads fronts (Some z.c) (judged_later at l.number name plan v next) acc
 judged_through ends reads fronts z base es at l name acc next h is_line role go octets there few plan reads_plan relays (Accepted a) j =
     let p : Published = record { name = name; plan = plan; bound = a.bound } in
+    let under : plan.limits ≡ z.first.plan.limits = keeps_limits z.first.plan.limits octets plan reads_plan in
     go (record at { later = at.later ++ plan ∷ [] }) (prints (accepted_plan_line l.number (accepted at + 1) name a.bound)) (Some p)
     (Settles-plan z base es at l p h is_line
-    (record { octets = octets; file = there; within = few; reads = reads_plan; safe = j.1.0; longest = a.longest; tight = j.1.1 })
-    j.0 relays)
+    (record {
+      octets = octets;
+      file = there;
+      within = subst (λ (ls : Limits). length octets ≤ ls.octets) (sym under) few;
+      reads = subst (λ (ls : Limits). plan_within ls octets ≡ Ok plan) (sym under) reads_plan;
+      safe = j.1.0;
+      longest = a.longest;
+      tight = j.1.1;
+    }) j.0 under relays)
 judged_through ends reads fronts z base es at l name acc next h is_line role go octets there few plan reads_plan relays
     (Refused same witness) j =
     go at (prints (refused_plan_head l.number name ++ verdict_text plan (Refused same witness))) None
@@ -273,7 +298,7 @@ judged_through ends reads fronts z base es at l name acc next h is_line role go 
       not_accepted z l name _ octets is_line there (subst (λ r. TellsRefusal z.first.plan l.number name r
           (refused_plan_head l.number name ++ verdict_text plan (Refused same witness))) (sym reads_plan)
           (inr (Refused same witness, j.1, tt, refl))),
-    ) (named_fits z.c l name is_line octets there few))
+    ) (named_fits z.c z.first.plan.limits l name is_line octets there few))
 judged_through ends reads fronts z base es at l name acc next h is_line role go octets there few plan reads_plan relays (TooWide same) j =
     go at (prints (refused_plan_head l.number name ++ verdict_text plan (TooWide same))) None
     (Settles-line z base es at l _ h (
@@ -281,15 +306,22 @@ judged_through ends reads fronts z base es at l name acc next h is_line role go 
       not_accepted z l name _ octets is_line there (subst (λ r. TellsRefusal z.first.plan l.number name r
           (refused_plan_head l.number name ++ verdict_text plan (TooWide same))) (sym reads_plan)
           (inr (TooWide same, j.1, tt, refl))),
-    ) (named_fits z.c l name is_line octets there few))
+    ) (named_fits z.c z.first.plan.limits l name is_line octets there few))
 
 later_through : (ends : Status → List ℕ → Type 0) (reads fronts : List ℕ → Type 0) (z : Scene) (base : Standing) (es : List Entry)
     (at : Standing) (l : Numbered) (name : List ℕ) (acc : List ℕ) (next : Standing → Settled → Work) → Settles z base es at
     → l.line ≡ Plan name → role_of z.first.plan l.line ≡ later name → Goes ends reads fronts z base es l acc next
-    → (octets : List ℕ) → z.c name ≡ Some octets → length octets ≤ 1048576
-    → Through ends reads fronts (Some z.c) (later_work at l.number name (plan_of octets) next) acc
-later_through ends reads fronts z base es at l name acc next h is_line role go octets there few = by (plan_of octets) refl where
-  of : (b : Bool) (plan : Network) → same_nodes at.first plan ≡ b → plan_of octets ≡ Ok plan
+    → (octets : List ℕ) → z.c name ≡ Some octets → length octets ≤ at.first.limits.octets
+    → Through ends reads fronts (Some z.c) (later_work at l.number name (plan_within at.first.limits octets) next) acc
+later_through ends reads fronts z base es at l name acc next h is_line role go octets there few' =
+    by (plan_within at.first.limits octets) refl where
+  few : length octets ≤ z.first.plan.limits.octets
+  few = subst (λ (n : Network). length octets ≤ n.limits.octets) h.first few'
+
+  read_so : {r : Result Network PlanFault} → plan_within at.first.limits octets ≡ r → plan_within z.first.plan.limits octets ≡ r
+  read_so {r} e = subst (λ (n : Network). plan_within n.limits octets ≡ r) h.first e
+
+  of : (b : Bool) (plan : Network) → same_nodes at.first plan ≡ b → plan_within z.first.plan.limits octets ≡ Ok plan
       → Through ends reads fronts (Some z.c) (cond b (judge plan (λ v. judged_later at l.number name plan v next))
       (next at (prints (other_nodes_line l.number name)))) acc
   of true plan e is = λ v j. judged_through ends reads fronts z base es at l name acc next h is_line role go octets there few plan is e v j
@@ -299,16 +331,18 @@ later_through ends reads fronts z base es at l name acc next h is_line role go o
         not_accepted z l name _ octets is_line there (subst
             (λ r. TellsRefusal z.first.plan l.number name r (other_nodes_line l.number name))
             (sym is) (inl (subst (λ n. same_nodes n plan ≡ false) h.first e, refl))),
-      ) (named_fits z.c l name is_line octets there few))
+      ) (named_fits z.c z.first.plan.limits l name is_line octets there few))
 
-  by : (r : Result Network PlanFault) → plan_of octets ≡ r → Through ends reads fronts (Some z.c) (later_work at l.number name r next) acc
-  by (Err fault) e = go at (prints (bad_plan_line l.number name fault)) None
+  by : (r : Result Network PlanFault) → plan_within at.first.limits octets ≡ r
+      → Through ends reads fronts (Some z.c) (later_work at l.number name r next) acc
+  by (Err fault) e = go at (prints (bad_plan_line l.number name at.first.limits fault)) None
       (Settles-line z base es at l _ h (
         (λ x f. other_role role f),
         not_accepted z l name _ octets is_line there
-            (subst (λ r. TellsRefusal z.first.plan l.number name r (bad_plan_line l.number name fault)) (sym e) refl),
-      ) (named_fits z.c l name is_line octets there few))
-  by (Ok plan) e = of (same_nodes at.first plan) plan refl e
+            (subst (λ r. TellsRefusal z.first.plan l.number name r (bad_plan_line l.number name at.first.limits fault))
+            (sym (read_so e)) (ap (λ (n : Network). bad_plan_line l.number name n.limits fault) h.first)),
+      ) (named_fits z.c z.first.plan.limits l name is_line octets there few))
+  by (Ok plan) e = of (same_nodes at.first plan) plan refl (read_so e)
 
 -- no line but that of a plan names one
 names_none : (first : Network) (l : Numbered) (r : Role) (text : List ℕ) (c : Contents) → role_of first l.line ≡ r
@@ -316,43 +350,49 @@ names_none : (first : Network) (l : Numbered) (r : Role) (text : List ℕ) (c : 
 names_none first l r text c is never name e = absurd (never name (sym is ∙ ap (role_of first) e))
 
 line_through : (ends : Status → List ℕ → Type 0) (reads fronts : List ℕ → Type 0) (z : Scene) (base : Standing) (es : List Entry)
-    (at : Standing) (l : Numbered) (acc : List ℕ) (next : Standing → Settled → Work) → MayStop ends reads fronts z.c (l ∷ []) acc
+    (at : Standing) (l : Numbered) (acc : List ℕ) (next : Standing → Settled → Work) → MayStop ends reads fronts z.c z.first.plan.limits (l ∷ []) acc
     → Settles z base es at → Goes ends reads fronts z base es l acc next
     → Through ends reads fronts (Some z.c) (settle_line at l (role_of at.first l.line) next) acc
 line_through ends reads fronts z base es at l acc next stop h go = by (role_of at.first l.line) refl where
   named : (name : List ℕ) → role_of at.first l.line ≡ later name → l.line ≡ Plan name
   named name e = of_later at.first l.line name e
 
-  long : (b : Bool) (name octets : List ℕ) → ltb 1048576 (length octets) ≡ b → role_of at.first l.line ≡ later name → z.c name ≡ Some octets
-      → Through ends reads fronts (Some z.c) (cond b (answered (TooLong, too_long)) (later_work at l.number name (plan_of octets) next)) acc
-  long true name octets e role there = (
-    stop.1,
-    stop.2 l.number name (0, omega arith, λ i. record { number = l.number; line = named name role i })
-        (octets, there, ltb-true 1048576 (length octets) e),
-  )
+  long : (b : Bool) (name octets : List ℕ) → ltb at.first.limits.octets (length octets) ≡ b → role_of at.first l.line ≡ later name
+      → z.c name ≡ Some octets
+      → Through ends reads fronts (Some z.c) (cond b (answered (TooLong, too_long_line at.first.limits))
+      (later_work at l.number name (plan_within at.first.limits octets) next)) acc
+  long true name octets e role there =
+      subst (λ (n : Network). Through ends reads fronts (Some z.c) (answered (TooLong, too_long_line n.limits)) acc) (sym h.first) (
+        stop.1,
+        stop.2 l.number name (0, omega arith, λ i. record { number = l.number; line = named name role i }) (
+          octets,
+          there,
+          subst (λ (n : Network). n.limits.octets < length octets) h.first (ltb-true at.first.limits.octets (length octets) e),
+        ),
+      )
   long false name octets e role there = later_through ends reads fronts z base es at l name acc next h (named name role)
-      (subst (λ n. role_of n l.line ≡ later name) h.first role) go octets there (ltb-false 1048576 (length octets) e)
+      (subst (λ n. role_of n l.line ≡ later name) h.first role) go octets there (ltb-false at.first.limits.octets (length octets) e)
 
   is_first : (r : Role) → role_of at.first l.line ≡ r → role_of z.first.plan l.line ≡ r
   is_first r e = subst (λ n. role_of n l.line ≡ r) h.first e
 
   by : (r : Role) → role_of at.first l.line ≡ r → Through ends reads fronts (Some z.c) (settle_line at l r next) acc
-  by (later name) e = (stop.0, λ octets there. long (ltb 1048576 (length octets)) name octets refl e there)
+  by (later name) e = (stop.0, λ octets there. long (ltb at.first.limits.octets (length octets)) name octets refl e there)
   by (routed x) e = go at (routes l.number x (accepted at)) None
-      (Settles-line z base es at l _ h (refl, is_first (routed x) e, refl) (unnamed z.c at.first l (routed x) e (λ n f. cc)))
+      (Settles-line z base es at l _ h (refl, is_first (routed x) e, refl) (unnamed z.c z.first.plan.limits at.first l (routed x) e (λ n f. cc)))
   by aside e = go at (prints (event_text at.first l [])) None
       (Settles-line z base es at l _ h (
         (λ x f. aside_or (is_first aside e) f),
         names_none z.first.plan l aside _ z.c (is_first aside e) (λ n f. cc),
-      ) (unnamed z.c at.first l aside e (λ n f. cc)))
+      ) (unnamed z.c z.first.plan.limits at.first l aside e (λ n f. cc)))
   by (alone d) e = go at (prints (event_text at.first l [])) None
       (Settles-line z base es at l _ h (
         (λ x f. alone_or (is_first (alone d) e) f),
         names_none z.first.plan l (alone d) _ z.c (is_first (alone d) e) (λ n f. cc),
-      ) (unnamed z.c at.first l (alone d) e (λ n f. cc)))
+      ) (unnamed z.c z.first.plan.limits at.first l (alone d) e (λ n f. cc)))
 
 pub settle_through : (ends : Status → List ℕ → Type 0) (reads fronts : List ℕ → Type 0) (z : Scene) (base : Standing)
-    (all : List Numbered) (acc : List ℕ) (next : Standing → List Settled → Work) → MayStop ends reads fronts z.c all acc
+    (all : List Numbered) (acc : List ℕ) (next : Standing → List Settled → Work) → MayStop ends reads fronts z.c z.first.plan.limits all acc
     → ((at' : Standing) (es : List Entry) → entry_lines es ≡ all → Settles z base es at'
     → Through ends reads fronts (Some z.c) (next at' (settled_of es)) acc)
     → (lines : List Numbered) (es : List Entry) (at : Standing) → entry_lines es ++ lines ≡ all → Settles z base es at

@@ -54,7 +54,7 @@ pub record SoFar (z : Scene) (lines : List Numbered) (pieces : List Piece) (at :
   pub managers : managers_of at.states ≡ managers_after z.first.plan lines
   pub later : at.later ≡ map plan_in (later_plans pieces)
   pub sound : AllByRecursion IsSound (later_plans pieces)
-  pub fit : LaterPlansFit z.c lines
+  pub fit : LaterPlansFit z.c z.first.plan.limits lines
 
 -- ---- further pieces
 
@@ -110,7 +110,7 @@ pub SoFar-more : (z : Scene) (lines ls : List Numbered) (pieces more : List Piec
     → TellsPlan z.c z.first.plan (length (plans_after z.first (pieces ++ b))) p.line p.text p.accepted)
     → ((b : List Piece) (p : Piece) (a : List Piece) → more ≡ b ++ p ∷ a → TellsMessage z.workers z.first (pieces ++ b) p a)
     → managers_of at'.states ≡ managers_after z.first.plan (lines ++ ls) → at'.later ≡ at.later ++ map plan_in (later_plans more)
-    → AllByRecursion IsSound (later_plans more) → LaterPlansFit z.c ls
+    → AllByRecursion IsSound (later_plans more) → LaterPlansFit z.c z.first.plan.limits ls
     → SoFar z (lines ++ ls) (pieces ++ more) at'
 SoFar-more z lines ls pieces more at at' h same workers is plans messages managers laters sound fit = record {
   first = same;
@@ -429,7 +429,7 @@ batch_done goes z lines ls pieces at at' es ns d =
           (entry_at z lines ls pieces at at' es ns d b p r) r.told)
           (tell_stays at' mk at'.states (settled_of es) ns ∙ ap managers_of d.settles.states ∙ d.before.managers
           ∙ sym (managers_stay z.first.plan lines ls d.joins))
-          later sound (subst (LaterPlansFit z.c) d.entries d.settles.fit),
+          later sound (subst (LaterPlansFit z.c z.first.plan.limits) d.entries d.settles.fit),
       pieces_text (accepted at) (accepted at') at.workers at' mk at'.states es ns d.numbers,
     )
 

@@ -2,10 +2,11 @@
 use Rattle.std.specs.Prelude.{◌≡◌, ℕ, List, ◌∷◌, ◌++◌, Option, Some, Ok}
 use Rattle.std.specs.List.{Contains}
 use Rattle.plan_model.specs.Network.{Network}
-use Rattle.plan_text.specs.PlanText.{plan_of}
+use Rattle.plan_text.specs.PlanText.{plan_within}
 use Rattle.relay_net.specs.Batches.{Incoming, Due}
 use Rattle.sccp_io.specs.Files.{Contents}
 use Rattle.sccp_report.specs.Roles.{routed, later, alone, role_of}
+use Rattle.sccp_work.specs.PlanFile.{PlanFile}
 use Rattle.trace_text.specs.declared.line.Numbered.{Numbered}
 use Rattle.sccp_replay.specs.Trace.{lines_in}
 
@@ -21,6 +22,6 @@ pub record IsFenced (first : Network) (lines : List Numbered) : Type 0 where
       → role_of first m.line ≡ routed x → role_of first p.line ≡ later name → HasFence first c
 
 -- so are the lines of a trace file, under the plan of a plan file
-abbrev pub HasFences : Contents → List ℕ → List ℕ → Type 0
-HasFences c plan trace = (octets : List ℕ) (first : Network) → c plan ≡ Some octets → plan_of octets ≡ Ok first
+abbrev pub HasFences : Contents → PlanFile → List ℕ → Type 0
+HasFences c file trace = (octets : List ℕ) (first : Network) → c file.name ≡ Some octets → plan_within file.limits octets ≡ Ok first
     → IsFenced first (lines_in c trace)

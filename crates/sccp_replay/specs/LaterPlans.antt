@@ -1,6 +1,7 @@
 -- The lines on the plans of a replay.
 use Rattle.std.specs.Prelude.{ℕ, List, ◌++◌, codes, decimal}
 use Rattle.sccp_report.specs.Verdicts.{accepted_line}
+use Rattle.plan_model.specs.declared.limits.Limits.{Limits}
 use Rattle.plan_model.specs.declared.plan_fault.PlanFault.{PlanFault}
 use Rattle.sccp_work.specs.Plans.{bad_plan}
 
@@ -20,8 +21,9 @@ accepted_plan_line line number name bound = decimal line ++ codes " " ++ numbere
 unfoldable pub refused_plan_head : ℕ → List ℕ → List ℕ
 refused_plan_head line name = decimal line ++ codes " plan " ++ name ++ codes " "
 
-unfoldable pub bad_plan_line : ℕ → List ℕ → PlanFault → List ℕ
-bad_plan_line line name fault = refused_plan_head line name ++ bad_plan fault
+-- its text is no plan under limits
+unfoldable pub bad_plan_line : ℕ → List ℕ → Limits → PlanFault → List ℕ
+bad_plan_line line name limits fault = refused_plan_head line name ++ bad_plan limits fault
 
 -- its relays are not those of the first plan
 unfoldable pub other_nodes_line : ℕ → List ℕ → List ℕ

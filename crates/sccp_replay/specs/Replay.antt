@@ -12,7 +12,7 @@ use Rattle.plan_check.specs.Verified.{Verified}
 use Rattle.plan_model.specs.Network.{Network}
 use Rattle.plan_model.specs.SameNodes.{same_nodes}
 use Rattle.plan_model.specs.declared.plan_fault.PlanFault.{PlanFault}
-use Rattle.plan_text.specs.PlanText.{plan_of}
+use Rattle.plan_text.specs.PlanText.{plan_within}
 use Rattle.plan_verify.specs.declared.verdict.Verdict.{Verdict}
 use Rattle.plan_verify.specs.declared.verdict.Verdict.TheVariants.{Accepted, Refused, TooWide}
 use Rattle.relay_net.specs.Batches.{Incoming, Due, applied_after, applied_if_due}
@@ -29,6 +29,7 @@ use Rattle.sccp_work.specs.Accepting.{accepted_on, if_accepted}
 use Rattle.sccp_work.specs.Limit.{within_limit}
 use Rattle.sccp_work.specs.LineFault.{bad_line}
 use Rattle.sccp_work.specs.Numbers.{Batch}
+use Rattle.sccp_work.specs.PlanFile.{PlanFile, plan_file}
 use Rattle.sccp_work.specs.Plans.{with_plan}
 use Rattle.sccp_replay.specs.Trace.{trace_of}
 use Rattle.sccp_work.specs.Work.{Work, print, read, read_on, judge, serve, answered}
@@ -53,6 +54,10 @@ plan_at at number = unwrap_or (slice_get (at.first ∷ at.later) (number - 1)) a
 abbrev pub latest : Standing → Network
 latest at = plan_at at (accepted at)
 
+-- the file of a later plan, which is read under the limits of the first one
+abbrev pub later_file : Standing → List ℕ → PlanFile
+later_file at name = plan_file name at.first.limits
+
 -- ---- the plan lines of a batch are settled before it begins
 
 -- A line of a batch that is settled: what is printed of it, or a message that is to be routed, with the number of plans
@@ -71,13 +76,14 @@ judged_later at line name plan (TooWide same) next = next at (prints (refused_pl
 
 -- a later plan is refused for its text, then for other relays than those of the first one, and then by its verdict
 abbrev pub later_work : Standing → ℕ → List ℕ → Result Network PlanFault → (Standing → Settled → Work) → Work
-later_work at line name (Err fault) next = next at (prints (bad_plan_line line name fault))
+later_work at line name (Err fault) next = next at (prints (bad_plan_line line name at.first.limits fault))
 later_work at line name (Ok plan) next =
     if same_nodes at.first plan then judge plan (λ verdict. judged_later at line name plan verdict next)
     else next at (prints (other_nodes_line line name))
 
 abbrev pub settle_line : Standing → Numbered → Role → (Standing → Settled → Work) → Work
-settle_line at line (later name) next = within_limit name (λ octets. later_work at line.number name (plan_of octets) next)
+settle_line at line (later name) next =
+    within_limit (later_file at name) (λ octets. later_work at line.number name (plan_within at.first.limits octets) next)
 settle_line at line (routed x) next = next at (routes line.number x (accepted at))
 settle_line at line aside next = next at (prints (event_text at.first line []))
 settle_line at line (alone d) next = next at (prints (event_text at.first line []))
@@ -190,5 +196,6 @@ replayed_under plan_name trace_name workers plan accepted =
 abbrev pub replayed : List ℕ → List ℕ → ℕ → Network → Verdict → Work
 replayed plan_name trace_name workers plan = accepted_on [] (replayed_under plan_name trace_name workers plan) plan
 
-unfoldable pub replay_work : List ℕ → List ℕ → ℕ → Work
-replay_work plan_name trace_name workers = with_plan plan_name (λ plan. if_accepted [] plan (replayed_under plan_name trace_name workers plan))
+unfoldable pub replay_work : PlanFile → List ℕ → ℕ → Work
+replay_work file trace_name workers =
+    with_plan file (λ plan. if_accepted [] plan (replayed_under file.name trace_name workers plan))

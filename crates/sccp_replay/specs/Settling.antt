@@ -3,7 +3,7 @@ use Rattle.std.specs.Option.{option_map}
 use Rattle.std.specs.Prelude.{◌≡◌, ℕ, List, [], ◌∷◌, ◌++◌, map, Option, Result, Ok, Err}
 use Rattle.plan_model.specs.Network.{Network}
 use Rattle.plan_model.specs.declared.plan_fault.PlanFault.{PlanFault}
-use Rattle.plan_text.specs.PlanText.{plan_of}
+use Rattle.plan_text.specs.PlanText.{plan_within}
 use Rattle.relay_net.specs.Batches.{Due}
 use Rattle.sccp_report.specs.Roles.{alone, role_of, as_due, StandsIn}
 use Rattle.trace_text.specs.declared.line.Numbered.{Numbered}
@@ -11,7 +11,7 @@ use Rattle.sccp_work.specs.Ending.{Works}
 use Rattle.sccp_replay.specs.Gathering.{joining_role}
 use Rattle.sccp_work.specs.Limit.{within_limit}
 use Rattle.sccp_work.specs.Moment.{Moment}
-use Rattle.sccp_replay.specs.Replay.{Standing, Settled, judged_later, later_work, settle_line, batch_work, batch_printed, gathered}
+use Rattle.sccp_replay.specs.Replay.{Standing, Settled, later_file, judged_later, later_work, settle_line, batch_work, batch_printed, gathered}
 use Rattle.sccp_replay.specs.Replay.{alone_work, line_work, lines_work}
 use Rattle.sccp_replay.specs.Replayers.{settled_in}
 use Rattle.sccp_replay.specs.Replaying.{EndsAs, SettlesTo, BatchGives, BatchStops}
@@ -35,9 +35,11 @@ JudgesLine at line name plan at' s = (next : Standing → Settled → Work) (now
 -- its file was read
 abbrev pub GivesPlanFile : Standing → ℕ → List ℕ → Result code.Settled.Settled Stop → Standing → Moment → Moment → Type 0
 GivesPlanFile at line name (Ok s) at' first now = (next : Standing → Settled → Work)
-    → EndsAs (within_limit name (λ octets. later_work at line name (plan_of octets) next)) (next at' (settled_in s)) first now
+    → EndsAs (within_limit (later_file at name) (λ octets. later_work at line name (plan_within at.first.limits octets) next))
+    (next at' (settled_in s)) first now
 GivesPlanFile at line name (Err stop) at' first now = (next : Standing → Settled → Work)
-    → Works (within_limit name (λ octets. later_work at line name (plan_of octets) next)) (Err stop) first now
+    → Works (within_limit (later_file at name) (λ octets. later_work at line name (plan_within at.first.limits octets) next)) (Err stop)
+    first now
 
 -- a line of a batch is settled
 abbrev pub GivesLine : Standing → Numbered → Result code.Settled.Settled Stop → Standing → Moment → Moment → Type 0

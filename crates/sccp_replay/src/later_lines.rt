@@ -9,7 +9,7 @@ ghost use Rattle.sccp_replay.specs.LaterPlans.{other_nodes_line};
 ghost use Rattle.sccp_work.specs.Plans.{bad_plan};
 
 use plan_check::Accepted;
-use plan_model::PlanFault;
+use plan_model::{Limits, PlanFault};
 use plan_verify::Verdict;
 use sccp_base::{Octets, OutOfMemory};
 use sccp_report::{Text, accepted_text};
@@ -77,20 +77,21 @@ fn put_head(text: &mut Text, line: u32, name: &str) -> Result<(), OutOfMemory>
     text.put(b" ")
 }
 
-/// The line on a later plan whose text is no plan. Want of memory while it was read says nothing of the text.
+/// The line on a later plan whose text is no plan under limits. Want of memory while it was read says nothing of the text.
 #[tactic(auto, unfolding(crate::specs::LaterPlans::bad_plan_line))]
 pub fn bad_plan_line(
     alloc: Global,
     line: u32,
     name: &str,
+    limits: Limits,
     fault: &PlanFault,
 ) -> Result<Octets, OutOfMemory>
-    ensures line { IfOk result (λ text. text ≡ bad_plan_line line name.now fault.now) }
+    ensures line { IfOk result (λ text. text ≡ bad_plan_line line name.now limits fault.now) }
     ensures told { OnOk result (is_memory fault.now ≡ false) }
 {
     let mut text = Text::new(alloc);
     put_head(&mut text, line, name)?;
-    text.put(bad_plan(alloc, fault)?.as_slice())?;
+    text.put(bad_plan(alloc, limits, fault)?.as_slice())?;
     Ok(text.into_octets())
 }
 

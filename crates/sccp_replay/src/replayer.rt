@@ -6,7 +6,7 @@ ghost use Rattle.relay_net.specs.Batches.{CanBeDone, applied_after, due_after};
 ghost use Rattle.std.specs.Option.{option_map};
 ghost use Rattle.sccp_report.specs.Roles.{StandsIn, alone, as_due};
 ghost use Rattle.sccp_replay.specs.Incoming.{incoming_in};
-ghost use Rattle.sccp_replay.specs.Replay.{accepted, done_alone, start};
+ghost use Rattle.sccp_replay.specs.Replay.{accepted, done_alone, later_file, start};
 ghost use Rattle.sccp_replay.specs.Replayers.{IsStanding, MayBeRouted, RoutesBatch, settled_in};
 ghost use Rattle.sccp_replay.specs.Routers.{routing_of};
 ghost use Rattle.sccp_replay.specs.Routings.{ArePlans, AtMostOneMore, HasRoom, ahead, standing};
@@ -17,10 +17,11 @@ use crate::router::Router;
 use crate::settled::Settled;
 use live_plan::Gate;
 use plan_check::Accepted;
-use plan_model::Plan;
+use plan_model::{Limits, Plan};
 use relay_net::{Journey, Net, Outcome, Served};
 use sccp_base::{List, OutOfMemory};
 use sccp_report::Due;
+use sccp_work::PlanPath;
 use std::alloc::Global;
 use std::marker::Model;
 use std::sync::Wait;
@@ -97,6 +98,20 @@ impl Replayer {
         ensures plans { ArePlans self.now.first self.now.later }
     {
         self.by.first().plan()
+    }
+
+    /// The limits under which its plans are read.
+    pub fn limits(&self) -> Limits
+        ensures { result ≡ self.now.first.limits }
+    {
+        self.first().limits()
+    }
+
+    /// The file of a later plan.
+    pub fn later_file<'a>(&self, name: &'a str) -> PlanPath<'a>
+        ensures { result ≡ later_file self.now name.now }
+    {
+        PlanPath::new(name, self.limits())
     }
 
     /// How many plans were accepted so far, with those of this batch.

@@ -14,7 +14,7 @@ use crate::workers::Workers;
 use live_plan::Gate;
 use plan_check::Accepted;
 use sccp_io::{Files, Sink};
-use sccp_work::{Status, Stop, if_accepted, put_all, with_plan};
+use sccp_work::{PlanPath, Status, Stop, if_accepted, put_all, with_plan};
 use std::sync::Wait;
 use std::thread::Threads;
 
@@ -26,11 +26,12 @@ struct Asked<'a> {
     workers: &'a Workers,
 }
 
-/// Replays the trace of the second file under the plan of the first one, with this number of workers.
+/// Replays the trace of the second file under the plan of the first one, with this number of workers. Later plans are read under
+/// the limits of the first one.
 #[tactic(auto, unfolding(crate::specs::Replay::replay_work))]
 pub fn replay<R: Threads + Wait + Sync, G: Gate + Sync, F: Files, K: Sink>(
     host: &Host<'_, R, G>,
-    plan: &str,
+    plan: &PlanPath<'_>,
     trace: &str,
     workers: &Workers,
     files: &mut F,
@@ -43,7 +44,7 @@ pub fn replay<R: Threads + Wait + Sync, G: Gate + Sync, F: Files, K: Sink>(
     let first = with_plan(host.alloc, plan, files, out)?;
     let accepted = if_accepted(host.alloc, b"", first, out)?;
     let asked = Asked {
-        plan,
+        plan: plan.name(),
         trace,
         workers,
     };

@@ -2,15 +2,16 @@
 ghost use Rattle.std.specs.Prelude.{◌≡◌, ◌+◌, ◌≤◌, ◌++◌, [], ◌∷◌, length, IfOk, OnOk};
 ghost use Rattle.plan_model.specs.Network.{IsPlan, Network};
 ghost use Rattle.plan_model.specs.SameNodes.{SameNodes};
-ghost use Rattle.plan_text.specs.PlanText.{plan_of as read_plan};
+ghost use Rattle.plan_text.specs.PlanText.{plan_within};
 ghost use Rattle.plan_verify.specs.Lawful.{IsLawful, plan_of};
 ghost use Rattle.sccp_report.specs.Events.{event_text};
 ghost use Rattle.sccp_report.specs.Roles.{StandsIn, role_of};
 ghost use Rattle.sccp_report.specs.Verdicts.{verdict_text};
 ghost use Rattle.sccp_replay.specs.Gathering.{MayBeDone, joining_role, lines_in};
 ghost use Rattle.sccp_replay.specs.LaterPlans.{accepted_plan_line, refused_plan_head};
+ghost use Rattle.sccp_work.specs.Limit.{GivesWhole};
 ghost use Rattle.sccp_work.specs.Moment.{moment};
-ghost use Rattle.sccp_replay.specs.Replay.{accepted, prints};
+ghost use Rattle.sccp_replay.specs.Replay.{accepted, later_file, prints};
 ghost use Rattle.sccp_replay.specs.Replayers.{ComesToNode, MayBeRouted, settled_in};
 ghost use Rattle.sccp_replay.specs.Routings.{ArePlans, AtMostOneMore, HasRoom, ahead};
 ghost use Rattle.sccp_replay.specs.Settling.{JudgesLine, GivesPlanLine, GivesPlanFile, GivesLine, GivesSettled};
@@ -117,11 +118,12 @@ fn read_later(
 ) -> Result<Settled, OutOfMemory>
     requires plans { HasRoom at.now.first (ahead at.now coming.old).later }
     ensures plans { OnOk result (AtMostOneMore at.now.first (ahead at.now coming.old).later (ahead at.now coming.new).later) }
-    ensures gives { IfOk result (λ s. GivesPlanLine (ahead at.now coming.old) line name.now (read_plan text.now) (ahead at.now coming.new)
-        (settled_in s)) }
+    ensures gives { IfOk result (λ s. GivesPlanLine (ahead at.now coming.old) line name.now (plan_within at.now.first.limits text.now)
+        (ahead at.now coming.new) (settled_in s)) }
     ensures fits { IfOk result (ComesToNode at.now.first) }
 {
-    match plan_text::read(alloc, text) {
+    let limits = at.limits();
+    match plan_text::read_within(alloc, limits, text) {
         Ok(plan) => {
             if have_same_nodes(at.first(), &plan) {
                 judge_later(alloc, at, coming, line, name, plan)
@@ -130,11 +132,27 @@ fn read_later(
                 Ok(Settled::Prints(other_nodes_line(alloc, line, name)?))
             }
         }
-        Err(fault) => Ok(Settled::Prints(bad_plan_line(alloc, line, name, &fault)?)),
+        Err(fault) => Ok(Settled::Prints(bad_plan_line(alloc, line, name, limits, &fault)?)),
     }
 }
 
-/// Settles a plan line: its file is read beside the trace.
+/// The text of a later plan. Its file is read beside the trace, under the limits of the first plan.
+fn later_text<F: Files, K: Sink>(
+    at: &Replayer,
+    name: &str,
+    files: &mut F,
+    out: &mut K,
+) -> Result<Vec<u8>, Stop>
+    ensures whole { GivesWhole (later_file at.now name.now) result
+        (moment F.contents F.sound F.faults K.taken K.faults files.old out.old)
+        (moment F.contents F.sound F.faults K.taken K.faults files.new out.new) }
+    ensures left { F.left files.new ≡ F.left files.old }
+{
+    let file = at.later_file(name);
+    within_limit(at.alloc(), Opened::Beside, &file, files, out)
+}
+
+/// Settles a plan line by the text of its file.
 fn settle_plan<F: Files, K: Sink>(
     at: &Replayer,
     coming: &mut List<Accepted>,
@@ -151,9 +169,8 @@ fn settle_plan<F: Files, K: Sink>(
     ensures fits { IfOk result (ComesToNode at.now.first) }
     ensures left { F.left files.new ≡ F.left files.old }
 {
-    let alloc = at.alloc();
-    let text = within_limit(alloc, Opened::Beside, name, files, out)?;
-    Ok(read_later(alloc, at, coming, line, name, &text)?)
+    let text = later_text(at, name, files, out)?;
+    Ok(read_later(at.alloc(), at, coming, line, name, &text)?)
 }
 
 /// Settles a line that is only printed.
