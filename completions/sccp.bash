@@ -11,6 +11,7 @@ verify PLAN
 covers PLAN
 unused PLAN
 margin PLAN LOSSES
+margin PLAN LOSSES subsystems
 change OLD NEW
 replay PLAN TRACE WORKERS
 load NUMBER SIZE WORKERS

@@ -1,19 +1,20 @@
 #!/usr/bin/env python3
-"""Compares what `margin` prints with brute force, on small plans that are drawn, and replays the points that it shows.
+"""Compares what `margin` prints with brute force, on small plans that are drawn, and replays the losses that it shows.
 
-For each cover the sets of points that the plan names, without that of its entry relay, are gone through by their size, and each
-title is followed for fourteen hops while all relays hold the set. So the least number of points that stop a title is
-known. What is printed is held against it: the bound, the verdict and the last line exactly, of each cover the number, and the shown
-route hop by hop, whichever lawful one was chosen.
+For half of the plans only points may be lost, and for the others the relays' own subsystems as well. For each cover the sets of what
+the plan names of these, without the point of its entry relay, are gone through by their size, and each title is followed for fourteen
+hops while all relays hold the set. So the least number of losses that stop a title is known. What is printed is held against it: the
+bound, the verdict and the last line exactly, of each cover the number, and the shown route hop by hop, whichever lawful one was chosen.
 
-Each shown title is then sent by `replay`, before and after its points are lost at every relay that is not lost itself: first it
-arrives, and then it is returned from the last shown relay, over the shown ones.
+Each shown title is then sent by `replay`, before and after every relay that is not lost itself learns of the losses: first it
+arrives, and then it is returned from the last shown relay, over the shown ones. Relays learn of a subsystem by a message for SCCP
+management from its point, and the relay that has it by a line of its own.
 
   tools/check_margin.py [--plans N] [--seed N] [--program FILE]
 
 200 plans are drawn, most of them safe. The program is ./sccp of this repository if none is named. The last line counts the answers,
-and of the points that were replayed those of a destination, of a relay, and of both. Each plan with a difference is printed with it, and
-the status is then 1.
+and of the losses that were replayed those of a destination, of a relay, of both, and of a subsystem. Each plan with a difference is
+printed with it, and the status is then 1.
 """
 import argparse
 import collections
@@ -43,11 +44,17 @@ def points_of(plan):
     return sorted(destinations(plan) | {node.point for node in plan.nodes})
 
 
-class Outage:
-    """What becomes of titles while all relays hold these points."""
+def losses_of(plan, subsystems):
+    """What may be lost, as marks."""
+    own = [("subsystem", node.point, ssn) for node in plan.nodes for ssn in node.subsystems] if subsystems else []
+    return [("point", point) for point in points_of(plan)] + own
 
-    def __init__(self, plan, points):
-        self.plan, self.marking = plan, frozenset(("point", point) for point in points)
+
+class Outage:
+    """What becomes of titles while all relays hold these marks."""
+
+    def __init__(self, plan, marks):
+        self.plan, self.marking = plan, frozenset(marks)
         self.ends = {}
 
     def end_of(self, spot):
@@ -63,11 +70,11 @@ class Outage:
         return any(end[0] != "ended" or end[1:3] not in cover.allowed for end in ends)
 
 
-def least_stopping(plan, cover):
-    """The least number of points that stop a title of the cover, or None if no points do."""
-    points = [point for point in points_of(plan) if point != plan.nodes[cover.node].point]
-    for count in range(len(points) + 1):
-        if any(Outage(plan, lost).stops_one(cover) for lost in itertools.combinations(points, count)):
+def least_stopping(plan, cover, subsystems, most):
+    """The least number of losses that stop a title of the cover, up to this number, or None if no so many do."""
+    losses = [mark for mark in losses_of(plan, subsystems) if mark != ("point", plan.nodes[cover.node].point)]
+    for count in range(min(len(losses), most) + 1):
+        if any(Outage(plan, lost).stops_one(cover) for lost in itertools.combinations(losses, count)):
             return count
     return None
 
@@ -75,19 +82,21 @@ def least_stopping(plan, cover):
 # ---- what is printed
 
 class Shown:
-    """A title that is stopped: its cover, the lines of its hops, and the points that are lost."""
+    """A title that is stopped: its cover, the lines of its hops, and what is lost."""
 
     def __init__(self, plan, number, count, lines):
         self.number, self.count, self.lines = number, count, lines
         self.hops = [hop_of(plan, line) for line in lines]
-        self.points = sorted(mark[1] for mark in self.hops[0][1])
+        self.points = sorted(mark[1] for mark in self.hops[0][1] if mark[0] == "point")
+        self.subsystems = sorted(mark[1:] for mark in self.hops[0][1] if mark[0] == "subsystem")
 
-    def check(self, plan):
+    def check(self, plan, subsystems):
         cover = plan.covers[self.number]
         spots, made = route_of([(plan, line) for line in self.lines])
         marking = self.hops[0][1]
         assert all(hop[1] == marking for hop in self.hops), "the relays hold different marks"
-        assert all(mark[0] == "point" for mark in marking) and len(marking) == self.count, f"not {self.count} points"
+        losses = losses_of(plan, subsystems)
+        assert all(mark in losses for mark in marking) and len(marking) == self.count, f"not {self.count} losses"
         assert has(cover, spots[0]), f"cover {self.number} does not have the title"
         assert plan.nodes[cover.node].point not in self.points, "the entry relay is lost"
         assert made[0] == "blocked" and len(spots) <= MOST_HOPS, "the title is not blocked"
@@ -111,24 +120,25 @@ def shown_in(plan, lines):
     return found
 
 
-def check_cover(plan, losses, number, words, hops):
+def check_cover(plan, losses, subsystems, number, words, hops):
     """The number that stops a cover, if it is printed as it is, and what is shown of it."""
-    least = least_stopping(plan, plan.covers[number])
+    whole = words == ["survives", "any"]
+    least = least_stopping(plan, plan.covers[number], subsystems, 99 if whole else losses)
     if least is not None and least <= losses:
         assert words == ["stopped", "by", str(least)], f"cover {number} is stopped by {least}"
         shown = Shown(plan, number, least, hops)
-        shown.check(plan)
+        shown.check(plan, subsystems)
         return least, shown
     assert not hops, f"hops of cover {number}, which is not stopped"
-    others = len(points_of(plan)) - 1
-    if least is None and (losses >= others or words == ["survives", "any"]):
+    others = len(losses_of(plan, subsystems)) - 1
+    if least is None and (losses >= others or whole):
         assert words == ["survives", "any"], f"cover {number} survives any"
     else:
         assert words == ["survives", str(losses)], f"cover {number} survives {losses}"
     return None, None
 
 
-def check_answer(plan, losses, verified, status, printed):
+def check_answer(plan, losses, subsystems, verified, status, printed):
     """The titles that are shown, if all is printed as brute force has it. `verified` has the status and the lines of verify."""
     bound = is_safe([plan])
     if bound is None:
@@ -139,7 +149,7 @@ def check_answer(plan, losses, verified, status, printed):
     covers = shown_in(plan, printed[1:-1])
     assert [number for number, _, _ in covers] == list(range(len(plan.covers))), "not one line for each cover"
     for number, words, hops in covers:
-        least, one = check_cover(plan, losses, number, words, hops)
+        least, one = check_cover(plan, losses, subsystems, number, words, hops)
         if one is not None:
             shown.append(one)
             stopping.append(least)
@@ -167,16 +177,32 @@ def message_of(spot):
     return (bytes([0x09, 0x80, *pointers]) + b"".join(parts)).hex().upper()
 
 
+def code_of(point):
+    """The two octets of a point code."""
+    zone, area, number = map(int, point.split("-"))
+    return (zone << 11 | area << 3 | number).to_bytes(2, "little")
+
+
+def losing(node, point, ssn):
+    """The line by which a relay learns that a subsystem is prohibited."""
+    if node.point == point:
+        return f"down {node.name} {ssn}"
+    data = bytes([2, ssn, *code_of(point), 0])
+    return f"msg {node.name} {point} 0900030507024201024201{len(data):02X}{data.hex().upper()}"
+
+
 def check_replay(program, folder, plan, shown):
-    """The title arrives while nothing is lost, and is stopped as shown once each relay that is not lost has lost the points."""
+    """The title arrives while nothing is lost, and is stopped as shown once each relay that is not lost holds what is lost."""
     spot = shown.hops[0][0]
     entry = plan.nodes[spot.node].name
     message = f"msg {entry} {ORIGIN} {message_of(spot)}"
-    pauses = [f"pause {node.name} {point}" for node in plan.nodes if node.point not in shown.points for point in shown.points]
+    up = [node for node in plan.nodes if node.point not in shown.points]
+    lines = [losing(node, *subsystem) for node in up for subsystem in shown.subsystems]
+    lines += [f"pause {node.name} {point}" for node in up for point in shown.points]
     with open(os.path.join(folder, "trace.txt"), "w", encoding="utf-8") as file:
-        file.write("\n".join([message, *pauses, message]) + "\n")
+        file.write("\n".join([message, *lines, message]) + "\n")
     printed = answer_of(program, folder, "replay", "plan.toml", "trace.txt", "1")[1]
-    first, last = [line for line in printed if " by 1 via " in line]
+    first, last = [line for line in printed if line.split(" ")[0] in ("1", str(len(lines) + 2)) and " by 1 via " in line]
     before, words = first.split(" "), last.split(" ")
     made = step(plan, *shown.hops[-1][:2])
     via = ",".join(plan.nodes[here.node].name for here, _, _ in shown.hops)
@@ -184,13 +210,15 @@ def check_replay(program, folder, plan, shown):
     assert arrived, f"the title does not arrive: {first}"
     assert words[3:7] == ["via", via, "returned", str(made[1])], f"the title is to be returned from {via}, cause {made[1]}: {last}"
     marks = set(words[8].split(","))
-    assert words[7] == "marks" and marks <= {f"point:{point}" for point in shown.points}, f"other marks: {last}"
+    lost = {f"point:{point}" for point in shown.points} | {f"subsystem:{point}/{ssn}" for point, ssn in shown.subsystems}
+    assert words[7] == "marks" and marks <= lost, f"other marks: {last}"
 
 
-def kinds_of(plan, points):
-    """Of lost points, whether each is that of a destination, of a relay, or of both."""
+def kinds_of(plan, shown):
+    """Of what is lost, whether it is a destination, a relay or both, or a subsystem."""
     relays, ends = {node.point for node in plan.nodes}, destinations(plan)
-    return {"both" if point in relays & ends else "a relay" if point in relays else "a destination" for point in points}
+    points = {"both" if point in relays & ends else "a relay" if point in relays else "a destination" for point in shown.points}
+    return points | {"a subsystem" for _ in shown.subsystems}
 
 
 # ---- plans that are drawn
@@ -252,25 +280,26 @@ def main():
     draw, answers, replayed, different = Draw(words.seed), collections.Counter(), collections.Counter(), 0
     with tempfile.TemporaryDirectory() as folder:
         for number in range(words.plans):
-            plan, losses = draw.drawn(), draw.one([0, 1, 1, 2, 3, 9])
+            plan, losses, subsystems = draw.drawn(), draw.one([0, 1, 1, 2, 3, 9]), draw.chance(0.5)
             with open(os.path.join(folder, "plan.toml"), "w", encoding="utf-8") as file:
                 file.write(plan_text(plan))
-            status, printed = answer_of(program, folder, "margin", "plan.toml", str(losses))
+            status, printed = answer_of(program, folder, "margin", "plan.toml", str(losses), *["subsystems"] * subsystems)
             try:
                 verified = answer_of(program, folder, "verify", "plan.toml") if printed[:1] and printed[0].startswith("refused") else None
-                shown = check_answer(plan, losses, verified, status, printed)
+                shown = check_answer(plan, losses, subsystems, verified, status, printed)
                 answers["refused plans"] += shown is None
                 answers.update(f"stopped by {one.count}" for one in shown or [])
                 answers.update(line.split(" ", 2)[2] for line in printed if " survives " in line)
                 for one in shown or []:
                     check_replay(program, folder, plan, one)
-                    replayed.update(kinds_of(plan, one.points))
+                    replayed.update(kinds_of(plan, one))
             except (AssertionError, IndexError, ValueError) as fault:
                 different += 1
-                print(f"plan {number} of seed {words.seed}, {losses} points: {fault}", plan_text(plan), "\n".join(printed), sep="\n")
+                of = "points and subsystems" if subsystems else "points"
+                print(f"plan {number} of seed {words.seed}, {losses} {of}: {fault}", plan_text(plan), "\n".join(printed), sep="\n")
     told = ", ".join(f"{count} {what}" for what, count in sorted(answers.items()))
     points = ", ".join(f"{count} of {what}" for what, count in sorted(replayed.items()))
-    print(f"{words.plans} plans, {different} with differences. Covers: {told}. Replayed, with points: {points}")
+    print(f"{words.plans} plans, {different} with differences. Covers: {told}. Replayed, with losses: {points}")
     return 1 if different else 0
 
 

@@ -1,17 +1,17 @@
--- which targets the marks of lost points close
-use Rattle.std.specs.Prelude.{ℕ, ◌≡◌, ◌==◌, Bool, true, false, cond, if◌then◌else◌, List, [], ◌∷◌, Some, None, is_none, refl}
+-- which targets the marks of losses close
+use Rattle.std.specs.Prelude.{ℕ, ◌≡◌, not, Bool, true, false, cond, List, [], ◌∷◌, Some, None, is_none, refl}
 use Rattle.std.specs.List.{All, find}
-use Rattle.std.specs.Option.{unwrap_or}
-use Rattle.std.proofs.Common.{sym, ◌∙◌, ap, suc, arith}
+use Rattle.std.proofs.Common.{sym, ◌∙◌, ap, suc, ⊎_elim, arith}
+use Rattle.std.proofs.lemmas.Bool.{false≢true, cases_Bool, and_from}
 use Rattle.sccp_base.specs.declared.mark.Mark.{Mark}
 use Rattle.sccp_base.specs.declared.mark.Mark.TheVariants.{PointCode, Sccp, Subsystem}
 use Rattle.sccp_base.specs.Marks.{holds}
-use Rattle.plan_rules.specs.declared.target.Target.{Target}
-use Rattle.plan_rules.specs.declared.target.Target.TheVariants.{Relay, Final}
-use Rattle.plan_model.specs.declared.node.Node.{Node}
-use Rattle.plan_model.specs.Steps.{closing}
-use Rattle.plan_margin.specs.Outages.{IsPointMark}
-use Rattle.plan_margin.specs.Searching.{point_of_target}
+use Rattle.sccp_base.proofs.Among.{Among, All-among, find-Some, find-None}
+use Rattle.plan_model.specs.Network.{Network}
+use Rattle.plan_classes.proofs.Openings.{among_holds}
+use Rattle.plan_margin.specs.declared.outage_set.OutageSet.{OutageSet}
+use Rattle.plan_margin.specs.Outages.{IsPointMark, is_loss, IsLoss}
+use Rattle.plan_margin.specs.Searching.{IsIn, is_free}
 
 pub all_tail : (m : Mark) (ms : List Mark) → All IsPointMark (m ∷ ms) → All IsPointMark ms
 all_tail m ms all = λ k d lt. all (suc k) d (omega arith)
@@ -33,56 +33,45 @@ no_subsystem (PointCode p ∷ ms) pc ssn all = no_subsystem ms pc ssn (all_tail 
 no_subsystem (Sccp p ∷ ms) pc ssn all = absurd (all_head (Sccp p) ms all)
 no_subsystem (Subsystem p s ∷ ms) pc ssn all = absurd (all_head (Subsystem p s) ms all)
 
--- the first of some marks that is held, if the first one is held, or if it is not
-found_first : (m : Mark) (rest held : List Mark) → holds held m ≡ true → is_none (find (holds held) (m ∷ rest)) ≡ false
-found_first m rest held h = ap (λ (b : Bool). is_none (cond b (Some m) (find (holds held) rest))) h
-
+-- the first of some marks that is held, if the first one is not
 pub found_later : (m : Mark) (rest held : List Mark) → holds held m ≡ false → find (holds held) rest ≡ None
     → find (holds held) (m ∷ rest) ≡ None
 found_later m rest held h e = ap (λ (b : Bool). cond b (Some m) (find (holds held) rest)) h ∙ e
 
--- a target is closed if the point whose loss closes it is lost
-pub lost_closes : (node : Node) (ssn : ℕ) (held : List Mark) (t : Target) (p : ℕ) → point_of_target node t ≡ Some p
-    → holds held (PointCode p) ≡ true → is_none (closing node ssn held t) ≡ false
-lost_closes node ssn held (Relay pc strip put selector named) p e h =
-    let same : p ≡ pc = cc in
-    found_first (PointCode pc) (Sccp pc ∷ []) held (ap (λ (n : ℕ). holds held (PointCode n)) (sym same) ∙ h)
-lost_closes node ssn held (Final pc named) p e h =
-    elim (pc == node.pc) as (λ b. (if b then None else Some pc) ≡ Some p → is_none (find (holds held)
-    (if b then Subsystem pc (unwrap_or named ssn) ∷ [] else PointCode pc ∷ Sccp pc ∷ Subsystem pc (unwrap_or named ssn) ∷ [])) ≡ false) [
-      | true ↦ λ f. absurd (cc)
-      | false ↦ λ f.
-          let same : p ≡ pc = cc in
-          found_first (PointCode pc) (Sccp pc ∷ Subsystem pc (unwrap_or named ssn) ∷ []) held
-          (ap (λ (n : ℕ). holds held (PointCode n)) (sym same) ∙ h)
-    ] e
+-- if one of the marks passes, something is found
+found_one : (p : Mark → Bool) (m : Mark) (ms : List Mark) → Among m ms → p m ≡ true → is_none (find p ms) ≡ false
+found_one p m ms among h = elim (find p ms) as (λ o. find p ms ≡ o → is_none o ≡ false) [
+  | Some x ↦ λ e. refl
+  | None ↦ λ e. absurd (false≢true (sym (find-None p m ms e among) ∙ h))
+] refl
 
--- it is open if that point is not lost
-pub up_opens : (node : Node) (ssn : ℕ) (held : List Mark) (t : Target) (p : ℕ) → All IsPointMark held → point_of_target node t ≡ Some p
-    → holds held (PointCode p) ≡ false → closing node ssn held t ≡ None
-up_opens node ssn held (Relay pc strip put selector named) p all e h =
-    let same : p ≡ pc = cc in
-    found_later (PointCode pc) (Sccp pc ∷ []) held (ap (λ (n : ℕ). holds held (PointCode n)) (sym same) ∙ h)
-    (found_later (Sccp pc) [] held (no_sccp held pc all) refl)
-up_opens node ssn held (Final pc named) p all e h =
-    elim (pc == node.pc) as (λ b. (if b then None else Some pc) ≡ Some p → find (holds held)
-    (if b then Subsystem pc (unwrap_or named ssn) ∷ [] else PointCode pc ∷ Sccp pc ∷ Subsystem pc (unwrap_or named ssn) ∷ []) ≡ None) [
-      | true ↦ λ f. absurd (cc)
-      | false ↦ λ f.
-          let same : p ≡ pc = cc in
-          found_later (PointCode pc) (Sccp pc ∷ Subsystem pc (unwrap_or named ssn) ∷ []) held
-          (ap (λ (n : ℕ). holds held (PointCode n)) (sym same) ∙ h)
-          (found_later (Sccp pc) (Subsystem pc (unwrap_or named ssn) ∷ []) held (no_sccp held pc all)
-          (found_later (Subsystem pc (unwrap_or named ssn)) [] held (no_subsystem held pc (unwrap_or named ssn) all) refl))
-    ] e
+-- if none does, nothing is
+found_none : (p : Mark → Bool) (ms : List Mark) → ((m : Mark) → Among m ms → p m ≡ true → ⊥) → find p ms ≡ None
+found_none p ms never = elim (find p ms) as (λ o. find p ms ≡ o → o ≡ None) [
+  | Some x ↦ λ e. let s = find-Some p x ms e in absurd (never x s.0 s.1)
+  | None ↦ λ e. refl
+] refl
 
--- a destination at the node itself is open
-pub own_opens : (node : Node) (ssn : ℕ) (held : List Mark) (t : Target) → All IsPointMark held → point_of_target node t ≡ None
-    → closing node ssn held t ≡ None
-own_opens node ssn held (Relay pc strip put selector named) all e = absurd (cc)
-own_opens node ssn held (Final pc named) all e =
-    elim (pc == node.pc) as (λ b. (if b then None else Some pc) ≡ None → find (holds held)
-    (if b then Subsystem pc (unwrap_or named ssn) ∷ [] else PointCode pc ∷ Sccp pc ∷ Subsystem pc (unwrap_or named ssn) ∷ []) ≡ None) [
-      | true ↦ λ f. found_later (Subsystem pc (unwrap_or named ssn)) [] held (no_subsystem held pc (unwrap_or named ssn) all) refl
-      | false ↦ λ f. absurd (cc)
-    ] e
+-- a target is closed in each outage if one of its marks is lost in the set
+pub lost_closes : (plan : Network) (set : OutageSet) (ms held : List Mark) → is_none (find (holds set.lost) ms) ≡ false
+    → IsIn plan set held → is_none (find (holds held) ms) ≡ false
+lost_closes plan set ms held shut inside =
+    elim (find (holds set.lost) ms) as (λ o. find (holds set.lost) ms ≡ o → is_none o ≡ false → is_none (find (holds held) ms) ≡ false) [
+      | Some x ↦ λ e h. let s = find-Some (holds set.lost) x ms e in found_one (holds held) x ms s.0 (inside.lost x s.1)
+      | None ↦ λ e h. absurd (false≢true (sym h))
+    ] refl shut
+
+-- it is open in each outage if none of its marks is free in the set
+pub taken_opens : (plan : Network) (set : OutageSet) (ms held : List Mark) → find (is_free plan set) ms ≡ None → IsIn plan set held
+    → find (holds held) ms ≡ None
+taken_opens plan set ms held none inside = found_none (holds held) ms (λ m among h. ⊎_elim
+    (λ (up : holds set.up m ≡ true). false≢true (sym (inside.up m up) ∙ h))
+    (λ (free : holds set.up m ≡ false). false≢true (sym (find-None (is_free plan set) m ms none among)
+    ∙ and_from (is_loss plan set.kinds m) (not (holds set.up m))
+    (All-among (IsLoss plan set.kinds) m held inside.losses (among_holds held m h)) (ap not free)))
+    (cases_Bool (holds set.up m)))
+
+-- it is closed in an outage that holds a free one
+pub either_closed : (plan : Network) (set : OutageSet) (ms held : List Mark) (m : Mark) → find (is_free plan set) ms ≡ Some m
+    → holds held m ≡ true → is_none (find (holds held) ms) ≡ false
+either_closed plan set ms held m first h = found_one (holds held) m ms (find-Some (is_free plan set) m ms first).0 h

@@ -3,12 +3,14 @@ use Rattle.std.specs.Prelude.{ℕ, ◌≡◌, ◌⊎◌, ◌+◌, ◌-◌, ◌<�
 use Rattle.std.specs.Prelude.{IsSomeAnd, slice_get}
 use Rattle.std.proofs.Common.{suc, sym, ◌∙◌, ap, subst, inr, ⊎_elim, arith, drop-cons, add-one}
 use Rattle.std.proofs.lemmas.Bool.{cases_lt}
+use Rattle.sccp_base.specs.declared.mark.Mark.{Mark}
 use Rattle.plan_model.specs.declared.cover.Cover.{Cover}
 use Rattle.plan_model.specs.Network.{Network}
 use Rattle.plan_classes.specs.declared.leads.Image.TheVariants.{Next}
 use Rattle.plan_classes.specs.Titles.{Titles, parts_of}
 use Rattle.plan_classes.specs.Classes.{start_of, Decided, HasImage}
 use Rattle.plan_check.proofs.Soundness.{some_of}
+use Rattle.plan_margin.specs.declared.loss_kinds.LossKinds.{LossKinds}
 use Rattle.plan_margin.specs.declared.outage_set.OutageSet.{OutageSet}
 use Rattle.plan_margin.specs.declared.found.Found.{Found}
 use Rattle.plan_margin.specs.declared.found.Found.TheVariants.{Stopped, Through, Wide}
@@ -110,18 +112,18 @@ counts_taken r plan set left c place old new turn =
 
 -- a target that is taken in some outages and closed in others
 pub counts_if_up : {E : Type 0} (r : Result Found E) (plan : Network) (set up : OutageSet) (left : ℕ) (c : Titles)
-    (place point old new : ℕ) → IsWithUp set point up → OnOk r (Counts plan up left (AtTarget c place) old new)
-    → OnOk r (CountsUp plan set left c place point old new)
-counts_if_up r plan set up left c place point old new made =
-    on_ok_map r (Counts plan up left (AtTarget c place) old new) (CountsUp plan set left c place point old new)
+    (place : ℕ) (mark : Mark) (old new : ℕ) → IsWithUp set mark up → OnOk r (Counts plan up left (AtTargets c place) old new)
+    → OnOk r (CountsUp plan set left c place mark old new)
+counts_if_up r plan set up left c place mark old new made =
+    on_ok_map r (Counts plan up left (AtTargets c place) old new) (CountsUp plan set left c place mark old new)
     (λ h. record { up = up; made = made; counts = h })
 
 pub counts_if_lost : {E : Type 0} (r : Result Found E) (plan : Network) (set lost : OutageSet) (left : ℕ) (c : Titles)
-    (place point old new : ℕ) → IsOutageSet set → (length set.lost ≡ set.most → ⊥) → IsWithLost set point lost
+    (place : ℕ) (mark : Mark) (old new : ℕ) → IsOutageSet plan set → (length set.lost ≡ set.most → ⊥) → IsWithLost set mark lost
     → OnOk r (Counts plan lost left (AtTargets c (place + 1)) old new)
-    → OnOk r ((new ≡ old) ⊎ CountsLost plan set left c place point old new)
-counts_if_lost r plan set lost left c place point old new is room made =
-    on_ok_map r (Counts plan lost left (AtTargets c (place + 1)) old new) ((new ≡ old) ⊎ CountsLost plan set left c place point old new)
+    → OnOk r ((new ≡ old) ⊎ CountsLost plan set left c place mark old new)
+counts_if_lost r plan set lost left c place mark old new is room made =
+    on_ok_map r (Counts plan lost left (AtTargets c (place + 1)) old new) ((new ≡ old) ⊎ CountsLost plan set left c place mark old new)
     (λ h. inr (record {
       lost = lost;
       room = ⊎_elim (λ (lt : length set.lost < set.most). lt)
@@ -131,19 +133,19 @@ counts_if_lost r plan set lost left c place point old new is room made =
       counts = h;
     }))
 
-pub counts_up : (plan : Network) (set : OutageSet) (left : ℕ) (c : Titles) (place point old new : ℕ)
-    → IsTurn plan c place set (Either point) → CountsUp plan set left c place point old new
+pub counts_up : (plan : Network) (set : OutageSet) (left : ℕ) (c : Titles) (place : ℕ) (mark : Mark) (old new : ℕ)
+    → IsTurn plan c place set (Either mark) → CountsUp plan set left c place mark old new
     → Counts plan set left (AtTargets c place) old new
-counts_up plan set left c place point old new turn h =
+counts_up plan set left c place mark old new turn h =
     record { met = h.counts.met; tree = IfUp turn h.made h.counts.tree; sum = h.counts.sum }
 
-pub counts_both : (plan : Network) (set : OutageSet) (left : ℕ) (c : Titles) (place point old mid new : ℕ)
-    → IsTurn plan c place set (Either point) → CountsUp plan set left c place point old mid
-    → (new ≡ mid) ⊎ CountsLost plan set left c place point mid new → Counts plan set left (AtTargets c place) old new
-counts_both plan set left c place point old mid new turn up down = ⊎_elim
+pub counts_both : (plan : Network) (set : OutageSet) (left : ℕ) (c : Titles) (place : ℕ) (mark : Mark) (old mid new : ℕ)
+    → IsTurn plan c place set (Either mark) → CountsUp plan set left c place mark old mid
+    → (new ≡ mid) ⊎ CountsLost plan set left c place mark mid new → Counts plan set left (AtTargets c place) old new
+counts_both plan set left c place mark old mid new turn up down = ⊎_elim
     (λ (cut : new ≡ mid). subst (Counts plan set left (AtTargets c place) old) (sym cut)
-    (counts_up plan set left c place point old mid turn up))
-    (λ (h : CountsLost plan set left c place point mid new). record {
+    (counts_up plan set left c place mark old mid turn up))
+    (λ (h : CountsLost plan set left c place mark mid new). record {
       met = up.counts.met + h.counts.met;
       tree = Both turn up.made up.counts.tree h.room h.made h.counts.tree;
       sum = omega (arith, up.counts.sum, h.counts.sum);
@@ -156,26 +158,28 @@ pub counts_onward : (plan : Network) (set : OutageSet) (left : ℕ) (c next : Ti
 counts_onward plan set left c next place old new image h = record { met = h.met; tree = Onward image h.tree; sum = h.sum }
 
 -- a search that gives up has met that many classes
-wide_from : (plan : Network) (most : ℕ) (c : Titles) (set : OutageSet) (found : Found) (count : ℕ) → IsFirstSet plan c.node most set
-    → IsWithinLimit found count → Counts plan set 14 (AtClass c) 0 count → IfWide (HasWays plan most c) found
-wide_from plan most c set (Stopped digits lost) count first limit counts = tt
-wide_from plan most c set (Through cut) count first limit counts = tt
-wide_from plan most c set Wide count first limit counts = record {
+wide_from : (plan : Network) (kinds : LossKinds) (most : ℕ) (c : Titles) (set : OutageSet) (found : Found) (count : ℕ)
+    → IsFirstSet plan kinds c.node most set
+    → IsWithinLimit found count → Counts plan set 14 (AtClass c) 0 count → IfWide (HasWays plan kinds most c) found
+wide_from plan kinds most c set (Stopped digits lost) count first limit counts = tt
+wide_from plan kinds most c set (Through cut) count first limit counts = tt
+wide_from plan kinds most c set Wide count first limit counts = record {
   set = set;
   first = first;
   tree = subst (Ways plan set 14 (AtClass c)) (let e : counts.met ≡ most_ways = omega (arith, counts.sum, limit) in e) counts.tree;
 }
 
-pub wide_ways : {E : Type 0} (r : Result Found E) (plan : Network) (most : ℕ) (c : Titles) (set : OutageSet) (count : ℕ)
-    → IsFirstSet plan c.node most set → IfOk r (λ found. IsWithinLimit found count) → OnOk r (Counts plan set 14 (AtClass c) 0 count)
-    → IfOk r (IfWide (HasWays plan most c))
-wide_ways (Ok found) plan most c set count first limit counts = wide_from plan most c set found count first limit counts
-wide_ways (Err e) plan most c set count first limit counts = limit
+pub wide_ways : {E : Type 0} (r : Result Found E) (plan : Network) (kinds : LossKinds) (most : ℕ) (c : Titles) (set : OutageSet) (count : ℕ)
+    → IsFirstSet plan kinds c.node most set → IfOk r (λ found. IsWithinLimit found count) → OnOk r (Counts plan set 14 (AtClass c) 0 count)
+    → IfOk r (IfWide (HasWays plan kinds most c))
+wide_ways (Ok found) plan kinds most c set count first limit counts = wide_from plan kinds most c set found count first limit counts
+wide_ways (Err e) plan kinds most c set count first limit counts = limit
 
 -- the ways from the start of a cover are those of the cover
-pub many_ways : (plan : Network) (number most : ℕ) (c : Titles) → IsSomeAnd (slice_get plan.covers number) (λ x. c ≡ start_of number x)
-    → HasWays plan most c → HasManyWays plan number most
-many_ways plan number most c start ways =
+pub many_ways : (plan : Network) (kinds : LossKinds) (number most : ℕ) (c : Titles)
+    → IsSomeAnd (slice_get plan.covers number) (λ x. c ≡ start_of number x)
+    → HasWays plan kinds most c → HasManyWays plan kinds number most
+many_ways plan kinds number most c start ways =
     let k = some_of (slice_get plan.covers number) (λ x. c ≡ start_of number x) start in
-    subst (λ (o : Option Cover). IsSomeAnd o (λ cover. HasWays plan most (start_of number cover))) (sym k.1)
-    (subst (HasWays plan most) k.2 ways)
+    subst (λ (o : Option Cover). IsSomeAnd o (λ cover. HasWays plan kinds most (start_of number cover))) (sym k.1)
+    (subst (HasWays plan kinds most) k.2 ways)

@@ -11,7 +11,6 @@ use Rattle.sccp_base.specs.MarkOrder.{mark_cmp_total}
 use Rattle.sccp_base.proofs.Among.{Among, All-among}
 use Rattle.sccp_base.proofs.MarkPlaces.{same_mark_is}
 use Rattle.plan_classes.proofs.Openings.{among_holds, holds_among}
-use Rattle.plan_margin.specs.Outages.{IsPointMark}
 
 -- no mark is there twice
 abbrev pub Distinct : List Mark → Type 0
@@ -97,12 +96,12 @@ at_most_one_more x xs more ascending is =
     no_more more (x ∷ xs) (distinct_from more ascending) (λ m a. ⊎_elim (λ (e : same_mark x m ≡ true). inl (same_mark_is x m e))
     (λ (e : holds xs m ≡ true). inr (among_holds xs m e)) (or_cases (same_mark x m) (holds xs m) (sym (is m) ∙ holds_among more m a)))
 
--- marks of points, as a fact on what is held
-pub points_held : (xs : List Mark) → All IsPointMark xs → (m : Mark) → holds xs m ≡ true → IsPointMark m
-points_held xs all m h = All-among IsPointMark m xs all (among_holds xs m h)
+-- what holds of all marks, as a fact on what is held
+pub held_of_all : (P : Mark → Type 0) (xs : List Mark) → All P xs → (m : Mark) → holds xs m ≡ true → P m
+held_of_all P xs all m h = All-among P m xs all (among_holds xs m h)
 
-pub points_from : (xs : List Mark) → ((m : Mark) → holds xs m ≡ true → IsPointMark m) → All IsPointMark xs
-points_from xs each = λ k d lt. each (get_or xs k d) (holds_among xs (get_or xs k d) (among_place xs k d lt))
+pub all_from_held : (P : Mark → Type 0) (xs : List Mark) → ((m : Mark) → holds xs m ≡ true → P m) → All P xs
+all_from_held P xs each = λ k d lt. each (get_or xs k d) (holds_among xs (get_or xs k d) (among_place xs k d lt))
   where
     among_place : (xs : List Mark) (k : ℕ) (d : Mark) → k < length xs → Among (get_or xs k d) xs
     among_place [] k d lt = absurd (omega (arith, lt))

@@ -7,7 +7,6 @@ use Rattle.std.proofs.lemmas.Bool.{cases_Bool, or_left, or_right}
 use Rattle.std.proofs.lemmas.List.Elements.{All-push}
 use Rattle.std.proofs.lemmas.List.{take_more}
 use Rattle.sccp_base.specs.declared.mark.Mark.{Mark}
-use Rattle.sccp_base.specs.declared.mark.Mark.TheVariants.{PointCode}
 use Rattle.sccp_base.specs.Marks.{holds}
 use Rattle.plan_rules.specs.Rule.{Rule}
 use Rattle.plan_model.specs.declared.hop.Step.{Step}
@@ -36,49 +35,49 @@ pub ok_map : {E : Type 0} (r : Result Found E) (P Q : Found → Type 0) → ((f 
 ok_map (Ok x) P Q f h = f x h
 ok_map (Err e) P Q f h = h
 
--- the points that are lost in each outage of the set stop this title
-pub own_stop : (plan : Network) (c : Titles) (left : ℕ) (set : OutageSet) (digits : List ℕ) → IsOutageSet set → IsMember c digits
-    → (ArrivesWithin plan c.cover left set.lost (spot_of c digits) → ⊥) → StopsOne plan c left set.most (IsIn set) digits set.lost
+-- the losses of each outage of the set stop this title
+pub own_stop : (plan : Network) (c : Titles) (left : ℕ) (set : OutageSet) (digits : List ℕ) → IsOutageSet plan set → IsMember c digits
+    → (ArrivesWithin plan c.cover left set.lost (spot_of c digits) → ⊥) → StopsOne plan c left set.most (IsIn plan set) digits set.lost
 own_stop plan c left set digits is member stopped =
-    record { member = member; within = own_outage set is; few = is.few; stopped = stopped }
+    record { member = member; within = own_outage plan set is; few = is.few; stopped = stopped }
 
-pub no_row_stop : (plan : Network) (c : Titles) (left : ℕ) (set : OutageSet) → IsClass c → IsOutageSet set → 0 < left
-    → class_row plan c ≡ None → StopsOne plan c left set.most (IsIn set) (sample_of c) set.lost
+pub no_row_stop : (plan : Network) (c : Titles) (left : ℕ) (set : OutageSet) → IsClass c → IsOutageSet plan set → 0 < left
+    → class_row plan c ≡ None → StopsOne plan c left set.most (IsIn plan set) (sample_of c) set.lost
 no_row_stop plan c left set class is some none =
     own_stop plan c left set (sample_of c) is (sample_member c class)
     (no_row plan c.cover left set.lost (spot_of c (sample_of c)) some none)
 
-pub past_stop : (plan : Network) (c : Titles) (left place : ℕ) (set : OutageSet) (r : Rule) → IsClass c → IsOutageSet set → 0 < left
+pub past_stop : (plan : Network) (c : Titles) (left place : ℕ) (set : OutageSet) (r : Rule) → IsClass c → IsOutageSet plan set → 0 < left
     → c.node < length plan.nodes → class_row plan c ≡ Some r → PassesOver plan c place set → length (class_targets plan c) ≤ place
-    → StopsOne plan c left set.most (IsIn set) (sample_of c) set.lost
+    → StopsOne plan c left set.most (IsIn plan set) (sample_of c) set.lost
 past_stop plan c left place set r class is some node row passes past =
     own_stop plan c left set (sample_of c) is (sample_member c class)
     (all_closed plan c left set.lost r some node row (λ n at. none_opens plan c set.lost place n at (omega (arith, passes.within, past))
-    (passes.closed set.lost (own_outage set is))))
+    (passes.closed set.lost (own_outage plan set is))))
 
 -- a title for which the taken target is no allowed end
 pub target_stop : (plan : Network) (c : Titles) (place left : ℕ) (set : OutageSet) (digits : List ℕ) (x : Step) → 0 < left → IsClass c
-    → Decided plan c → TakesIn plan c place set → IsOutageSet set → IsMember c digits → brought plan c place digits ≡ Some x
-    → next_of x ≡ None → (IsEndAllowed plan c.cover x → ⊥) → StopsOne plan c left set.most (IsIn set) digits set.lost
+    → Decided plan c → TakesIn plan c place set → IsOutageSet plan set → IsMember c digits → brought plan c place digits ≡ Some x
+    → next_of x ≡ None → (IsEndAllowed plan c.cover x → ⊥) → StopsOne plan c left set.most (IsIn plan set) digits set.lost
 target_stop plan c place left set digits x some class decided takes is member leads ends never =
     own_stop plan c left set digits is member
-    (stops_here plan c place left digits set.lost x some class decided (takes set.lost (own_outage set is)) member leads ends never)
+    (stops_here plan c place left digits set.lost x some class decided (takes set.lost (own_outage plan set is)) member leads ends never)
 
--- what is found of the outages with a point lost, after those in which it is not
-pub both_found : (plan : Network) (c : Titles) (left point : ℕ) (set : OutageSet) (cut : Bool) (found : Found)
-    → AllArrive plan c left set.most (IsInWith set point false) cut
-    → IsFoundIf plan c left set.most (IsInWith set point true) found → IsFound plan c left set (joined cut found)
-both_found plan c left point set cut (Stopped digits lost) up stop =
+-- what is found of the outages with a mark held, after those in which it is not
+pub both_found : (plan : Network) (c : Titles) (left : ℕ) (mark : Mark) (set : OutageSet) (cut : Bool) (found : Found)
+    → AllArrive plan c left set.most (IsInWith plan set mark false) cut
+    → IsFoundIf plan c left set.most (IsInWith plan set mark true) found → IsFound plan c left set (joined cut found)
+both_found plan c left mark set cut (Stopped digits lost) up stop =
     record { member = stop.member; within = stop.within.inside; few = stop.few; stopped = stop.stopped }
-both_found plan c left point set cut (Through other) up down = record {
+both_found plan c left mark set cut (Through other) up down = record {
   arrive = λ digits marks member inside few. ⊎_elim
-      (λ (h : holds marks (PointCode point) ≡ true). down.arrive digits marks member (record { inside = inside; held = h })
+      (λ (h : holds marks mark ≡ true). down.arrive digits marks member (record { inside = inside; held = h })
       (λ e. few (or_right cut other e)))
-      (λ (h : holds marks (PointCode point) ≡ false). up.arrive digits marks member (record { inside = inside; held = h })
+      (λ (h : holds marks mark ≡ false). up.arrive digits marks member (record { inside = inside; held = h })
       (λ e. few (or_left cut other e)))
-      (cases_Bool (holds marks (PointCode point)));
+      (cases_Bool (holds marks mark));
 }
-both_found plan c left point set cut Wide up wide = tt
+both_found plan c left mark set cut Wide up wide = tt
 
 -- a stop under some marks is one under others of which these are some
 pub stop_within : (plan : Network) (c : Titles) (left most : ℕ) (In Out : List Mark → Type 0) (digits : List ℕ) (lost : List Mark)
@@ -138,17 +137,19 @@ parts_whole plan c left most In parts i cut splits past before = record {
       (subst (ArrivesWithin plan found.1.cover left marks) (same_spot c found.1 digits part) (all.arrive digits marks found.4 inside few));
 }
 
--- what is found of the outages in which one more point is lost, or is not
-pub lost_found : (plan : Network) (c : Titles) (left point : ℕ) (set more : OutageSet) (found : Found) → IsWithLost set point more
-    → IsFound plan c left more found → IsFoundIf plan c left set.most (IsInWith set point true) found
-lost_found plan c left point set more found made h =
-    found_same plan c left set.most (IsIn more) (IsInWith set point true) found (λ marks i. lost_inner set more point marks made i)
-    (λ marks i. lost_outer set more point marks made i)
-    (subst (λ (n : ℕ). IsFoundIf plan c left n (IsIn more) found) made.most h)
+-- what is found of the outages in which one more mark is held, or is not
+pub lost_found : (plan : Network) (c : Titles) (left : ℕ) (mark : Mark) (set more : OutageSet) (found : Found) → IsWithLost set mark more
+    → IsFound plan c left more found → IsFoundIf plan c left set.most (IsInWith plan set mark true) found
+lost_found plan c left mark set more found made h =
+    found_same plan c left set.most (IsIn plan more) (IsInWith plan set mark true) found
+    (λ marks i. lost_inner plan set more mark marks made i)
+    (λ marks i. lost_outer plan set more mark marks made i)
+    (subst (λ (n : ℕ). IsFoundIf plan c left n (IsIn plan more) found) made.most h)
 
-pub up_found : (plan : Network) (c : Titles) (left point : ℕ) (set more : OutageSet) (found : Found) → IsWithUp set point more
-    → IsFound plan c left more found → IsFoundIf plan c left set.most (IsInWith set point false) found
-up_found plan c left point set more found made h =
-    found_same plan c left set.most (IsIn more) (IsInWith set point false) found (λ marks i. up_inner set more point marks made i)
-    (λ marks i. up_outer set more point marks made i)
-    (subst (λ (n : ℕ). IsFoundIf plan c left n (IsIn more) found) made.most h)
+pub up_found : (plan : Network) (c : Titles) (left : ℕ) (mark : Mark) (set more : OutageSet) (found : Found) → IsWithUp set mark more
+    → IsFound plan c left more found → IsFoundIf plan c left set.most (IsInWith plan set mark false) found
+up_found plan c left mark set more found made h =
+    found_same plan c left set.most (IsIn plan more) (IsInWith plan set mark false) found
+    (λ marks i. up_inner plan set more mark marks made i)
+    (λ marks i. up_outer plan set more mark marks made i)
+    (subst (λ (n : ℕ). IsFoundIf plan c left n (IsIn plan more) found) made.most h)

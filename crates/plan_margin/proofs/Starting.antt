@@ -20,6 +20,7 @@ use Rattle.plan_classes.specs.Titles.{Titles, IsMember, spot_of}
 use Rattle.plan_classes.specs.Classes.{start_of}
 use Rattle.plan_classes.proofs.Starting.{start_member, start_spot, member_covered}
 use Rattle.plan_check.proofs.Soundness.{some_of}
+use Rattle.plan_margin.specs.declared.loss_kinds.LossKinds.{LossKinds}
 use Rattle.plan_margin.specs.declared.outage_set.OutageSet.{OutageSet}
 use Rattle.plan_margin.specs.declared.stop.Stop.{Stop}
 use Rattle.plan_margin.specs.declared.found.Found.{Found}
@@ -27,21 +28,21 @@ use Rattle.plan_margin.specs.Outages.{Outage, SparesEntry, ArrivesWithin, Arrive
 use Rattle.plan_margin.specs.Margins.{IsStop}
 use Rattle.plan_margin.specs.Searching.{IsIn, IsFoundIf, IsFound, Spares, AllArrive, StopsOne}
 use Rattle.plan_margin.proofs.Counting.{once_from}
-use Rattle.plan_margin.proofs.Sets.{own_point}
+use Rattle.plan_margin.proofs.Sets.{own_mark}
 use Rattle.plan_margin.proofs.Following.{found_same}
 
 -- the set in which nothing is lost and this node is not
 pub spared_found : (plan : Network) (c : Titles) (left node : ℕ) (set : OutageSet) (found : Found) → set.lost ≡ []
     → ((m : Mark) → holds set.up m ≡ same_mark (PointCode (point_of plan node)) m) → IsFound plan c left set found
-    → IsFoundIf plan c left set.most (Spares plan node) found
+    → IsFoundIf plan c left set.most (Spares plan set.kinds node) found
 spared_found plan c left node set found none up h =
-    found_same plan c left set.most (IsIn set) (Spares plan node) found
+    found_same plan c left set.most (IsIn plan set) (Spares plan set.kinds node) found
     (λ marks i. record {
-      points = i.points;
-      spared = i.up (PointCode (point_of plan node)) (up (PointCode (point_of plan node)) ∙ own_point (point_of plan node));
+      losses = i.losses;
+      spared = i.up (PointCode (point_of plan node)) (up (PointCode (point_of plan node)) ∙ own_mark (PointCode (point_of plan node)));
     })
     (λ marks s. record {
-      points = s.points;
+      losses = s.losses;
       lost = λ m k. absurd (false≢true (sym (ap (λ (ms : List Mark). holds ms m) none) ∙ k));
       up = λ m k. subst (λ (x : Mark). holds marks x ≡ false) (same_mark_is (PointCode (point_of plan node)) m (sym (up m) ∙ k)) s.spared;
     }) h
@@ -78,45 +79,47 @@ spares_entry plan number cover marks is at spared =
         (slice_get_cases plan.nodes cover.node).1
 
 -- a title of the cover arrives, if all of the start do
-arrives_from : (plan : Network) (number most : ℕ) (cover : Cover) (c : Titles) (cut : Bool) (spot : Spot) (marks : List Mark)
-    → slice_get plan.covers number ≡ Some cover → c ≡ start_of number cover → AllArrive plan c 14 most (Spares plan c.node) cut
-    → HasSpot plan number spot → Outage plan number marks → (cut ≡ true → length marks ≤ most) → Arrives plan number marks spot
-arrives_from plan number most cover c cut spot marks at start all has outage few =
+arrives_from : (plan : Network) (kinds : LossKinds) (number most : ℕ) (cover : Cover) (c : Titles) (cut : Bool) (spot : Spot)
+    (marks : List Mark)
+    → slice_get plan.covers number ≡ Some cover → c ≡ start_of number cover → AllArrive plan c 14 most (Spares plan kinds c.node) cut
+    → HasSpot plan number spot → Outage plan kinds number marks → (cut ≡ true → length marks ≤ most) → Arrives plan number marks spot
+arrives_from plan kinds number most cover c cut spot marks at start all has outage few =
     let covers : Covers cover spot = subst (λ (o : Option Cover). IsSomeAnd o (λ x. Covers x spot)) at has in
-    let from : AllArrive plan (start_of number cover) 14 most (Spares plan cover.node) cut =
-    subst (λ (x : Titles). AllArrive plan x 14 most (Spares plan x.node) cut) start all in
+    let from : AllArrive plan (start_of number cover) 14 most (Spares plan kinds cover.node) cut =
+    subst (λ (x : Titles). AllArrive plan x 14 most (Spares plan kinds x.node) cut) start all in
     subst (ArrivesWithin plan number 14 marks) (start_spot number cover spot covers)
     (from.arrive spot.digits marks (start_member number cover spot covers)
-    (record { points = outage.points; spared = entry_spared plan number cover marks at outage.spared }) few)
+    (record { losses = outage.losses; spared = entry_spared plan number cover marks at outage.spared }) few)
 
 -- the cover of a start
 start_cover : (plan : Network) (number : ℕ) (c : Titles) → IsSomeAnd (slice_get plan.covers number) (λ x. c ≡ start_of number x)
     → (cover : Cover) × (slice_get plan.covers number ≡ Some cover) × (c ≡ start_of number cover)
 start_cover plan number c start = some_of (slice_get plan.covers number) (λ x. c ≡ start_of number x) start
 
-pub survives_none : (plan : Network) (number : ℕ) → SurvivesBelow plan number 0
-survives_none plan number spot marks has outage few = absurd (omega (arith, few))
+pub survives_none : (plan : Network) (kinds : LossKinds) (number : ℕ) → SurvivesBelow plan kinds number 0
+survives_none plan kinds number spot marks has outage few = absurd (omega (arith, few))
 
-pub survives_more : (plan : Network) (number most : ℕ) (c : Titles) (cut : Bool)
-    → IsSomeAnd (slice_get plan.covers number) (λ x. c ≡ start_of number x) → AllArrive plan c 14 most (Spares plan c.node) cut
-    → SurvivesBelow plan number (most + 1)
-survives_more plan number most c cut start all spot marks has outage few =
+pub survives_more : (plan : Network) (kinds : LossKinds) (number most : ℕ) (c : Titles) (cut : Bool)
+    → IsSomeAnd (slice_get plan.covers number) (λ x. c ≡ start_of number x) → AllArrive plan c 14 most (Spares plan kinds c.node) cut
+    → SurvivesBelow plan kinds number (most + 1)
+survives_more plan kinds number most c cut start all spot marks has outage few =
     let k = start_cover plan number c start in
-    arrives_from plan number most k.0 c cut spot marks k.1 k.2 all has outage (λ e. omega (arith, few))
+    arrives_from plan kinds number most k.0 c cut spot marks k.1 k.2 all has outage (λ e. omega (arith, few))
 
-pub survives_all : (plan : Network) (number most : ℕ) (c : Titles)
-    → IsSomeAnd (slice_get plan.covers number) (λ x. c ≡ start_of number x) → AllArrive plan c 14 most (Spares plan c.node) false
-    → SurvivesAll plan number
-survives_all plan number most c start all spot marks has outage =
+pub survives_all : (plan : Network) (kinds : LossKinds) (number most : ℕ) (c : Titles)
+    → IsSomeAnd (slice_get plan.covers number) (λ x. c ≡ start_of number x) → AllArrive plan c 14 most (Spares plan kinds c.node) false
+    → SurvivesAll plan kinds number
+survives_all plan kinds number most c start all spot marks has outage =
     let k = start_cover plan number c start in
-    arrives_from plan number most k.0 c false spot marks k.1 k.2 all has outage (λ e. absurd (false≢true e))
+    arrives_from plan kinds number most k.0 c false spot marks k.1 k.2 all has outage (λ e. absurd (false≢true e))
 
--- the stop that is found has as many lost points as may be, since fewer stop no title
-pub is_stop : (plan : Network) (number most : ℕ) (c : Titles) (digits : List ℕ) (lost : List Mark) (stop : Stop) → IsPlan plan
+-- the stop that is found has as many losses as there may be, since fewer stop no title
+pub is_stop : (plan : Network) (kinds : LossKinds) (number most : ℕ) (c : Titles) (digits : List ℕ) (lost : List Mark) (stop : Stop)
+    → IsPlan plan
     → IsSomeAnd (slice_get plan.covers number) (λ x. c ≡ start_of number x) → IsAscending lost
-    → StopsOne plan c 14 most (Spares plan c.node) digits lost → SurvivesBelow plan number most → stop.spot ≡ spot_of c digits
-    → stop.markings ≡ replicate 14 lost → stop.hops ≡ route_in plan lost (spot_of c digits) → IsStop plan number most stop
-is_stop plan number most c digits lost stop is start ascending stops below spot markings hops = record {
+    → StopsOne plan c 14 most (Spares plan kinds c.node) digits lost → SurvivesBelow plan kinds number most → stop.spot ≡ spot_of c digits
+    → stop.markings ≡ replicate 14 lost → stop.hops ≡ route_in plan lost (spot_of c digits) → IsStop plan kinds number most stop
+is_stop plan kinds number most c digits lost stop is start ascending stops below spot markings hops = record {
   marks = lost;
   covered = covered;
   outage = outage;
@@ -140,9 +143,9 @@ is_stop plan number most c digits lost stop is start ascending stops below spot 
         (subst (λ (o : Option Cover). IsSomeAnd o (λ x. Covers x (spot_of (start_of number k.0) digits))) (sym k.1)
         (member_covered plan.nodes number k.0 digits (cover_at plan number k.0 is k.1) member))
 
-    outage : Outage plan number lost
+    outage : Outage plan kinds number lost
     outage = record {
-      points = stops.within.points;
+      losses = stops.within.losses;
       once = once_from lost ascending;
       spared = spares_entry plan number k.0 lost is k.1
           (subst (λ (n : ℕ). holds lost (PointCode (point_of plan n)) ≡ false) (ap (λ (x : Titles). x.node) k.2) stops.within.spared);

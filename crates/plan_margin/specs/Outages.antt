@@ -1,6 +1,6 @@
--- Outages of signalling points, and the titles that arrive while one lasts.
-use Rattle.std.specs.Prelude.{ℕ, ◌≡◌, ◌≢◌, ◌<◌, ◌++◌, false, List, length, map, replicate, IsSomeAnd, slice_get}
-use Rattle.std.specs.List.{All, AllPairs}
+-- Outages, and the titles that arrive while one lasts.
+use Rattle.std.specs.Prelude.{ℕ, ◌≡◌, ◌≢◌, ◌<◌, ◌++◌, ◌==◌, ◌&&◌, Bool, true, false, List, length, map, replicate, IsSomeAnd, slice_get}
+use Rattle.std.specs.List.{All, AllPairs, list_any}
 use Rattle.sccp_base.specs.declared.mark.Mark.{Mark}
 use Rattle.sccp_base.specs.declared.mark.Mark.TheVariants.{PointCode, Sccp, Subsystem}
 use Rattle.sccp_base.specs.Marks.{holds, point_of}
@@ -12,6 +12,27 @@ use Rattle.plan_model.specs.Network.{Network}
 use Rattle.plan_model.specs.Routes.{route}
 use Rattle.plan_model.specs.Verdicts.{last, HasSpot}
 use Rattle.plan_check.specs.Ranked.{Allows}
+use Rattle.plan_margin.specs.declared.loss_kinds.LossKinds.{LossKinds}
+use Rattle.plan_margin.specs.declared.loss_kinds.LossKinds.TheVariants.{Points, PointsAndSubsystems}
+
+-- a relay of the plan has this point, and this subsystem of its own
+abbrev pub is_own_subsystem : Network → ℕ → ℕ → Bool
+is_own_subsystem plan pc ssn = list_any (λ node. node.pc == pc && list_any (λ own. own == ssn) node.subsystems) plan.nodes
+
+-- subsystems count as losses as well
+abbrev pub counts_subsystems : LossKinds → Bool
+counts_subsystems Points = false
+counts_subsystems PointsAndSubsystems = true
+
+-- What the mark prohibits is a loss: a point, or a subsystem that a relay of the plan has itself. The SCCP at a point is none, since
+-- the loss of the point does as much.
+abbrev pub is_loss : Network → LossKinds → Mark → Bool
+is_loss plan kinds (PointCode point) = true
+is_loss plan kinds (Sccp point) = false
+is_loss plan kinds (Subsystem point ssn) = counts_subsystems kinds && is_own_subsystem plan point ssn
+
+abbrev pub IsLoss : Network → LossKinds → Mark → Type 0
+IsLoss plan kinds mark = is_loss plan kinds mark ≡ true
 
 -- the mark of a point, not of its SCCP or of one of its subsystems
 abbrev pub IsPointMark : Mark → Type 0
@@ -25,9 +46,9 @@ SparesEntry plan number marks =
     IsSomeAnd (slice_get plan.covers number) (λ cover. IsSomeAnd (slice_get plan.nodes cover.node)
     (λ node. holds marks (PointCode node.pc) ≡ false))
 
--- Points that are lost, each listed once, as marks that all relays hold. The length of the list is the number of lost points.
-pub record Outage (plan : Network) (number : ℕ) (marks : List Mark) : Type 0 where
-  pub points : All IsPointMark marks
+-- Losses, each listed once, as marks that all relays hold. The length of the list is their number.
+pub record Outage (plan : Network) (kinds : LossKinds) (number : ℕ) (marks : List Mark) : Type 0 where
+  pub losses : All (IsLoss plan kinds) marks
   pub once : AllPairs (λ a b. a ≢ b) marks
   pub spared : SparesEntry plan number marks
 
@@ -51,16 +72,16 @@ pub record ArrivesWithin (plan : Network) (number hops : ℕ) (marks : List Mark
 abbrev pub Arrives : Network → ℕ → List Mark → Spot → Type 0
 Arrives plan number marks spot = ArrivesWithin plan number 14 marks spot
 
--- every title of the cover arrives in every outage of fewer points than the count
-abbrev pub SurvivesBelow : Network → ℕ → ℕ → Type 0
-SurvivesBelow plan number count =
-    (spot : Spot) (marks : List Mark) → HasSpot plan number spot → Outage plan number marks → length marks < count
+-- every title of the cover arrives in every outage of fewer losses than the count
+abbrev pub SurvivesBelow : Network → LossKinds → ℕ → ℕ → Type 0
+SurvivesBelow plan kinds number count =
+    (spot : Spot) (marks : List Mark) → HasSpot plan number spot → Outage plan kinds number marks → length marks < count
     → Arrives plan number marks spot
 
 -- every title of the cover arrives in every outage
-abbrev pub SurvivesAll : Network → ℕ → Type 0
-SurvivesAll plan number =
-    (spot : Spot) (marks : List Mark) → HasSpot plan number spot → Outage plan number marks → Arrives plan number marks spot
+abbrev pub SurvivesAll : Network → LossKinds → ℕ → Type 0
+SurvivesAll plan kinds number =
+    (spot : Spot) (marks : List Mark) → HasSpot plan number spot → Outage plan kinds number marks → Arrives plan number marks spot
 
 -- ---- for the laws of outages
 

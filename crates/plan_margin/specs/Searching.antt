@@ -1,38 +1,38 @@
 -- What the search for a stopped title is given, and what it finds.
-use Rattle.std.specs.Prelude.{ℕ, ◌≡◌, ◌<◌, ◌≤◌, true, false, Bool, List, length, Option, Some, None, is_none, IsSomeAnd, slice_get}
-use Rattle.std.specs.Prelude.{◌==◌, if◌then◌else◌, ◌||◌}
-use Rattle.std.specs.List.{All}
+use Rattle.std.specs.Prelude.{ℕ, ◌≡◌, ◌<◌, ◌≤◌, true, false, Bool, List, length, Some, None, is_none, IsSomeAnd, slice_get}
+use Rattle.std.specs.Prelude.{◌&&◌, ◌||◌, not}
+use Rattle.std.specs.List.{All, find}
 use Rattle.sccp_base.specs.declared.mark.Mark.{Mark}
 use Rattle.sccp_base.specs.declared.mark.Mark.TheVariants.{PointCode}
 use Rattle.sccp_base.specs.Marks.{holds, same_mark, IsAscending}
 use Rattle.plan_rules.specs.declared.target.Target.{Target}
-use Rattle.plan_rules.specs.declared.target.Target.TheVariants.{Relay, Final}
 use Rattle.plan_model.specs.declared.node.Node.{Node}
 use Rattle.plan_model.specs.Network.{Network, point_of}
-use Rattle.plan_model.specs.Steps.{closing}
+use Rattle.plan_model.specs.Steps.{marks as closing_marks, closing}
 use Rattle.plan_classes.specs.Titles.{Titles, IsMember, spot_of}
 use Rattle.plan_classes.specs.Classes.{class_targets}
 use Rattle.plan_classes.specs.Leading.{OpensClass}
 use Rattle.plan_margin.specs.declared.outage_set.OutageSet.{OutageSet}
+use Rattle.plan_margin.specs.declared.loss_kinds.LossKinds.{LossKinds}
 use Rattle.plan_margin.specs.declared.found.Found.{Found}
 use Rattle.plan_margin.specs.declared.found.Found.TheVariants.{Stopped, Through, Wide}
 use Rattle.plan_margin.specs.declared.turn.Turn.{Turn}
 use Rattle.plan_margin.specs.declared.turn.Turn.TheVariants.{Past, Lost, Taken, Either}
-use Rattle.plan_margin.specs.Outages.{IsPointMark, ArrivesWithin}
+use Rattle.plan_margin.specs.Outages.{is_loss, IsLoss, ArrivesWithin}
 
 -- the number of classes at which the search gives up
 abbrev pub most_ways : ℕ
 most_ways = 1048576
 
 -- the marks are those of an outage of the set, if they are not too many
-pub record IsIn (set : OutageSet) (marks : List Mark) : Type 0 where
-  pub points : All IsPointMark marks
+pub record IsIn (plan : Network) (set : OutageSet) (marks : List Mark) : Type 0 where
+  pub losses : All (IsLoss plan set.kinds) marks
   pub lost : (m : Mark) → holds set.lost m ≡ true → holds marks m ≡ true
   pub up : (m : Mark) → holds set.up m ≡ true → holds marks m ≡ false
 
--- the points that are lost make an outage of the set
-pub record IsOutageSet (set : OutageSet) : Type 0 where
-  pub points : All IsPointMark set.lost
+-- what is lost in each outage of the set makes one of them
+pub record IsOutageSet (plan : Network) (set : OutageSet) : Type 0 where
+  pub losses : All (IsLoss plan set.kinds) set.lost
   pub few : length set.lost ≤ set.most
   pub apart : (m : Mark) → holds set.up m ≡ true → holds set.lost m ≡ false
 
@@ -41,7 +41,7 @@ pub record MayExplore (plan : Network) (c : Titles) : Type 0 where
   pub node : c.node < length plan.nodes
   pub cover : c.cover < length plan.covers
 
--- a title of the class, and lost points that stop it
+-- a title of the class, and losses that stop it
 pub record StopsOne (plan : Network) (c : Titles) (left most : ℕ) (In : List Mark
     → Type 0) (digits : List ℕ) (lost : List Mark) : Type 0 where
   pub member : IsMember c digits
@@ -49,7 +49,7 @@ pub record StopsOne (plan : Network) (c : Titles) (left most : ℕ) (In : List M
   pub few : length lost ≤ most
   pub stopped : ArrivesWithin plan c.cover left lost (spot_of c digits) → ⊥
 
--- each title of the class arrives under all such marks, or under those of at most this number of points if the search was cut
+-- each title of the class arrives under all such marks, or under at most this number of them if the search was cut
 pub record AllArrive (plan : Network) (c : Titles) (left most : ℕ) (In : List Mark → Type 0) (cut : Bool) : Type 0 where
   pub arrive : (digits : List ℕ) (marks : List Mark) → IsMember c digits → In marks → (cut ≡ true → length marks ≤ most)
       → ArrivesWithin plan c.cover left marks (spot_of c digits)
@@ -62,7 +62,7 @@ IsFoundIf plan c left most In Wide = Unit {0}
 
 -- what is found in the outages of a set
 abbrev pub IsFound : Network → Titles → ℕ → OutageSet → Found → Type 0
-IsFound plan c left set found = IsFoundIf plan c left set.most (IsIn set) found
+IsFound plan c left set found = IsFoundIf plan c left set.most (IsIn plan set) found
 
 -- the search has met fewer classes than it may, or has just given up
 abbrev pub IsWithinLimit : Found → ℕ → Type 0
@@ -70,10 +70,9 @@ IsWithinLimit (Stopped digits lost) count = count < most_ways
 IsWithinLimit (Through cut) count = count < most_ways
 IsWithinLimit Wide count = count ≡ most_ways
 
--- the point whose loss closes a target: none closes a destination at the node itself
-abbrev pub point_of_target : Node → Target → Option ℕ
-point_of_target node (Relay pc strip put selector named) = Some pc
-point_of_target node (Final pc named) = if pc == node.pc then None else Some pc
+-- the mark is held in some outages of the set, if it is not held in all of them
+abbrev pub is_free : Network → OutageSet → Mark → Bool
+is_free plan set mark = is_loss plan set.kinds mark && not (holds set.up mark)
 
 -- what holds of the target at this place of the class's row
 abbrev pub OfTarget : Network → Titles → ℕ → (Node → Target → Type 0) → Type 0
@@ -88,31 +87,27 @@ IsOpenAt plan c marks place = OfTarget plan c place (λ node t. closing node c.s
 
 -- in each outage of the set the targets before the place are closed
 pub record PassesOver (plan : Network) (c : Titles) (place : ℕ) (set : OutageSet) : Type 0 where
-  pub closed : (marks : List Mark) → IsIn set marks → (k : ℕ) → k < place → IsClosedAt plan c marks k
+  pub closed : (marks : List Mark) → IsIn plan set marks → (k : ℕ) → k < place → IsClosedAt plan c marks k
   pub within : place ≤ length (class_targets plan c)
 
 -- in each outage of the set the title's step takes the target at this place
 abbrev pub TakesIn : Network → Titles → ℕ → OutageSet → Type 0
-TakesIn plan c place set = (marks : List Mark) → IsIn set marks → OpensClass plan c place marks
+TakesIn plan c place set = (marks : List Mark) → IsIn plan set marks → OpensClass plan c place marks
 
--- what the set says of a target, by the point whose loss closes it
-abbrev pub IsTurnBy : Option ℕ → OutageSet → Turn → Type 0
-IsTurnBy None set Past = ⊥
-IsTurnBy None set Lost = ⊥
-IsTurnBy None set Taken = Unit {0}
-IsTurnBy None set (Either point) = ⊥
-IsTurnBy (Some own) set Past = ⊥
-IsTurnBy (Some own) set Lost = holds set.lost (PointCode own) ≡ true
-IsTurnBy (Some own) set Taken = holds set.up (PointCode own) ≡ true
-IsTurnBy (Some own) set (Either point) =
-    (own ≡ point) × (holds set.lost (PointCode own) ≡ false) × (holds set.up (PointCode own) ≡ false)
+-- What the set says of a target, by the marks that close it: one of them is held in each outage, or none in any. Otherwise this is the
+-- first one that is held in some outages.
+abbrev pub IsTurnBy : Network → List Mark → OutageSet → Turn → Type 0
+IsTurnBy plan ms set Past = ⊥
+IsTurnBy plan ms set Lost = is_none (find (holds set.lost) ms) ≡ false
+IsTurnBy plan ms set Taken = find (is_free plan set) ms ≡ None
+IsTurnBy plan ms set (Either mark) = (find (is_free plan set) ms ≡ Some mark) × (find (holds set.lost) ms ≡ None)
 
 -- the same of the target at a place of the class's row: there may be none
 abbrev pub IsTurn : Network → Titles → ℕ → OutageSet → Turn → Type 0
 IsTurn plan c place set Past = length (class_targets plan c) ≤ place
-IsTurn plan c place set Lost = OfTarget plan c place (λ node t. IsTurnBy (point_of_target node t) set Lost)
-IsTurn plan c place set Taken = OfTarget plan c place (λ node t. IsTurnBy (point_of_target node t) set Taken)
-IsTurn plan c place set (Either point) = OfTarget plan c place (λ node t. IsTurnBy (point_of_target node t) set (Either point))
+IsTurn plan c place set Lost = OfTarget plan c place (λ node t. IsTurnBy plan (closing_marks node c.ssn t) set Lost)
+IsTurn plan c place set Taken = OfTarget plan c place (λ node t. IsTurnBy plan (closing_marks node c.ssn t) set Taken)
+IsTurn plan c place set (Either mark) = OfTarget plan c place (λ node t. IsTurnBy plan (closing_marks node c.ssn t) set (Either mark))
 
 -- what two searches found together, the first of which stopped no title
 abbrev pub joined : Bool → Found → Found
@@ -120,25 +115,27 @@ joined cut (Stopped digits lost) = Stopped digits lost
 joined cut (Through other) = Through (cut || other)
 joined cut Wide = Wide
 
--- `more` has the outages of the set in which this point is not lost
-pub record IsWithUp (set : OutageSet) (point : ℕ) (more : OutageSet) : Type 0 where
+-- `more` has the outages of the set in which this mark is not held
+pub record IsWithUp (set : OutageSet) (mark : Mark) (more : OutageSet) : Type 0 where
+  pub kinds : more.kinds ≡ set.kinds
   pub most : more.most ≡ set.most
   pub lost : more.lost ≡ set.lost
-  pub up : (m : Mark) → holds more.up m ≡ (same_mark (PointCode point) m || holds set.up m)
+  pub up : (m : Mark) → holds more.up m ≡ (same_mark mark m || holds set.up m)
 
--- `more` has the outages of the set in which it is lost
-pub record IsWithLost (set : OutageSet) (point : ℕ) (more : OutageSet) : Type 0 where
+-- `more` has the outages of the set in which it is held
+pub record IsWithLost (set : OutageSet) (mark : Mark) (more : OutageSet) : Type 0 where
+  pub kinds : more.kinds ≡ set.kinds
   pub most : more.most ≡ set.most
-  pub lost : (m : Mark) → holds more.lost m ≡ (same_mark (PointCode point) m || holds set.lost m)
+  pub lost : (m : Mark) → holds more.lost m ≡ (same_mark mark m || holds set.lost m)
   pub up : more.up ≡ set.up
   pub ascending : IsAscending more.lost
 
--- an outage of the set in which this point is lost, or is not
-pub record IsInWith (set : OutageSet) (point : ℕ) (lost : Bool) (marks : List Mark) : Type 0 where
-  pub inside : IsIn set marks
-  pub held : holds marks (PointCode point) ≡ lost
+-- an outage of the set in which this mark is held, or is not
+pub record IsInWith (plan : Network) (set : OutageSet) (mark : Mark) (lost : Bool) (marks : List Mark) : Type 0 where
+  pub inside : IsIn plan set marks
+  pub held : holds marks mark ≡ lost
 
--- marks of points that do not hold that of this node's point
-pub record Spares (plan : Network) (node : ℕ) (marks : List Mark) : Type 0 where
-  pub points : All IsPointMark marks
+-- losses of these kinds among which this node's point is not
+pub record Spares (plan : Network) (kinds : LossKinds) (node : ℕ) (marks : List Mark) : Type 0 where
+  pub losses : All (IsLoss plan kinds) marks
   pub spared : holds marks (PointCode (point_of plan node)) ≡ false

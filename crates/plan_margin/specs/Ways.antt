@@ -8,6 +8,7 @@ use Rattle.plan_classes.specs.declared.leads.Image.TheVariants.{Next}
 use Rattle.plan_classes.specs.Titles.{Titles, parts_of}
 use Rattle.plan_classes.specs.Classes.{start_of, Decided, HasImage}
 use Rattle.plan_margin.specs.declared.outage_set.OutageSet.{OutageSet}
+use Rattle.plan_margin.specs.declared.loss_kinds.LossKinds.{LossKinds}
 use Rattle.plan_margin.specs.declared.found.Found.{Found}
 use Rattle.plan_margin.specs.declared.found.Found.TheVariants.{Stopped, Through, Wide}
 use Rattle.plan_margin.specs.declared.turn.Turn.TheVariants.{Lost, Taken, Either}
@@ -39,31 +40,32 @@ pub data Ways (plan : Network) : OutageSet → ℕ → Stage → ℕ → Type 0 
       → Ways plan set left (AtTargets c (k + 1)) n → Ways plan set left (AtTargets c k) n
   IsTaken : {set : OutageSet} {left n : ℕ} {c : Titles} {k : ℕ} → IsTurn plan c k set Taken
       → Ways plan set left (AtTarget c k) n → Ways plan set left (AtTargets c k) n
-  -- a target that is taken if its point is not lost, and closed if it is: one more point may have to be lost
-  IfUp : {set up : OutageSet} {left n : ℕ} {c : Titles} {k p : ℕ} → IsTurn plan c k set (Either p) → IsWithUp set p up
-      → Ways plan up left (AtTarget c k) n → Ways plan set left (AtTargets c k) n
-  Both : {set up lost : OutageSet} {left n m : ℕ} {c : Titles} {k p : ℕ} → IsTurn plan c k set (Either p) → IsWithUp set p up
-      → Ways plan up left (AtTarget c k) n → length set.lost < set.most → IsWithLost set p lost
+  -- A target that is closed if this mark is held, which is one more loss. If it is not held, the target is looked at again.
+  IfUp : {set up : OutageSet} {left n : ℕ} {c : Titles} {k : ℕ} {x : Mark} → IsTurn plan c k set (Either x) → IsWithUp set x up
+      → Ways plan up left (AtTargets c k) n → Ways plan set left (AtTargets c k) n
+  Both : {set up lost : OutageSet} {left n m : ℕ} {c : Titles} {k : ℕ} {x : Mark} → IsTurn plan c k set (Either x) → IsWithUp set x up
+      → Ways plan up left (AtTargets c k) n → length set.lost < set.most → IsWithLost set x lost
       → Ways plan lost left (AtTargets c (k + 1)) m → Ways plan set left (AtTargets c k) (n + m)
   -- the class that the target makes of this one
   Onward : {set : OutageSet} {left n : ℕ} {c next : Titles} {k : ℕ} → HasImage plan c k (Next next)
       → Ways plan set (left - 1) (AtClass next) n → Ways plan set left (AtTarget c k) n
 
--- the set of all outages of up to this number of points that spare a node
-pub record IsFirstSet (plan : Network) (node most : ℕ) (set : OutageSet) : Type 0 where
+-- the set of all outages of up to this number of losses that spare a node
+pub record IsFirstSet (plan : Network) (kinds : LossKinds) (node most : ℕ) (set : OutageSet) : Type 0 where
+  pub counted : set.kinds ≡ kinds
   pub none : set.lost ≡ []
   pub spared : (m : Mark) → holds set.up m ≡ same_mark (PointCode (point_of plan node)) m
   pub few : set.most ≡ most
 
 -- in these outages, there are at least 1,048,576 classes on the ways of the titles of a class
-pub record HasWays (plan : Network) (most : ℕ) (c : Titles) : Type 0 where
+pub record HasWays (plan : Network) (kinds : LossKinds) (most : ℕ) (c : Titles) : Type 0 where
   pub set : OutageSet
-  pub first : IsFirstSet plan c.node most set
+  pub first : IsFirstSet plan kinds c.node most set
   pub tree : Ways plan set 14 (AtClass c) most_ways
 
--- in the outages of up to this number of points, there are at least 1,048,576 classes on the ways of the cover's titles
-abbrev pub HasManyWays : Network → ℕ → ℕ → Type 0
-HasManyWays plan number most = IsSomeAnd (slice_get plan.covers number) (λ cover. HasWays plan most (start_of number cover))
+-- in the outages of up to this number of losses, there are at least 1,048,576 classes on the ways of the cover's titles
+abbrev pub HasManyWays : Network → LossKinds → ℕ → ℕ → Type 0
+HasManyWays plan kinds number most = IsSomeAnd (slice_get plan.covers number) (λ cover. HasWays plan kinds most (start_of number cover))
 
 -- ---- what the search counts
 
@@ -73,17 +75,17 @@ pub record Counts (plan : Network) (set : OutageSet) (left : ℕ) (stage : Stage
   pub tree : Ways plan set left stage met
   pub sum : new ≡ old + met
 
--- the same of the titles that take the target at a place, if this point is not lost
-pub record CountsUp (plan : Network) (set : OutageSet) (left : ℕ) (c : Titles) (place point old new : ℕ) : Type 0 where
+-- the same of the targets from a place on, if this mark is not held
+pub record CountsUp (plan : Network) (set : OutageSet) (left : ℕ) (c : Titles) (place : ℕ) (mark : Mark) (old new : ℕ) : Type 0 where
   pub up : OutageSet
-  pub made : IsWithUp set point up
-  pub counts : Counts plan up left (AtTarget c place) old new
+  pub made : IsWithUp set mark up
+  pub counts : Counts plan up left (AtTargets c place) old new
 
--- the same of the targets after that place, if this point is lost
-pub record CountsLost (plan : Network) (set : OutageSet) (left : ℕ) (c : Titles) (place point old new : ℕ) : Type 0 where
+-- the same of the targets after that place, if this mark is held
+pub record CountsLost (plan : Network) (set : OutageSet) (left : ℕ) (c : Titles) (place : ℕ) (mark : Mark) (old new : ℕ) : Type 0 where
   pub lost : OutageSet
   pub room : length set.lost < set.most
-  pub made : IsWithLost set point lost
+  pub made : IsWithLost set mark lost
   pub counts : Counts plan lost left (AtTargets c (place + 1)) old new
 
 -- a fact on a class of which the search met too many

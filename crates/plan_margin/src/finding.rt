@@ -1,4 +1,4 @@
-//! The number of points that can be lost, from none on.
+//! The number of losses before a title is stopped, from none on.
 ghost use Rattle.std.specs.Prelude.{◌≡◌, ◌<◌, ◌≤◌, ◌+◌, IfOk, IsSomeAnd, length, replicate, slice_get};
 ghost use Rattle.sccp_base.specs.declared.mark.Mark.{Mark};
 ghost use Rattle.sccp_base.specs.declared.mark.Mark.TheVariants.{PointCode as PointMark};
@@ -12,6 +12,7 @@ ghost use Rattle.plan_margin.specs.Ways.{HasWays, IfWide};
 ghost use Rattle.plan_margin.specs.Margins.{IsMargin};
 
 use crate::found::Found;
+use crate::loss_kinds::LossKinds;
 use crate::margin::Margin;
 use crate::outage_set::OutageSet;
 use crate::search::explore;
@@ -21,22 +22,23 @@ use plan_model::{Plan, route};
 use sccp_base::{Digits, List, Mark, Marking, OutOfMemory};
 use std::alloc::Global;
 
-/// How many points, up to `losses`, can be lost before a title of this cover is stopped. The search goes over all outages of no
-/// point, of one, of two and so on. An outage is a set of points that all relays hold prohibited (Q.714 section 5); the relay at
-/// which the cover's titles come in is not among them.
+/// How many losses of these kinds there can be before a title of this cover is stopped, up to `losses`. The search goes over all
+/// outages of no loss, of one, of two and so on. All relays hold an outage's losses prohibited (Q.714 section 5); the point of the
+/// relay at which the cover's titles come in is not among them.
 pub fn find_margin(
     alloc: Global,
     plan: &Plan,
     cover: u16,
+    kinds: LossKinds,
     losses: u8,
 ) -> Result<Margin, OutOfMemory>
     requires cover { cover < length plan.now.covers }
     requires few { losses ≤ 99 }
-    ensures { IfOk result (IsMargin plan.now cover losses) }
+    ensures { IfOk result (IsMargin plan.now kinds cover losses) }
 {
     let class = start_in(plan, cover);
     for most in 0..losses + 1 {
-        match explore_start(alloc, plan, &class, most)? {
+        match explore_start(alloc, plan, &class, kinds, most)? {
             Found::Stopped { digits, lost } => {
                 return Ok(Margin::Stopped(stop(alloc, plan, &class, &digits, &lost)?));
             }
@@ -59,17 +61,24 @@ fn start_in(plan: &Plan, cover: u16) -> Class
     ensures plan { IsPlan plan.now }
 {
     let _covers = plan.covers();
-    start(plan, cover)
+    start(plan, u32::from(cover))
 }
 
-/// The search for a stopped title of a cover, in all outages of up to this number of points that spare the relay of the cover.
-fn explore_start(alloc: Global, plan: &Plan, class: &Class, most: u8) -> Result<Found, OutOfMemory>
+/// The search for a stopped title of a cover, in all outages of up to this number of losses that spare the relay of the cover.
+fn explore_start(
+    alloc: Global,
+    plan: &Plan,
+    class: &Class,
+    kinds: LossKinds,
+    most: u8,
+) -> Result<Found, OutOfMemory>
     requires may { MayExplore plan.now class.now }
-    ensures found { IfOk result (IsFoundIf plan.now class.now 14 most (Spares plan.now class.now.node)) }
-    ensures ways { IfOk result (IfWide (HasWays plan.now most class.now)) }
+    ensures found { IfOk result (IsFoundIf plan.now class.now 14 most (Spares plan.now kinds class.now.node)) }
+    ensures ways { IfOk result (IfWide (HasWays plan.now kinds most class.now)) }
 {
     let up = entry_up(alloc, plan, class)?;
     let set = OutageSet {
+        kinds,
         lost: Marking::new(alloc),
         up,
         most,
@@ -96,7 +105,7 @@ fn entry_up(alloc: Global, plan: &Plan, class: &Class) -> Result<Marking, OutOfM
     }
 }
 
-/// A title that does not arrive while these points are lost, with its route.
+/// A title that these losses stop, with its route.
 fn stop(
     alloc: Global,
     plan: &Plan,

@@ -7,9 +7,9 @@ use sccp_base::{Digits, Marking};
 /// What the search found of a class in a set of outages.
 #[derive(Drop)]
 pub(crate) enum Found {
-    /// The title with these digits does not arrive while these points are lost.
+    /// The title with these digits does not arrive with these losses.
     Stopped { digits: Digits, lost: Marking },
-    /// All titles arrive in all outages. If the search was cut, this is said only of those with few enough points.
+    /// All titles arrive in all outages. If the search was cut, this is said only of those with few enough losses.
     Through { cut: bool },
     /// The search met too many classes.
     Wide,

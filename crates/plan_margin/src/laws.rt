@@ -6,20 +6,32 @@ ghost use Rattle.plan_model.specs.declared.spot.Spot.{Spot};
 ghost use Rattle.plan_model.specs.Network.{Network, IsPlan};
 ghost use Rattle.plan_model.specs.Steps.{step};
 ghost use Rattle.plan_model.specs.Verdicts.{last, HasSpot, Safe};
+ghost use Rattle.plan_margin.specs.declared.loss_kinds.LossKinds.{LossKinds};
+ghost use Rattle.plan_margin.specs.declared.loss_kinds.LossKinds.TheVariants.{Points, PointsAndSubsystems};
 ghost use Rattle.plan_margin.specs.declared.stop.Stop.{Stop};
 ghost use Rattle.plan_margin.specs.declared.margin.Margin.TheVariants.{Stopped, Survives, SurvivesAny};
-ghost use Rattle.plan_margin.specs.Outages.{IsPointMark, Arrives, route_in, IsUp, IsBlocked, with_sccp};
+ghost use Rattle.plan_margin.specs.Outages.{IsPointMark, Outage, SurvivesBelow, SurvivesAll};
+ghost use Rattle.plan_margin.specs.Outages.{Arrives, route_in, IsUp, IsBlocked, with_sccp};
 ghost use Rattle.plan_margin.specs.Margins.{IsMargin};
 
-/// A cover has one margin. Two numbers of points that stop a title, of which no fewer do, are the same. A number of points that
-/// the cover survives is below that number, and there is none that stops a title if it survives any.
+/// A cover has one margin of each kind. Two numbers of losses that stop a title, of which no fewer do, are the same. A number of
+/// losses that the cover survives is below that number, and there is none that stops a title if it survives any.
 pub fn margins_are_one()
-    ensures number { (plan : Network) (number losses others : ℕ) (a b : Stop) (x : IsMargin plan number losses (Stopped a))
-        (y : IsMargin plan number others (Stopped b)) → x.0 ≡ y.0 }
-    ensures survives { (plan : Network) (number losses others : ℕ) (a : Stop) (x : IsMargin plan number losses (Stopped a))
-        → IsMargin plan number others Survives → others < x.0 }
-    ensures any { (plan : Network) (number losses others : ℕ) (a : Stop) → IsMargin plan number losses (Stopped a)
-        → IsMargin plan number others SurvivesAny → ⊥ }
+    ensures number { (plan : Network) (kinds : LossKinds) (number losses others : ℕ) (a b : Stop)
+        (x : IsMargin plan kinds number losses (Stopped a)) (y : IsMargin plan kinds number others (Stopped b)) → x.0 ≡ y.0 }
+    ensures survives { (plan : Network) (kinds : LossKinds) (number losses others : ℕ) (a : Stop)
+        (x : IsMargin plan kinds number losses (Stopped a)) → IsMargin plan kinds number others Survives → others < x.0 }
+    ensures any { (plan : Network) (kinds : LossKinds) (number losses others : ℕ) (a : Stop)
+        → IsMargin plan kinds number losses (Stopped a) → IsMargin plan kinds number others SurvivesAny → ⊥ }
+{}
+
+/// If subsystems count as well, a cover survives no more. What survives any losses of both kinds survives any loss of points, and
+/// outages of points by themselves are those that only hold their marks.
+pub fn subsystems_add_losses()
+    ensures below { (plan : Network) (number count : ℕ) → SurvivesBelow plan PointsAndSubsystems number count
+        → SurvivesBelow plan Points number count }
+    ensures any { (plan : Network) (number : ℕ) → SurvivesAll plan PointsAndSubsystems number → SurvivesAll plan Points number }
+    ensures points { (plan : Network) (number : ℕ) (marks : List Mark) → Outage plan Points number marks → All IsPointMark marks }
 {}
 
 /// In a safe plan, a title that an outage stops is blocked: all targets at its last relay are closed. It has no more hops than the

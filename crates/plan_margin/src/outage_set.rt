@@ -1,29 +1,30 @@
 //! Sets of outages that are followed together.
 ghost use Rattle.std.specs.Prelude.{◌≡◌, ◌||◌, IfOk};
 ghost use Rattle.sccp_base.specs.declared.mark.Mark.{Mark};
-ghost use Rattle.sccp_base.specs.declared.mark.Mark.TheVariants.{PointCode as PointMark};
 ghost use Rattle.sccp_base.specs.Marks.{holds, same_mark, IsAscending};
 
-use sccp_base::{Mark, Marking, OutOfMemory, PointCode};
+use crate::loss_kinds::LossKinds;
+use sccp_base::{Mark, Marking, OutOfMemory};
 use std::alloc::Global;
 
-/// The outages in which some points are lost and some others are not. Those with more than `most` points do not count.
+/// The outages with some losses and without some others. Those with more than `most` losses do not count.
 #[derive(Drop)]
 pub(crate) struct OutageSet {
-    /// Points that are lost in each of the outages, as marks.
+    pub kinds: LossKinds,
+    /// The losses of each of the outages, as marks.
     pub lost: Marking,
-    /// Points that are not lost in any of them, as marks.
+    /// What none of them takes away, as marks.
     pub up: Marking,
-    /// The most points of an outage that counts.
+    /// The most losses of an outage that counts.
     pub most: u8,
 }
 
-/// These marks, and that of one more point.
-fn with_point(alloc: Global, marks: &Marking, point: PointCode) -> Result<Marking, OutOfMemory>
-    ensures { IfOk result (λ more. (m : Mark) → holds more m ≡ (same_mark (PointMark point) m || holds marks.now m)) }
+/// These marks, and one more.
+fn with_mark(alloc: Global, marks: &Marking, mark: Mark) -> Result<Marking, OutOfMemory>
+    ensures { IfOk result (λ more. (m : Mark) → holds more m ≡ (same_mark mark m || holds marks.now m)) }
 {
     let mut more = marks.try_clone(alloc)?;
-    match more.prohibit(Mark::PointCode(point)) {
+    match more.prohibit(mark) {
         Ok(()) => Ok(more),
         Err(fault) => {
             drop(more);
@@ -33,15 +34,17 @@ fn with_point(alloc: Global, marks: &Marking, point: PointCode) -> Result<Markin
 }
 
 impl OutageSet {
-    /// The outages of the set in which this point is not lost.
-    pub(crate) fn with_up(&self, alloc: Global, point: PointCode) -> Result<OutageSet, OutOfMemory>
+    /// The outages of the set in which this mark is not held.
+    pub(crate) fn with_up(&self, alloc: Global, mark: Mark) -> Result<OutageSet, OutOfMemory>
+        ensures kinds { IfOk result (λ set. set.kinds ≡ self.now.kinds) }
         ensures most { IfOk result (λ set. set.most ≡ self.now.most) }
         ensures lost { IfOk result (λ set. set.lost ≡ self.now.lost) }
-        ensures up { IfOk result (λ set. (m : Mark) → holds set.up m ≡ (same_mark (PointMark point) m || holds self.now.up m)) }
+        ensures up { IfOk result (λ set. (m : Mark) → holds set.up m ≡ (same_mark mark m || holds self.now.up m)) }
     {
         let lost = self.lost.try_clone(alloc)?;
-        match with_point(alloc, &self.up, point) {
+        match with_mark(alloc, &self.up, mark) {
             Ok(up) => Ok(OutageSet {
+                kinds: self.kinds,
                 lost,
                 up,
                 most: self.most,
@@ -53,22 +56,20 @@ impl OutageSet {
         }
     }
 
-    /// The outages of the set in which this point is lost.
-    pub(crate) fn with_lost(
-        &self,
-        alloc: Global,
-        point: PointCode,
-    ) -> Result<OutageSet, OutOfMemory>
+    /// The outages of the set in which it is held.
+    pub(crate) fn with_lost(&self, alloc: Global, mark: Mark) -> Result<OutageSet, OutOfMemory>
+        ensures kinds { IfOk result (λ set. set.kinds ≡ self.now.kinds) }
         ensures most { IfOk result (λ set. set.most ≡ self.now.most) }
-        ensures lost { IfOk result (λ set. (m : Mark) → holds set.lost m ≡ (same_mark (PointMark point) m || holds self.now.lost m)) }
+        ensures lost { IfOk result (λ set. (m : Mark) → holds set.lost m ≡ (same_mark mark m || holds self.now.lost m)) }
         ensures up { IfOk result (λ set. set.up ≡ self.now.up) }
         ensures ascending { IfOk result (λ set. IsAscending set.lost) }
     {
         let up = self.up.try_clone(alloc)?;
-        match with_point(alloc, &self.lost, point) {
+        match with_mark(alloc, &self.lost, mark) {
             Ok(lost) => {
                 let _marks = lost.marks();
                 Ok(OutageSet {
+                    kinds: self.kinds,
                     lost,
                     up,
                     most: self.most,

@@ -7,17 +7,17 @@ ghost use Rattle.plan_classes.specs.Leading.{ImageIsExact};
 ghost use Rattle.plan_margin.specs.declared.found.Found.TheVariants.{Stopped as StoppedFound};
 ghost use Rattle.plan_margin.specs.Searching.{MayExplore, IsOutageSet, IsFound, IsFoundIf, IsWithinLimit, most_ways, PassesOver, TakesIn};
 ghost use Rattle.plan_margin.specs.Searching.{IsTurn};
-ghost use Rattle.plan_margin.specs.Searching.{IsInWith, IsTurnBy, point_of_target};
+ghost use Rattle.plan_margin.specs.Searching.{IsInWith};
 ghost use Rattle.plan_margin.specs.declared.turn.Turn.TheVariants.{Either};
 ghost use Rattle.plan_margin.specs.Ways.{AtClass, AtClasses, AtTargets, AtTarget, Counts, CountsUp, CountsLost};
 
 use crate::found::{Found, joined};
 use crate::outage_set::OutageSet;
-use crate::turn::Turn;
+use crate::turn::{Turn, turn_at};
 use plan_check::allows;
 use plan_classes::{Class, Image, carry_back, class_row, decided, image_by, parts, sample};
-use plan_model::{Node, Plan};
-use plan_rules::{Row, Target};
+use plan_model::Plan;
+use plan_rules::Row;
 use sccp_base::{Digits, Mark, OutOfMemory, PointCode};
 use std::alloc::Global;
 
@@ -37,7 +37,7 @@ pub(crate) fn explore(
 ) -> Result<Found, OutOfMemory>
     requires left { left ≤ 14 }
     requires may { MayExplore plan.now class.now }
-    requires set { IsOutageSet set.now }
+    requires set { IsOutageSet plan.now set.now }
     requires few { count.old < most_ways }
     ensures found { IfOk result (IsFound plan.now class.now left set.now) }
     ensures limit { IfOk result (λ found. IsWithinLimit found count.new) }
@@ -57,7 +57,7 @@ pub(crate) fn explore(
     }
 }
 
-/// The title with these digits, and the points that are lost in each outage of the set.
+/// The title with these digits, and the losses of each outage of the set.
 fn stopped(alloc: Global, set: &OutageSet, digits: Digits) -> Result<Found, OutOfMemory>
     ensures { IfOk result (λ found. found ≡ StoppedFound digits set.now.lost) }
 {
@@ -80,7 +80,7 @@ fn explore_parts(
     requires left { left ≤ 14 }
     requires may { MayExplore plan.now class.now }
     requires more { 0 < class.now.most }
-    requires set { IsOutageSet set.now }
+    requires set { IsOutageSet plan.now set.now }
     requires few { count.old < most_ways }
     ensures found { IfOk result (IsFound plan.now class.now left set.now) }
     ensures limit { IfOk result (λ found. IsWithinLimit found count.new) }
@@ -112,7 +112,7 @@ fn explore_targets(
     requires may { MayExplore plan.now class.now }
     requires class { IsClass class.now }
     requires decided { Decided plan.now class.now }
-    requires set { IsOutageSet set.now }
+    requires set { IsOutageSet plan.now set.now }
     requires few { count.old < most_ways }
     ensures found { IfOk result (IsFound plan.now class.now left set.now) }
     ensures limit { IfOk result (λ found. IsWithinLimit found count.new) }
@@ -121,49 +121,6 @@ fn explore_targets(
     match class_row(plan, class) {
         Some(row) => follow_row(alloc, plan, class, row, 0, left, set, count),
         None => stopped(alloc, set, sample(class)),
-    }
-}
-
-/// What the set says of the target at a place of the class's row.
-fn turn_at(plan: &Plan, class: &Class, row: &Row, place: u8, set: &OutageSet) -> Turn
-    requires node { class.now.node < length plan.now.nodes }
-    requires row { class_row plan.now class.now ≡ Some row.now }
-    ensures turn { IsTurn plan.now class.now place set.now result }
-    ensures few { length row.now.targets ≤ 8 }
-{
-    let node = &plan.nodes().as_slice()[usize::from(class.node())];
-    match row.targets().get(usize::from(place)) {
-        None => Turn::Past,
-        Some(target) => turn_of(node, target, set),
-    }
-}
-
-/// What the set says of a target of the node.
-fn turn_of(node: &Node, target: &Target, set: &OutageSet) -> Turn
-    ensures { IsTurnBy (point_of_target node.now target.now) set.now result }
-{
-    match target {
-        Target::Relay { pc, .. } => turn_by(*pc, set),
-        Target::Final { pc, .. } => {
-            if *pc == node.pc {
-                Turn::Taken
-            } else {
-                turn_by(*pc, set)
-            }
-        }
-    }
-}
-
-/// What the set says of a target that is closed if this point is lost.
-fn turn_by(point: PointCode, set: &OutageSet) -> Turn
-    ensures { IsTurnBy (Some point) set.now result }
-{
-    if set.lost.holds(Mark::PointCode(point)) {
-        Turn::Lost
-    } else if set.up.holds(Mark::PointCode(point)) {
-        Turn::Taken
-    } else {
-        Turn::Either(point)
     }
 }
 
@@ -186,7 +143,7 @@ fn follow_row(
     requires decided { Decided plan.now class.now }
     requires row { class_row plan.now class.now ≡ Some row.now }
     requires passes { PassesOver plan.now class.now place set.now }
-    requires set { IsOutageSet set.now }
+    requires set { IsOutageSet plan.now set.now }
     requires few { count.old < most_ways }
     ensures found { IfOk result (IsFound plan.now class.now left set.now) }
     ensures limit { IfOk result (λ found. IsWithinLimit found count.new) }
@@ -196,13 +153,13 @@ fn follow_row(
         Turn::Past => stopped(alloc, set, sample(class)),
         Turn::Lost => follow_row(alloc, plan, class, row, place + 1, left, set, count),
         Turn::Taken => follow_target(alloc, plan, class, row, place, left, set, count),
-        Turn::Either(point) => follow_either(
-            alloc, plan, class, row, place, left, point, set, count,
+        Turn::Either(mark) => follow_either(
+            alloc, plan, class, row, place, left, &mark, set, count,
         ),
     }
 }
 
-/// Looks for a stopped title, first if the point of the target at a place is not lost, then if it is.
+/// Looks for a stopped title, first if a mark that closes the target at a place is not held, then if it is.
 #[cycle(search)]
 fn follow_either(
     alloc: Global,
@@ -211,7 +168,7 @@ fn follow_either(
     row: &Row,
     place: u8,
     left: u8,
-    point: PointCode,
+    mark: &Mark,
     set: &OutageSet,
     count: &mut u32,
 ) -> Result<Found, OutOfMemory>
@@ -223,23 +180,24 @@ fn follow_either(
     requires row { class_row plan.now class.now ≡ Some row.now }
     requires short { length row.now.targets ≤ 8 }
     requires passes { PassesOver plan.now class.now place set.now }
-    requires turn { IsTurn plan.now class.now place set.now (Either point) }
-    requires set { IsOutageSet set.now }
+    requires turn { IsTurn plan.now class.now place set.now (Either mark.now) }
+    requires set { IsOutageSet plan.now set.now }
     requires few { count.old < most_ways }
     ensures found { IfOk result (IsFound plan.now class.now left set.now) }
     ensures limit { IfOk result (λ found. IsWithinLimit found count.new) }
     ensures ways { OnOk result (Counts plan.now set.now left (AtTargets class.now place) count.old count.new) }
 {
-    match follow_up(alloc, plan, class, row, place, left, point, set, count)? {
+    match follow_up(alloc, plan, class, row, place, left, mark, set, count)? {
         Found::Through { cut } => {
-            let found = follow_lost(alloc, plan, class, row, place, left, point, set, count)?;
+            let found = follow_lost(alloc, plan, class, row, place, left, mark, set, count)?;
             Ok(joined(cut, found))
         }
         found => Ok(found),
     }
 }
 
-/// Looks for a stopped title in the outages of the set in which the target's point is not lost.
+/// Looks for a stopped title in the outages of the set in which the mark is not held. The target may have further marks, so it is
+/// looked at again.
 #[cycle(search)]
 fn follow_up(
     alloc: Global,
@@ -248,7 +206,7 @@ fn follow_up(
     row: &Row,
     place: u8,
     left: u8,
-    point: PointCode,
+    mark: &Mark,
     set: &OutageSet,
     count: &mut u32,
 ) -> Result<Found, OutOfMemory>
@@ -259,21 +217,21 @@ fn follow_up(
     requires decided { Decided plan.now class.now }
     requires row { class_row plan.now class.now ≡ Some row.now }
     requires passes { PassesOver plan.now class.now place set.now }
-    requires turn { IsTurn plan.now class.now place set.now (Either point) }
-    requires set { IsOutageSet set.now }
+    requires turn { IsTurn plan.now class.now place set.now (Either mark.now) }
+    requires set { IsOutageSet plan.now set.now }
     requires few { count.old < most_ways }
-    ensures found { IfOk result (IsFoundIf plan.now class.now left set.now.most (IsInWith set.now point false)) }
+    ensures found { IfOk result (IsFoundIf plan.now class.now left set.now.most (IsInWith plan.now set.now mark.now false)) }
     ensures limit { IfOk result (λ found. IsWithinLimit found count.new) }
-    ensures ways { OnOk result (CountsUp plan.now set.now left class.now place point count.old count.new) }
+    ensures ways { OnOk result (CountsUp plan.now set.now left class.now place mark.now count.old count.new) }
 {
-    let with_up = set.with_up(alloc, point)?;
-    let found = follow_target(alloc, plan, class, row, place, left, &with_up, count);
+    let with_up = set.with_up(alloc, *mark)?;
+    let found = follow_row(alloc, plan, class, row, place, left, &with_up, count);
     drop(with_up);
     found
 }
 
-/// Looks for a stopped title in the outages of the set in which the target's point is lost. If as many points are lost already
-/// as may be, the search is cut.
+/// Looks for a stopped title in the outages of the set in which the mark is held. If there are as many losses already as there may
+/// be, the search is cut.
 #[cycle(search)]
 fn follow_lost(
     alloc: Global,
@@ -282,7 +240,7 @@ fn follow_lost(
     row: &Row,
     place: u8,
     left: u8,
-    point: PointCode,
+    mark: &Mark,
     set: &OutageSet,
     count: &mut u32,
 ) -> Result<Found, OutOfMemory>
@@ -294,17 +252,17 @@ fn follow_lost(
     requires row { class_row plan.now class.now ≡ Some row.now }
     requires short { length row.now.targets ≤ 8 }
     requires passes { PassesOver plan.now class.now place set.now }
-    requires turn { IsTurn plan.now class.now place set.now (Either point) }
-    requires set { IsOutageSet set.now }
+    requires turn { IsTurn plan.now class.now place set.now (Either mark.now) }
+    requires set { IsOutageSet plan.now set.now }
     requires few { count.old < most_ways }
-    ensures found { IfOk result (IsFoundIf plan.now class.now left set.now.most (IsInWith set.now point true)) }
+    ensures found { IfOk result (IsFoundIf plan.now class.now left set.now.most (IsInWith plan.now set.now mark.now true)) }
     ensures limit { IfOk result (λ found. IsWithinLimit found count.new) }
-    ensures ways { OnOk result ((count.new ≡ count.old) ⊎ CountsLost plan.now set.now left class.now place point count.old count.new) }
+    ensures ways { OnOk result ((count.new ≡ count.old) ⊎ CountsLost plan.now set.now left class.now place mark.now count.old count.new) }
 {
     if set.lost.marks().len() == usize::from(set.most) {
         return Ok(Found::Through { cut: true });
     }
-    let with_lost = set.with_lost(alloc, point)?;
+    let with_lost = set.with_lost(alloc, *mark)?;
     let found = follow_row(alloc, plan, class, row, place + 1, left, &with_lost, count);
     drop(with_lost);
     found
@@ -330,7 +288,7 @@ fn follow_target(
     requires row { class_row plan.now class.now ≡ Some row.now }
     requires place { place < length row.now.targets }
     requires takes { TakesIn plan.now class.now place set.now }
-    requires set { IsOutageSet set.now }
+    requires set { IsOutageSet plan.now set.now }
     requires few { count.old < most_ways }
     ensures found { IfOk result (IsFound plan.now class.now left set.now) }
     ensures limit { IfOk result (λ found. IsWithinLimit found count.new) }
@@ -396,7 +354,7 @@ fn end_at(
     requires decided { Decided plan.now class.now }
     requires exact { ImageIsExact plan.now class.now place (Ends pc ssn) }
     requires takes { TakesIn plan.now class.now place set.now }
-    requires set { IsOutageSet set.now }
+    requires set { IsOutageSet plan.now set.now }
     ensures found { IfOk result (IsFound plan.now class.now left set.now) }
     ensures limit { (count : ℕ) → count < most_ways → IfOk result (λ found. IsWithinLimit found count) }
 {

@@ -2,6 +2,7 @@
 use Rattle.std.specs.Prelude.{ℕ, List}
 use Rattle.sccp_work.specs.PlanFile.{PlanFile}
 use Rattle.sccp_tool.specs.declared.connect.Calling.{Calling}
+use Rattle.sccp_tool.specs.declared.loss_limit.LossLimit.{LossLimit}
 use Rattle.sccp_tool.specs.declared.send_on.Incoming.{Incoming}
 use Rattle.sccp_tool.specs.declared.start.Start.{Start}
 
@@ -32,5 +33,5 @@ pub data Task : Type 0 where
   Covers : PlanFile → Task
   -- lists what no covered title of the plan of this file can use
   Unused : PlanFile → Task
-  -- says how many points can be lost before a title of a cover is stopped, up to this number, of the plan of this file
-  Margin : PlanFile → ℕ → Task
+  -- says how many losses there can be before a title of a cover is stopped, up to this number of these kinds, of the plan of this file
+  Margin : PlanFile → LossLimit → Task

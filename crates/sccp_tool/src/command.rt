@@ -54,7 +54,7 @@ pub enum Command<'a> {
     Covers(PlanPath<'a>),
     /// To list what no covered title of the plan of this file can use.
     Unused(PlanPath<'a>),
-    /// To say how many points can be lost before a title of a cover is stopped, of the plan of this file.
+    /// To say how many losses there can be before a title of a cover is stopped, of the plan of this file.
     Margin(PlanPath<'a>, Losses),
 }
 

@@ -24,6 +24,7 @@ mod covers;
 mod cuts;
 mod import;
 mod load;
+mod loss_limit;
 mod losses;
 mod margin;
 mod margin_tally;

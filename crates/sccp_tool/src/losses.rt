@@ -1,25 +1,32 @@
-//! The number of lost points that is asked for.
+//! The number of losses that is asked for.
 ghost use Rattle.std.specs.Prelude.{◌≡◌, ◌≤◌, option_map};
-ghost use Rattle.sccp_tool.specs.Margin.{losses_in};
+ghost use Rattle.sccp_tool.specs.Margin.{limit_in};
 
+use crate::loss_limit::LossLimit;
+use plan_margin::LossKinds;
 use sccp_base::decimal;
 
-/// Up to how many lost points are asked for.
+/// Up to how many losses are asked for, and of which kinds.
 #[derive(Drop)]
 pub struct Losses {
-    count: u8,
-    ghost few: { count ≤ 99 },
+    limit: LossLimit,
+    ghost few: { limit.most ≤ 99 },
 }
 
 impl Losses {
     /// The number that one or two decimal digits spell, or none for another word.
-    pub fn parse(word: &[u8]) -> Option<Losses>
-        ensures { option_map (λ (l : _). l.count) result ≡ losses_in word.now }
+    pub fn parse(word: &[u8], kinds: LossKinds) -> Option<Losses>
+        ensures { option_map (λ (l : _). l.limit) result ≡ limit_in kinds word.now }
     {
         match decimal(word, 2) {
             Some(count) => {
                 if count < 100 {
-                    Some(Losses { count: count as u8 })
+                    Some(Losses {
+                        limit: LossLimit {
+                            kinds,
+                            most: count as u8,
+                        },
+                    })
                 } else {
                     None
                 }
@@ -28,11 +35,11 @@ impl Losses {
         }
     }
 
-    /// The number of lost points, at most 99.
-    pub fn count(&self) -> u8
-        ensures value { result ≡ self.now.count }
-        ensures few { result ≤ 99 }
+    /// The number of losses, at most 99, and their kinds.
+    pub fn limit(&self) -> &LossLimit
+        ensures value { result.now ≡ self.now.limit }
+        ensures few { result.now.most ≤ 99 }
     {
-        self.count
+        &self.limit
     }
 }

@@ -1,10 +1,10 @@
-//! The command that says how many points can be lost before a title of a cover is stopped.
+//! The command that says how many losses there can be before a title of a cover is stopped.
 ghost use Rattle.std.specs.Prelude.{◌≡◌, ◌+◌, ◌<◌, ◌≤◌, length, IfOk};
 ghost use Rattle.plan_margin.specs.Margins.{IsMargin};
 ghost use Rattle.plan_model.specs.Network.{IsPlan};
 ghost use Rattle.sccp_report.specs.Margins.{margin_text};
 ghost use Rattle.sccp_tool.specs.Commands.{texts};
-ghost use Rattle.sccp_tool.specs.Margin.{margin_with, margin_words, margin_work, GivesNext, GivesTally};
+ghost use Rattle.sccp_tool.specs.Margin.{margin_with, margin_of_kinds, margin_words, margin_work, GivesNext, GivesTally};
 ghost use Rattle.sccp_tool.specs.MarginTallies.{total};
 ghost use Rattle.sccp_tool.specs.Parsed.{task_in};
 ghost use Rattle.sccp_work.specs.Ending.{Works};
@@ -12,9 +12,10 @@ ghost use Rattle.sccp_work.specs.Moment.{Moment, moment, with_sink};
 ghost use Rattle.sccp_work.specs.Writing.{Writes};
 
 use crate::command::Command;
+use crate::loss_limit::LossLimit;
 use crate::losses::Losses;
 use crate::margin_tally::MarginTally;
-use plan_margin::{Margin, find_margin};
+use plan_margin::{LossKinds, Margin, find_margin};
 use plan_model::{Limits, Plan};
 use sccp_io::{Files, Sink};
 use sccp_report::margin_text;
@@ -22,32 +23,57 @@ use sccp_work::{PlanPath, Status, Stop, print_last, put_all, with_accepted};
 use std::alloc::Global;
 use trace_text::is_file_name;
 
-/// The command of the words `PLAN LOSSES`, or none if they have another shape.
+/// The command of the words `PLAN LOSSES` or `PLAN LOSSES subsystems`, or none if they have another shape.
 #[tactic(auto, unfolding(crate::specs::Margin::margin_words))]
 pub fn margin_words<'a>(limits: Limits, words: &'a [String]) -> Option<Command<'a>>
     ensures { task_in result ≡ margin_words limits (texts words.now) }
 {
     match words {
-        [name, losses] => margin_with(limits, name.as_str(), losses.as_str()),
+        [name, losses] => margin_with(limits, LossKinds::Points, name.as_str(), losses.as_str()),
+        [name, losses, kinds] => {
+            margin_of_kinds(limits, name.as_str(), losses.as_str(), kinds.as_str())
+        }
         _ => None,
     }
 }
 
-/// The command of these two words.
+/// The command of these words, the last of which says that subsystems count as well.
+#[tactic(auto, unfolding(crate::specs::Margin::margin_of_kinds))]
+fn margin_of_kinds<'a>(
+    limits: Limits,
+    name: &'a str,
+    losses: &str,
+    kinds: &str,
+) -> Option<Command<'a>>
+    ensures { task_in result ≡ margin_of_kinds limits name.now losses.now kinds.now }
+{
+    if kinds == "subsystems" {
+        margin_with(limits, LossKinds::PointsAndSubsystems, name, losses)
+    } else {
+        None
+    }
+}
+
+/// The command of these two words, if losses of these kinds count.
 #[tactic(auto, unfolding(crate::specs::Margin::margin_with))]
-fn margin_with<'a>(limits: Limits, name: &'a str, losses: &str) -> Option<Command<'a>>
-    ensures { task_in result ≡ margin_with limits name.now losses.now }
+fn margin_with<'a>(
+    limits: Limits,
+    kinds: LossKinds,
+    name: &'a str,
+    losses: &str,
+) -> Option<Command<'a>>
+    ensures { task_in result ≡ margin_with limits kinds name.now losses.now }
 {
     if !is_file_name(name.as_bytes()) {
         return None;
     }
-    match Losses::parse(losses.as_bytes()) {
+    match Losses::parse(losses.as_bytes(), kinds) {
         Some(losses) => Some(Command::Margin(PlanPath::new(name, limits), losses)),
         None => None,
     }
 }
 
-/// Prints for each cover of the plan of a file how many points can be lost before a title of the cover is stopped, and what these
+/// Prints for each cover of the plan of a file how many losses there can be before a title of the cover is stopped, and what these
 /// numbers come to. The plan has to be accepted.
 pub fn margin<F: Files, K: Sink>(
     alloc: Global,
@@ -56,16 +82,16 @@ pub fn margin<F: Files, K: Sink>(
     files: &mut F,
     out: &mut K,
 ) -> Result<Status, Stop>
-    ensures { Works (margin_work file.now losses.now.count) result
+    ensures { Works (margin_work file.now losses.now.limit) result
         (moment F.contents F.sound F.faults K.taken K.faults files.old out.old)
         (moment F.contents F.sound F.faults K.taken K.faults files.new out.new) }
 {
-    let losses = losses.count();
+    let limit = losses.limit();
     let accepted = with_accepted(alloc, b"", file, files, out)?;
-    let tally = measure_covers(alloc, accepted.plan(), losses, out);
+    let tally = measure_covers(alloc, accepted.plan(), limit, out);
     drop(accepted);
     let tally = tally?;
-    let line = tally.line(alloc, losses)?;
+    let line = tally.line(alloc, limit.most)?;
     print_last(out, line.as_slice(), tally.status())
 }
 
@@ -73,17 +99,17 @@ pub fn margin<F: Files, K: Sink>(
 fn measure_covers<K: Sink>(
     alloc: Global,
     plan: &Plan,
-    losses: u8,
+    limit: &LossLimit,
     out: &mut K,
 ) -> Result<MarginTally, Stop>
-    requires few { losses ≤ 99 }
-    ensures { (any : Moment) → GivesTally plan.now losses result
+    requires few { limit.now.most ≤ 99 }
+    ensures { (any : Moment) → GivesTally plan.now limit.now result
         (with_sink any K.taken K.faults out.old) (with_sink any K.taken K.faults out.new) }
 {
     let mut tally = MarginTally::NONE;
     let count = plan.covers().as_slice().len() as u16;
     for number in 0..count {
-        tally = measure_cover(alloc, plan, number, losses, tally, out)?;
+        tally = measure_cover(alloc, plan, number, limit, tally, out)?;
     }
     Ok(tally)
 }
@@ -93,20 +119,20 @@ fn measure_cover<K: Sink>(
     alloc: Global,
     plan: &Plan,
     number: u16,
-    losses: u8,
+    limit: &LossLimit,
     tally: MarginTally,
     out: &mut K,
 ) -> Result<MarginTally, Stop>
     requires plan { IsPlan plan.now }
     requires cover { number < length plan.now.covers }
-    requires few { losses ≤ 99 }
+    requires few { limit.now.most ≤ 99 }
     requires counted { total tally ≤ number }
-    ensures gives { (any : Moment) → GivesNext plan.now losses number tally result
+    ensures gives { (any : Moment) → GivesNext plan.now limit.now number tally result
         (with_sink any K.taken K.faults out.old) (with_sink any K.taken K.faults out.new) }
     ensures one_more { IfOk result (λ next. total next ≤ number + 1) }
 {
-    let margin = find_margin(alloc, plan, number, losses)?;
-    match print_margin(alloc, number, plan, losses, &margin, out) {
+    let margin = find_margin(alloc, plan, number, limit.kinds, limit.most)?;
+    match print_margin(alloc, number, plan, limit, &margin, out) {
         Ok(()) => {
             let next = tally.counted(&margin);
             drop(margin);
@@ -124,15 +150,15 @@ fn print_margin<K: Sink>(
     alloc: Global,
     number: u16,
     plan: &Plan,
-    losses: u8,
+    limit: &LossLimit,
     margin: &Margin,
     out: &mut K,
 ) -> Result<(), Stop>
     requires plan { IsPlan plan.now }
-    requires lawful { IsMargin plan.now number losses margin.now }
-    ensures { Writes (margin_text number plan.now losses margin.now) result (K.taken out.old) (K.taken out.new) (K.faults out.old)
+    requires lawful { IsMargin plan.now limit.now.kinds number limit.now.most margin.now }
+    ensures { Writes (margin_text number plan.now limit.now.most margin.now) result (K.taken out.old) (K.taken out.new) (K.faults out.old)
         (K.faults out.new) }
 {
-    let text = margin_text(alloc, number, plan, losses, margin)?;
+    let text = margin_text(alloc, number, plan, limit.most, margin)?;
     put_all(out, text.as_slice())
 }

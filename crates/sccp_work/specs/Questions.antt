@@ -3,6 +3,7 @@ use Rattle.std.specs.Prelude.{ℕ}
 use Rattle.plan_change.specs.Changes.{IsLawfulChange}
 use Rattle.plan_change.specs.declared.answer.Change.{Change}
 use Rattle.plan_margin.specs.Margins.{IsMargin}
+use Rattle.plan_margin.specs.declared.loss_kinds.LossKinds.{LossKinds}
 use Rattle.plan_margin.specs.declared.margin.Margin.{Margin}
 use Rattle.plan_model.specs.Network.{Network, IsPlan}
 use Rattle.plan_model.specs.SameNodes.{SameNodes}
@@ -19,13 +20,13 @@ pub data Question : Type 0 where
   -- what can no covered title use?
   survey_of : Network → Question
   -- how many points can be lost before a title of the cover of this number is stopped, if up to so many are asked for?
-  margin_of : Network → ℕ → ℕ → Question
+  margin_of : Network → LossKinds → ℕ → ℕ → Question
 
 abbrev pub Reply : Question → Type 0
 Reply (verdict_on plan) = Verdict
 Reply (mixture_of old new) = Change
 Reply (survey_of plan) = Survey
-Reply (margin_of plan number losses) = Margin
+Reply (margin_of plan kinds number losses) = Margin
 
 -- a plan, and a verdict that is true of it
 abbrev pub IsJudged : Network → Verdict → Type 0
@@ -40,12 +41,12 @@ abbrev pub IsSurveyed : Network → Survey → Type 0
 IsSurveyed plan survey = IsPlan plan × IsLawfulSurvey plan survey
 
 -- a plan, and a margin of one of its covers
-abbrev pub IsMeasured : Network → ℕ → ℕ → Margin → Type 0
-IsMeasured plan number losses margin = IsPlan plan × IsMargin plan number losses margin
+abbrev pub IsMeasured : Network → LossKinds → ℕ → ℕ → Margin → Type 0
+IsMeasured plan kinds number losses margin = IsPlan plan × IsMargin plan kinds number losses margin
 
 -- the reply is true
 abbrev pub IsTrueOf : (question : Question) → Reply question → Type 0
 IsTrueOf (verdict_on plan) verdict = IsJudged plan verdict
 IsTrueOf (mixture_of old new) change = IsCompared old new change
 IsTrueOf (survey_of plan) survey = IsSurveyed plan survey
-IsTrueOf (margin_of plan number losses) margin = IsMeasured plan number losses margin
+IsTrueOf (margin_of plan kinds number losses) margin = IsMeasured plan kinds number losses margin

@@ -2,6 +2,7 @@ use Rattle.std.proofs.Common.{ℕ, ◌≡◌, ◌+◌, ◌<◌, ◌∙◌, Bor, 
 use Rattle.std.proofs.lemmas.Bool.{false≢true}
 use Rattle.std.specs.Option.{option_copied}
 use Rattle.plan_rules.specs.Rule.{Rule}
+use Rattle.plan_model.specs.Steps.{marks as closing_marks}
 use Rattle.plan_model.specs.declared.hop.Step.TheVariants.{NoRow, Overgrown}
 use Rattle.plan_classes.specs.Titles.{Splits, parts_of}
 use Rattle.plan_classes.specs.Classes.{class_targets}
@@ -10,12 +11,13 @@ use Rattle.plan_margin.specs.declared.found.Found.{Found}
 use Rattle.plan_margin.specs.declared.found.Found.TheVariants.{Stopped}
 use Rattle.plan_margin.specs.declared.turn.Turn.{Turn}
 use Rattle.plan_margin.specs.declared.turn.Turn.TheVariants.{Lost, Taken, Either}
-use Rattle.plan_margin.specs.Searching.{IsFound, IsFoundIf, IsIn, IsInWith, IsTurn, IsTurnBy, StopsOne, point_of_target}
+use Rattle.plan_margin.specs.Searching.{IsFound, IsFoundIf, IsIn, IsInWith, IsTurn, IsTurnBy, StopsOne}
 use Rattle.plan_margin.specs.Searching.{IsWithUp, IsWithLost}
 use Rattle.plan_margin.specs.Ways.{AtClass, AtTargets, AtTarget}
 use Rattle.plan_margin.proofs.Passing.{opens_here}
-use Rattle.plan_margin.proofs.Sets.{lost_is_closed, taken_is_open, either_is_free, either_closes, either_opens}
-use Rattle.plan_margin.proofs.Sets.{passes_more, of_target_within, lost_set, up_set, lost_inner, up_inner, too_many}
+use Rattle.plan_margin.proofs.Sets.{lost_is_closed, taken_is_open, either_is_free, either_closes}
+use Rattle.plan_margin.proofs.Sets.{passes_more, passes_same, of_target_within, lost_set, up_set, lost_inner, up_inner, too_many}
+use Rattle.plan_margin.proofs.Measures.{few_free, less_free}
 use Rattle.plan_margin.proofs.Following.{ok_is, ok_map, no_row_stop, past_stop, target_stop, parts_more, parts_whole}
 use Rattle.plan_margin.proofs.Following.{lost_found, up_found}
 use Rattle.plan_margin.proofs.Counted.{counts_none, counts_one, counts_parts, counts_row, counts_before, before_first, before_next}
@@ -31,21 +33,23 @@ explore_parts-loop-part-preserved t c =
       counts = before_next c.args.plan.now c.args.set.now c.args.left c.as_slice-part-items.result.now c.loop-part.part-index
           c.args.count.now c.loop-part.count c.explore.new.count c.part-item.result c.loop-part-test.true c.part-item.is
           c.loop-part.invariant.counts c.in_ok-found.ensures.ways;
-      arrive = parts_more c.args.plan.now c.args.left c.args.set.now.most (IsIn c.args.set.now) c.as_slice-part-items.result.now
+      arrive = parts_more c.args.plan.now c.args.left c.args.set.now.most
+          (IsIn c.args.plan.now c.args.set.now) c.as_slice-part-items.result.now
           c.loop-part.part-index c.part-item.result c.loop-part.cut c.in-Through.other c.loop-part-test.true c.part-item.is
           c.loop-part.invariant.arrive found;
     }
 
 pub explore_parts-returns-clause-found : goal.explore_parts-returns-clause-found
 explore_parts-returns-clause-found t c =
-    parts_whole c.args.plan.now c.args.class.now c.args.left c.args.set.now.most (IsIn c.args.set.now) c.as_slice-part-items.result.now
+    parts_whole c.args.plan.now c.args.class.now c.args.left c.args.set.now.most
+    (IsIn c.args.plan.now c.args.set.now) c.as_slice-part-items.result.now
     c.loop-part.part-index c.loop-part.cut
     (subst (Splits c.args.class.now) (sym c.as_slice-part-items.ensures) c.in_ok-parts.ensures.splits) c.loop-part-test.false
     c.loop-part.invariant.arrive
 
 pub explore_targets-follow_row-requires : goal.explore_targets-follow_row-requires
 explore_targets-follow_row-requires t c = (
-  search rules,
+  omega (arith, few_free c.args.plan.now c.args.class.now 0 c.args.set.now),
   (
     c.requires.some,
     (
@@ -78,23 +82,25 @@ pub explore_targets-returns-in-None-clause-found : goal.explore_targets-returns-
 explore_targets-returns-in-None-clause-found t c =
     ok_is c.stopped.result (Stopped c.sample.result c.args.set.now.lost)
     (λ f. IsFound c.args.plan.now c.args.class.now c.args.left c.args.set.now f) c.stopped.ensures
-    (subst (λ (ds : List ℕ). StopsOne c.args.plan.now c.args.class.now c.args.left c.args.set.now.most (IsIn c.args.set.now) ds
+    (subst (λ (ds : List ℕ). StopsOne c.args.plan.now c.args.class.now c.args.left c.args.set.now.most
+    (IsIn c.args.plan.now c.args.set.now) ds
     c.args.set.now.lost) (sym c.sample.ensures.value)
     (no_row_stop c.args.plan.now c.args.class.now c.args.left c.args.set.now c.requires.class c.requires.set c.requires.some
     (sym c.class_row.ensures.value ∙ ap (λ (o : Option (Bor Rule)). option_copied o) c.in-None.is)))
 
 pub follow_lost-returns-then-marks-from-clause-found : goal.follow_lost-returns-then-marks-from-clause-found
 follow_lost-returns-then-marks-from-clause-found t c = record {
-  arrive = λ digits marks member inside few. absurd (too_many c.args.set.now c.args.point marks c.marks.ensures.ascending
+  arrive = λ digits marks member inside few. absurd (too_many c.args.plan.now c.args.set.now c.args.mark.now marks c.marks.ensures.ascending
       (let full : length c.args.set.now.lost ≡ c.args.set.now.most =
       omega (arith, c.if-marks-from.true, ap length c.marks.ensures.marks, c.from.ensures) in full)
-      (either_is_free c.args.plan.now c.args.class.now c.args.place c.args.point c.args.set.now c.requires.turn) inside (few refl));
+      (either_is_free c.args.plan.now c.args.class.now c.args.place c.args.mark.now c.args.set.now c.requires.turn) inside (few refl));
 }
 
 pub follow_lost-follow_row-found-requires : goal.follow_lost-follow_row-found-requires
 follow_lost-follow_row-found-requires t c =
     let more = c.in_ok-with_lost.with_lost in
-    let made : IsWithLost c.args.set.now c.args.point more = record {
+    let made : IsWithLost c.args.set.now c.args.mark.now more = record {
+      kinds = c.in_ok-with_lost.ensures.kinds;
       most = c.in_ok-with_lost.ensures.most;
       lost = c.in_ok-with_lost.ensures.lost;
       up = c.in_ok-with_lost.ensures.up;
@@ -102,8 +108,15 @@ follow_lost-follow_row-found-requires t c =
     } in
     let inside : c.args.place < length (class_targets c.args.plan.now c.args.class.now) =
     of_target_within c.args.plan.now c.args.class.now c.args.place
-    (λ node t. IsTurnBy (point_of_target node t) c.args.set.now (Either c.args.point)) c.requires.turn in (
-      search rules,
+    (λ node t. IsTurnBy c.args.plan.now (closing_marks node c.args.class.now.ssn t) c.args.set.now
+    (Either c.args.mark.now)) c.requires.turn in (
+      omega (
+        arith,
+        few_free c.args.plan.now c.args.class.now (c.args.place + 1) more,
+        inside,
+        ap length (row_targets c.args.plan.now c.args.class.now c.args.row.now c.requires.row),
+        c.requires.short,
+      ),
       (
         c.requires.some,
         (
@@ -118,12 +131,12 @@ follow_lost-follow_row-found-requires t c =
                   c.requires.row,
                   (
                     passes_more c.args.plan.now c.args.class.now c.args.place c.args.set.now more c.requires.passes
-                        (λ marks i. (lost_inner c.args.set.now more c.args.point marks made i).inside)
-                        (λ marks i. either_closes c.args.plan.now c.args.class.now c.args.place c.args.point c.args.set.now marks
-                        c.requires.turn (lost_inner c.args.set.now more c.args.point marks made i).held) inside,
+                        (λ marks i. (lost_inner c.args.plan.now c.args.set.now more c.args.mark.now marks made i).inside)
+                        (λ marks i. either_closes c.args.plan.now c.args.class.now c.args.place c.args.mark.now c.args.set.now marks
+                        c.requires.turn (lost_inner c.args.plan.now c.args.set.now more c.args.mark.now marks made i).held) inside,
                     (
-                      lost_set c.args.set.now more c.args.point c.requires.set
-                          (either_is_free c.args.plan.now c.args.class.now c.args.place c.args.point c.args.set.now c.requires.turn)
+                      lost_set c.args.plan.now c.args.set.now more c.args.mark.now c.requires.set
+                          (either_is_free c.args.plan.now c.args.class.now c.args.place c.args.mark.now c.args.set.now c.requires.turn)
                           (λ e. c.if-marks-from.false (omega (arith, e, ap length c.marks.ensures.marks, c.from.ensures))) made,
                       c.requires.few,
                     ),
@@ -139,15 +152,17 @@ follow_lost-follow_row-found-requires t c =
 pub follow_lost-returns-clause-found : goal.follow_lost-returns-clause-found
 follow_lost-returns-clause-found t c =
     let more = c.in_ok-with_lost.with_lost in
-    let made : IsWithLost c.args.set.now c.args.point more = record {
+    let made : IsWithLost c.args.set.now c.args.mark.now more = record {
+      kinds = c.in_ok-with_lost.ensures.kinds;
       most = c.in_ok-with_lost.ensures.most;
       lost = c.in_ok-with_lost.ensures.lost;
       up = c.in_ok-with_lost.ensures.up;
       ascending = c.in_ok-with_lost.ensures.ascending;
     } in
     ok_map c.follow_row-found.result (λ f. IsFound c.args.plan.now c.args.class.now c.args.left more f)
-    (λ f. IsFoundIf c.args.plan.now c.args.class.now c.args.left c.args.set.now.most (IsInWith c.args.set.now c.args.point true) f)
-    (λ f h. lost_found c.args.plan.now c.args.class.now c.args.left c.args.point c.args.set.now more f made h)
+    (λ f. IsFoundIf c.args.plan.now c.args.class.now c.args.left c.args.set.now.most
+    (IsInWith c.args.plan.now c.args.set.now c.args.mark.now true) f)
+    (λ f h. lost_found c.args.plan.now c.args.class.now c.args.left c.args.mark.now c.args.set.now more f made h)
     c.follow_row-found.ensures.found
 
 pub follow_row-follow_row-requires : goal.follow_row-follow_row-requires
@@ -156,8 +171,14 @@ follow_row-follow_row-requires t c =
     c.turn_at.ensures.turn in
     let inside : c.args.place < length (class_targets c.args.plan.now c.args.class.now) =
     of_target_within c.args.plan.now c.args.class.now c.args.place
-    (λ node t. IsTurnBy (point_of_target node t) c.args.set.now Lost) turn in (
-      search rules,
+    (λ node t. IsTurnBy c.args.plan.now (closing_marks node c.args.class.now.ssn t) c.args.set.now Lost) turn in (
+      omega (
+        arith,
+        few_free c.args.plan.now c.args.class.now (c.args.place + 1) c.args.set.now,
+        inside,
+        ap length (row_targets c.args.plan.now c.args.class.now c.args.row.now c.requires.row),
+        c.turn_at.ensures.few,
+      ),
       (
         c.requires.some,
         (
@@ -190,7 +211,7 @@ follow_row-follow_target-requires t c =
     c.turn_at.ensures.turn in
     let inside : c.args.place < length (class_targets c.args.plan.now c.args.class.now) =
     of_target_within c.args.plan.now c.args.class.now c.args.place
-    (λ node t. IsTurnBy (point_of_target node t) c.args.set.now Taken) turn in (
+    (λ node t. IsTurnBy c.args.plan.now (closing_marks node c.args.class.now.ssn t) c.args.set.now Taken) turn in (
       search rules,
       (
         c.requires.some,
@@ -226,7 +247,8 @@ follow_row-returns-in-Past-clause-found t c =
     c.turn_at.ensures.turn in
     ok_is c.stopped.result (Stopped c.sample.result c.args.set.now.lost)
     (λ f. IsFound c.args.plan.now c.args.class.now c.args.left c.args.set.now f) c.stopped.ensures
-    (subst (λ (ds : List ℕ). StopsOne c.args.plan.now c.args.class.now c.args.left c.args.set.now.most (IsIn c.args.set.now) ds
+    (subst (λ (ds : List ℕ). StopsOne c.args.plan.now c.args.class.now c.args.left c.args.set.now.most
+    (IsIn c.args.plan.now c.args.set.now) ds
     c.args.set.now.lost) (sym c.sample.ensures.value)
     (past_stop c.args.plan.now c.args.class.now c.args.left c.args.place c.args.set.now c.args.row.now c.requires.class c.requires.set
     c.requires.some c.requires.may.node c.requires.row c.requires.passes turn))
@@ -247,18 +269,16 @@ follow_target-returns-in-TooLong-clause-found t c =
     c.requires.class c.requires.decided c.requires.takes c.requires.set c.longest.ensures.0
     (c.in-TooLong.ensures.exact c.longest.result c.longest.ensures) refl (λ h. h))
 
-pub follow_up-follow_target-found-requires : goal.follow_up-follow_target-found-requires
-follow_up-follow_target-found-requires t c =
+pub follow_up-follow_row-found-requires : goal.follow_up-follow_row-found-requires
+follow_up-follow_row-found-requires t c =
     let more = c.in_ok-with_up.with_up in
-    let made : IsWithUp c.args.set.now c.args.point more = record {
+    let made : IsWithUp c.args.set.now c.args.mark.now more = record {
+      kinds = c.in_ok-with_up.ensures.kinds;
       most = c.in_ok-with_up.ensures.most;
       lost = c.in_ok-with_up.ensures.lost;
       up = c.in_ok-with_up.ensures.up;
-    } in
-    let inside : c.args.place < length (class_targets c.args.plan.now c.args.class.now) =
-    of_target_within c.args.plan.now c.args.class.now c.args.place
-    (λ node t. IsTurnBy (point_of_target node t) c.args.set.now (Either c.args.point)) c.requires.turn in (
-      search rules,
+    } in (
+      omega (arith, less_free c.args.plan.now c.args.class.now c.args.place c.args.mark.now c.args.set.now more c.requires.turn made),
       (
         c.requires.some,
         (
@@ -272,17 +292,13 @@ follow_up-follow_target-found-requires t c =
                 (
                   c.requires.row,
                   (
-                    omega (arith, inside, ap length (row_targets c.args.plan.now c.args.class.now c.args.row.now c.requires.row)),
+                    passes_same c.args.plan.now c.args.class.now c.args.place c.args.set.now more c.requires.passes
+                        (λ marks i. (up_inner c.args.plan.now c.args.set.now more c.args.mark.now marks made i).inside),
                     (
-                      λ marks i. opens_here c.args.plan.now c.args.class.now marks c.args.place
-                          (c.requires.passes.closed marks (up_inner c.args.set.now more c.args.point marks made i).inside)
-                          (either_opens c.args.plan.now c.args.class.now c.args.place c.args.point c.args.set.now marks i.points
-                          c.requires.turn (up_inner c.args.set.now more c.args.point marks made i).held),
-                      (
-                        up_set c.args.set.now more c.args.point c.requires.set
-                            (either_is_free c.args.plan.now c.args.class.now c.args.place c.args.point c.args.set.now c.requires.turn) made,
-                        c.requires.few,
-                      ),
+                      up_set c.args.plan.now c.args.set.now more c.args.mark.now c.requires.set
+                          (either_is_free c.args.plan.now c.args.class.now c.args.place c.args.mark.now c.args.set.now c.requires.turn)
+                          made,
+                      c.requires.few,
                     ),
                   ),
                 ),
@@ -296,15 +312,17 @@ follow_up-follow_target-found-requires t c =
 pub follow_up-returns-clause-found : goal.follow_up-returns-clause-found
 follow_up-returns-clause-found t c =
     let more = c.in_ok-with_up.with_up in
-    let made : IsWithUp c.args.set.now c.args.point more = record {
+    let made : IsWithUp c.args.set.now c.args.mark.now more = record {
+      kinds = c.in_ok-with_up.ensures.kinds;
       most = c.in_ok-with_up.ensures.most;
       lost = c.in_ok-with_up.ensures.lost;
       up = c.in_ok-with_up.ensures.up;
     } in
-    ok_map c.follow_target-found.result (λ f. IsFound c.args.plan.now c.args.class.now c.args.left more f)
-    (λ f. IsFoundIf c.args.plan.now c.args.class.now c.args.left c.args.set.now.most (IsInWith c.args.set.now c.args.point false) f)
-    (λ f h. up_found c.args.plan.now c.args.class.now c.args.left c.args.point c.args.set.now more f made h)
-    c.follow_target-found.ensures.found
+    ok_map c.follow_row-found.result (λ f. IsFound c.args.plan.now c.args.class.now c.args.left more f)
+    (λ f. IsFoundIf c.args.plan.now c.args.class.now c.args.left c.args.set.now.most
+    (IsInWith c.args.plan.now c.args.set.now c.args.mark.now false) f)
+    (λ f h. up_found c.args.plan.now c.args.class.now c.args.left c.args.mark.now c.args.set.now more f made h)
+    c.follow_row-found.ensures.found
 
 -- ---- what is counted
 
@@ -375,24 +393,27 @@ follow_row-returns-in-Taken-clause-ways t c =
 
 pub follow_either-returns-in_ok-found-in-Through-clause-ways : goal.follow_either-returns-in_ok-found-in-Through-clause-ways
 follow_either-returns-in_ok-found-in-Through-clause-ways t c =
-    counts_both c.args.plan.now c.args.set.now c.args.left c.args.class.now c.args.place c.args.point c.args.count.now c.follow_up.new.count
+    counts_both c.args.plan.now c.args.set.now c.args.left c.args.class.now c.args.place c.args.mark.now c.args.count.now
+    c.follow_up.new.count
     c.follow_lost.new.count c.requires.turn c.in_ok-found.ensures.ways c.in_ok-found-in-Through.ensures.ways
 
 pub follow_either-returns-in_default-clause-ways : goal.follow_either-returns-in_default-clause-ways
 follow_either-returns-in_default-clause-ways t c =
-    counts_up c.args.plan.now c.args.set.now c.args.left c.args.class.now c.args.place c.args.point c.args.count.now c.follow_up.new.count
+    counts_up c.args.plan.now c.args.set.now c.args.left c.args.class.now c.args.place c.args.mark.now c.args.count.now
+    c.follow_up.new.count
     c.requires.turn c.in_ok-found.ensures.ways
 
 pub follow_up-returns-clause-ways : goal.follow_up-returns-clause-ways
 follow_up-returns-clause-ways t c =
     let more = c.in_ok-with_up.with_up in
-    let made : IsWithUp c.args.set.now c.args.point more = record {
+    let made : IsWithUp c.args.set.now c.args.mark.now more = record {
+      kinds = c.in_ok-with_up.ensures.kinds;
       most = c.in_ok-with_up.ensures.most;
       lost = c.in_ok-with_up.ensures.lost;
       up = c.in_ok-with_up.ensures.up;
     } in
-    counts_if_up c.follow_target-found.result c.args.plan.now c.args.set.now more c.args.left c.args.class.now c.args.place c.args.point
-    c.args.count.now c.follow_target-found.new.count made c.follow_target-found.ensures.ways
+    counts_if_up c.follow_row-found.result c.args.plan.now c.args.set.now more c.args.left c.args.class.now c.args.place c.args.mark.now
+    c.args.count.now c.follow_row-found.new.count made c.follow_row-found.ensures.ways
 
 pub follow_lost-returns-then-marks-from-clause-ways : goal.follow_lost-returns-then-marks-from-clause-ways
 follow_lost-returns-then-marks-from-clause-ways t c =
@@ -401,13 +422,14 @@ follow_lost-returns-then-marks-from-clause-ways t c =
 pub follow_lost-returns-clause-ways : goal.follow_lost-returns-clause-ways
 follow_lost-returns-clause-ways t c =
     let more = c.in_ok-with_lost.with_lost in
-    let made : IsWithLost c.args.set.now c.args.point more = record {
+    let made : IsWithLost c.args.set.now c.args.mark.now more = record {
+      kinds = c.in_ok-with_lost.ensures.kinds;
       most = c.in_ok-with_lost.ensures.most;
       lost = c.in_ok-with_lost.ensures.lost;
       up = c.in_ok-with_lost.ensures.up;
       ascending = c.in_ok-with_lost.ensures.ascending;
     } in
-    counts_if_lost c.follow_row-found.result c.args.plan.now c.args.set.now more c.args.left c.args.class.now c.args.place c.args.point
+    counts_if_lost c.follow_row-found.result c.args.plan.now c.args.set.now more c.args.left c.args.class.now c.args.place c.args.mark.now
     c.args.count.now c.follow_row-found.new.count c.requires.set
     (λ e. c.if-marks-from.false (omega (arith, e, ap length c.marks.ensures.marks, c.from.ensures))) made c.follow_row-found.ensures.ways
 

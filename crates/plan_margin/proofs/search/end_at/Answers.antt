@@ -10,7 +10,7 @@ use Rattle.plan_margin.proofs.search.end_at.Goals as goal
 
 pub returns-then-allows-clause-found : goal.returns-then-allows-clause-found
 returns-then-allows-clause-found c =
-    arrive_here c.args.plan.now c.args.class.now c.args.place c.args.left c.args.set.now.most (IsIn c.args.set.now)
+    arrive_here c.args.plan.now c.args.class.now c.args.place c.args.left c.args.set.now.most (IsIn c.args.plan.now c.args.set.now)
     (Ended c.args.pc c.args.ssn c.args.place) false c.requires.some c.requires.class c.requires.decided c.requires.takes c.requires.exact
     refl
     (subst (λ (n : ℕ). Allows c.args.plan.now n c.args.pc c.args.ssn) c.cover.ensures.value (c.allows.ensures.0 c.if-allows.true))

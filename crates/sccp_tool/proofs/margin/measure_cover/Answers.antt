@@ -12,7 +12,7 @@ pub returns-in_err-margin-clause-gives : goal.returns-in_err-margin-clause-gives
 returns-in_err-margin-clause-gives g c =
     let p = err_from_is_err_and c.from_residual.result c.from_residual.ensures.1 in
     rw (p.1, p.2) (λ any more.
-    Works-memory (margins_on c.args.plan.now c.args.losses c.args.number (suc more) c.args.tally)
+    Works-memory (margins_on c.args.plan.now c.args.limit.now c.args.number (suc more) c.args.tally)
     (with_sink any g.K.Sink.taken g.K.Sink.faults c.args.out.now))
 
 pub counted-next-requires : goal.counted-next-requires
@@ -24,11 +24,11 @@ returns-in-Ok-clause-gives g c = λ any.
     let b : Moment = with_sink any g.K.Sink.taken g.K.Sink.faults c.args.out.now in
     let m : Moment = with_sink any g.K.Sink.taken g.K.Sink.faults c.print_margin.new.out in
     λ more result after w.
-    subst (λ put. AfterMargin c.args.plan.now c.args.losses c.args.number more c.args.tally margin put b m) c.in-Ok.is
-    (margin_told c.args.plan.now c.args.losses c.args.number more c.args.tally margin c.print_margin.result b m
+    subst (λ put. AfterMargin c.args.plan.now c.args.limit.now c.args.number more c.args.tally margin put b m) c.in-Ok.is
+    (margin_told c.args.plan.now c.args.limit.now c.args.number more c.args.tally margin c.print_margin.result b m
     (c.requires.plan, c.in_ok-margin.ensures) c.print_margin.ensures
     (record { contents = refl; sound = refl; read_faults = refl })) result after
-    (subst (λ tally. Works (margins_on c.args.plan.now c.args.losses (c.args.number + 1) more tally) result m after)
+    (subst (λ tally. Works (margins_on c.args.plan.now c.args.limit.now (c.args.number + 1) more tally) result m after)
     c.counted-next.ensures w)
 
 pub returns-in-Ok-clause-one_more : goal.returns-in-Ok-clause-one_more
@@ -43,7 +43,7 @@ returns-in-Err-clause-gives g c = λ any.
     let b : Moment = with_sink any g.K.Sink.taken g.K.Sink.faults c.args.out.now in
     let m : Moment = with_sink any g.K.Sink.taken g.K.Sink.faults c.print_margin.new.out in
     λ more.
-    subst (λ put. AfterMargin c.args.plan.now c.args.losses c.args.number more c.args.tally margin put b m) c.in-Err.is
-    (margin_told c.args.plan.now c.args.losses c.args.number more c.args.tally margin c.print_margin.result b m
+    subst (λ put. AfterMargin c.args.plan.now c.args.limit.now c.args.number more c.args.tally margin put b m) c.in-Err.is
+    (margin_told c.args.plan.now c.args.limit.now c.args.number more c.args.tally margin c.print_margin.result b m
     (c.requires.plan, c.in_ok-margin.ensures) c.print_margin.ensures
     (record { contents = refl; sound = refl; read_faults = refl }))

@@ -7,7 +7,7 @@ use Rattle.sccp_tool.proofs.margin.measure_covers.Goals as goal
 
 pub loop-number-init : goal.loop-number-init
 loop-number-init g c = record {
-  left = λ any. all_left c.args.plan.now c.args.losses (with_sink any g.K.Sink.taken g.K.Sink.faults c.args.out.now);
+  left = λ any. all_left c.args.plan.now c.args.limit.now (with_sink any g.K.Sink.taken g.K.Sink.faults c.args.out.now);
   count = omega arith;
 }
 
@@ -20,7 +20,7 @@ returns-in_err-tally g c =
     let first : Moment = with_sink any g.K.Sink.taken g.K.Sink.faults c.args.out.now in
     let now : Moment = with_sink any g.K.Sink.taken g.K.Sink.faults c.loop-number.out in
     let after : Moment = with_sink any g.K.Sink.taken g.K.Sink.faults c.measure_cover.new.out in
-    stopped_left c.args.plan.now c.args.losses c.loop-number.number c.loop-number.tally c.in_err-tally.field-0.0 first now after lt
+    stopped_left c.args.plan.now c.args.limit.now c.loop-number.number c.loop-number.tally c.in_err-tally.field-0.0 first now after lt
     (c.loop-number.invariant.left any) (c.in_err-tally.ensures.gives any))
 
 pub loop-number-preserved : goal.loop-number-preserved
@@ -32,7 +32,7 @@ loop-number-preserved g c =
           let first : Moment = with_sink any g.K.Sink.taken g.K.Sink.faults c.args.out.now in
           let now : Moment = with_sink any g.K.Sink.taken g.K.Sink.faults c.loop-number.out in
           let after : Moment = with_sink any g.K.Sink.taken g.K.Sink.faults c.measure_cover.new.out in
-          next_left c.args.plan.now c.args.losses c.loop-number.number c.loop-number.tally c.in_ok-tally.tally first now after lt
+          next_left c.args.plan.now c.args.limit.now c.loop-number.number c.loop-number.tally c.in_ok-tally.tally first now after lt
           (c.loop-number.invariant.left any) (c.in_ok-tally.ensures.gives any);
       count = c.in_ok-tally.ensures.one_more;
     }
@@ -44,4 +44,4 @@ returns g c =
     λ any.
     let first : Moment = with_sink any g.K.Sink.taken g.K.Sink.faults c.args.out.now in
     let now : Moment = with_sink any g.K.Sink.taken g.K.Sink.faults c.loop-number.out in
-    none_left c.args.plan.now c.args.losses c.loop-number.number c.loop-number.tally first now few (c.loop-number.invariant.left any)
+    none_left c.args.plan.now c.args.limit.now c.loop-number.number c.loop-number.tally first now few (c.loop-number.invariant.left any)
