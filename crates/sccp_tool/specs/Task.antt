@@ -34,3 +34,5 @@ pub data Task : Type 0 where
   Unused : PlanFile → Task
   -- says how many points can be lost before a title of a cover is stopped, up to this number, of the plan of this file
   Margin : PlanFile → ℕ → Task
+  -- prints the lines of the capture of the second file, for the nodes of the plan of the first one
+  Capture : PlanFile → List ℕ → Task
