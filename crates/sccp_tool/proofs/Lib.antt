@@ -1,4 +1,5 @@
 -- The lemmas of this crate, one file a subject.
+mod CaptureLemmas
 mod Causes
 mod ChangeLemmas
 mod ConnectLemmas

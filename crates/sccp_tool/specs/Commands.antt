@@ -6,6 +6,7 @@ use Rattle.std.specs.declared.alloc.Global.{Global}
 use Rattle.plan_model.specs.Limits.{standard, wide}
 use Rattle.plan_model.specs.declared.limits.Limits.{Limits}
 use Rattle.sccp_tool.specs.Replay.{replay_words}
+use Rattle.sccp_tool.specs.Capture.{capture_words}
 use Rattle.sccp_tool.specs.Covers.{covers_words}
 use Rattle.sccp_tool.specs.Cuts.{cuts_words}
 use Rattle.sccp_tool.specs.Import.{import_words}
@@ -26,6 +27,7 @@ unfoldable pub further_plan_command_of : Limits → List ℕ → List (List ℕ)
 further_plan_command_of limits name words =
     if bytes_eq name (codes "replay") then replay_words limits words
     else if bytes_eq name (codes "import") then import_words limits words
+    else if bytes_eq name (codes "capture") then capture_words limits words
     else if bytes_eq name (codes "connect") then connect_words limits words
     else if bytes_eq name (codes "send-on") then send_on_words limits words
     else None

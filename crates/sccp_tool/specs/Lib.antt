@@ -1,4 +1,5 @@
 -- The definitions of this crate, one file a subject.
+pub mod Capture
 pub mod Change
 pub mod Commands
 pub mod Connect

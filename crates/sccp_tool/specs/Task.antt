@@ -35,3 +35,5 @@ pub data Task : Type 0 where
   Unused : PlanFile → Task
   -- says how many losses there can be before a title of a cover is stopped, up to this number of these kinds, of the plan of this file
   Margin : PlanFile → LossLimit → Task
+  -- prints the lines of the capture of the second file, for the nodes of the plan of the first one
+  Capture : PlanFile → List ℕ → Task

@@ -3,6 +3,7 @@ ghost use Rattle.std.specs.Prelude.{◌≡◌, IfOk};
 ghost use Rattle.sccp_tool.specs.Commands.{command_of, plan_command_of, further_plan_command_of, wide_of, task_of, texts};
 ghost use Rattle.sccp_tool.specs.Parsed.{task_in};
 
+use crate::capture::capture_words;
 use crate::change::change_words;
 use crate::connect::{Calling, connect_words};
 use crate::covers::covers_words;
@@ -56,6 +57,8 @@ pub enum Command<'a> {
     Unused(PlanPath<'a>),
     /// To say how many losses there can be before a title of a cover is stopped, of the plan of this file.
     Margin(PlanPath<'a>, Losses),
+    /// To print the lines of the capture of the second file under the plan of the first one.
+    Capture(PlanPath<'a>, &'a str),
 }
 
 /// What the words ask for, or none if they have none of the shapes. After the word `wide` a plan is read under the wide limits.
@@ -147,6 +150,8 @@ fn further_plan_command_of<'a>(
         Ok(replay_words(limits, words))
     } else if name == "import" {
         Ok(import_words(limits, words))
+    } else if name == "capture" {
+        Ok(capture_words(limits, words))
     } else if name == "connect" {
         connect_words(alloc, limits, words)
     } else if name == "send-on" {

@@ -17,6 +17,7 @@
 #![tactic(auto)]
 
 mod answer;
+mod capture;
 mod change;
 mod command;
 mod connect;

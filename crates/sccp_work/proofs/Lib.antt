@@ -3,8 +3,10 @@ pub mod AcceptedPlanLemmas
 pub mod AcceptingLemmas
 pub mod Finishing
 pub mod LimitLemmas
+pub mod PieceLemmas
 pub mod PlanLemmas
 pub mod ReadingLemmas
+pub mod RefineLemmas
 mod RoseLemmas
 pub mod Through
 pub mod VerdictLemmas

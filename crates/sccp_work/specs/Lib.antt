@@ -7,6 +7,7 @@ pub mod LineFault
 pub mod Moment
 pub mod Numbers
 pub mod Opened
+pub mod Pieces
 pub mod PlanFile
 pub mod Plans
 pub mod Questions

@@ -1,7 +1,7 @@
 -- The exit status of the program under each answer.
 use Rattle.std.specs.Prelude.{ℕ}
 use Rattle.sccp_work.specs.declared.status.Status.{Status}
-use Rattle.sccp_work.specs.declared.status.Status.TheVariants.{Done, Refused, Usage, BadPlan, BadTrace, TooWide, TooLong, OtherNodes}
+use Rattle.sccp_work.specs.declared.status.Status.TheVariants.{Done, Refused, Usage, BadPlan, BadTrace, TooWide, TooLong, OtherNodes, BadCapture}
 use Rattle.sccp_work.specs.declared.status.Status.TheVariants.{NoMemory, ReadFault, WriteFault}
 
 abbrev pub number_of : Status → ℕ
@@ -13,6 +13,7 @@ number_of BadTrace = 66
 number_of TooWide = 67
 number_of TooLong = 68
 number_of OtherNodes = 69
+number_of BadCapture = 70
 number_of NoMemory = 71
 number_of ReadFault = 74
 number_of WriteFault = 75

@@ -21,6 +21,8 @@ pub enum Status {
     TooLong = 68,
     /// The two plans do not have the same relays.
     OtherNodes = 69,
+    /// The capture is damaged, and was read up to the damage.
+    BadCapture = 70,
     /// Memory was wanting.
     NoMemory = 71,
     /// The files failed.
