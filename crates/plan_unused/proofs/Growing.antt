@@ -12,7 +12,8 @@ use Rattle.plan_classes.proofs.Ordered.{same_class}
 use Rattle.plan_check.specs.Ranking.{rank_in, class_cmp}
 use Rattle.plan_check.proofs.Orders.{own_class}
 use Rattle.plan_unused.specs.Meets.{Meets}
-use Rattle.plan_unused.specs.Walks.{IsRankedBy, AreRanks, IsPut, Grows}
+use Rattle.plan_unused.specs.Walks.{IsRankedBy, AreRanks, IsPut, KeepsPlaces, Grows}
+use Rattle.plan_unused.proofs.Places.{same_places, more_places}
 
 -- one more class has a rank
 abbrev pub Puts : List (Titles × ℕ) → List (Titles × ℕ) → Titles → ℕ → Type 0
@@ -56,12 +57,13 @@ put_more plan depth before after c kept (inr h) =
     )
 
 pub grows_none : (plan : Network) (depth : ℕ) (met : List (Titles × ℕ)) → Grows plan depth met met
-grows_none plan depth met = record { kept = λ c r e. e; added = λ c r e. inl e }
+grows_none plan depth met = record { kept = λ c r e. e; places = same_places met; added = λ c r e. inl e }
 
 pub grows_on : (plan : Network) (depth : ℕ) (a b c : List (Titles × ℕ)) → Grows plan depth a b → Grows plan depth b c → Grows plan depth a c
 grows_on plan depth a b c g h =
     record {
       kept = λ d r e. h.kept d r (g.kept d r e);
+      places = more_places a b c g.places h.places;
       added = λ d r e. ⊎_elim
           (λ (was : rank_in b d ≡ Some r). ⊎_elim
           (λ (old : rank_in a d ≡ Some r). inl old)
@@ -93,10 +95,11 @@ absent met c r none e = let clash : None ≡ Some r = sym none ∙ e in absurd (
 
 -- a decided class was put
 pub whole_grows : (plan : Network) (depth : ℕ) (a b : List (Titles × ℕ)) (c : Titles) → rank_in a c ≡ None → Decided plan c
-    → Meets plan depth c → Puts a b c depth → Grows plan depth a b
-whole_grows plan depth a b c fresh decided meets puts =
+    → Meets plan depth c → Puts a b c depth → KeepsPlaces a b → Grows plan depth a b
+whole_grows plan depth a b c fresh decided meets puts places =
     record {
       kept = λ d r e. puts_kept a b c d depth r puts (λ s h. absurd (absent a c s fresh h)) e;
+      places = places;
       added = λ d r e. ⊎_elim
           (λ (new : (c ≡ d) × (depth ≡ r)).
           inr (sym new.1, subst (Meets plan depth) new.0 meets, subst (IsPut plan depth b) new.0 (inl decided)))
@@ -107,10 +110,11 @@ whole_grows plan depth a b c fresh decided meets puts =
 -- the parts of an undecided class were put, and then the class has its rank
 pub parts_grow : (plan : Network) (depth : ℕ) (a b e : List (Titles × ℕ)) (c : Titles) → rank_in a c ≡ None
     → (Decided plan c → ⊥) → Meets plan depth c → Grows plan depth a b → All (λ part. IsRankedBy b part depth) (parts_of c)
-    → Puts b e c depth → Grows plan depth a e
-parts_grow plan depth a b e c fresh undecided meets g parts puts =
+    → Puts b e c depth → KeepsPlaces b e → Grows plan depth a e
+parts_grow plan depth a b e c fresh undecided meets g parts puts places =
     record {
       kept = λ d r h. stays d r (g.kept d r h);
+      places = more_places a b e g.places places;
       added = λ d r h. ⊎_elim
           (λ (new : (c ≡ d) × (depth ≡ r)).
           inr (sym new.1, subst (Meets plan depth) new.0 meets, subst (IsPut plan depth e) new.0 (inr (undecided, ranked))))

@@ -2,6 +2,7 @@
 pub mod Sending
 pub mod Fits
 pub mod Meeting
+pub mod Places
 pub mod Growing
 pub mod Noting
 pub mod InOrder

@@ -1,5 +1,5 @@
 -- stops that were looked at, and the walk from hop to hop
-use Rattle.std.specs.Prelude.{ℕ, ◌≡◌, ◌+◌, ◌<◌, ◌≤◌, ◌⊎◌, IsTrue, IsSome, List, [], ◌∷◌, length, get_or, Option}
+use Rattle.std.specs.Prelude.{ℕ, ◌≡◌, ◌+◌, ◌^◌, ◌<◌, ◌≤◌, ◌⊎◌, IsTrue, IsSome, List, [], ◌∷◌, length, get_or, Option}
 use Rattle.std.specs.Prelude.{Some, None}
 use Rattle.std.specs.Prelude.{IsSomeAnd, slice_get, refl}
 use Rattle.std.specs.List.{All}
@@ -31,7 +31,7 @@ use Rattle.plan_unused.specs.Fitting.{fitting, HasFitting}
 use Rattle.plan_unused.specs.Meets.{Meets}
 use Rattle.plan_unused.specs.Meets.Meets.{Start}
 use Rattle.plan_unused.specs.Walks.{row_at, target_at, has_relay, has_row, has_target, gap_in, IsSeen, IsMore, IsRankedBy, AreRanks, IsPut}
-use Rattle.plan_unused.specs.Walks.{Grows, MayEnter, IsFollowed, IsSettled, IsWalk}
+use Rattle.plan_unused.specs.Walks.{Grows, MayEnter, IsFollowed, IsSettled, IsEntry, IsWalk}
 use Rattle.plan_unused.proofs.Fits.{some_is}
 use Rattle.plan_unused.proofs.Meeting.{meets_class}
 use Rattle.plan_unused.proofs.Growing.{ranked_more, ranks_grown}
@@ -204,8 +204,9 @@ rows_of_one (x ∷ xs) zero node e =
 rows_of_one (x ∷ xs) (suc k) node e =
     omega (arith, sum_by-cons (λ (n : Node). length n.table) x xs, rows_of_one xs k node e)
 
-pub short_table : (plan : Network) (k : ℕ) (node : Node) → IsPlan plan → slice_get plan.nodes k ≡ Some node → length node.table ≤ 4096
-short_table plan k node is at = omega (arith, rows_of_one plan.nodes k node at, is.few_rows)
+pub short_table : (plan : Network) (k : ℕ) (node : Node) → IsPlan plan → slice_get plan.nodes k ≡ Some node
+    → length node.table < 2 ^ 32
+short_table plan k node is at = omega (arith, rows_of_one plan.nodes k node at, is.row_places)
 
 -- the first hop
 nothing_ranked : (c : Titles) (r : ℕ) → rank_in [] c ≡ Some r → ⊥
@@ -246,13 +247,14 @@ put_known plan depth r met seen c same (inr h) =
 
 pub walk_first : (plan : Network) (met : List (Titles × ℕ)) (count : ℕ) (seen : Seen) → Grows plan 0 [] met → length plan.covers ≤ count
     → ((number : ℕ) (cover : Cover) → number < count → slice_get plan.covers number ≡ Some cover → IsRankedBy met (start_of number cover) 0)
-    → IsSeen plan seen → IsWalk plan 0 met seen
+    → IsSeen plan seen → IsWalk plan 0 0 met seen
 walk_first plan met count seen g le starts sound =
     record {
       ranks = ranks_grown plan 0 [] met g (no_ranks plan 0);
       sound = sound;
       starts = λ number cover at. starts number cover
           (let lt : number < length plan.covers = slice_get_within plan.covers number cover at in omega (arith, lt, le)) at;
+      earlier = λ place c lt is. absurd (omega (arith, lt));
       known = λ c r e. ⊎_elim
           (λ (old : rank_in [] c ≡ Some r). absurd (nothing_ranked c r old))
           (λ (new : (r ≡ 0) × Meets plan 0 c × IsPut plan 0 met c). put_known plan 0 r met seen c new.0 new.2)
@@ -272,21 +274,23 @@ ranked_earlier plan depth before after c g at =
     (g.added c depth at)
 
 -- a class that has this hop as its rank, also after classes were put at the next one
-pub may_visit : (plan : Network) (depth : ℕ) (before after : List (Titles × ℕ)) (seen : Seen) (c : Titles) → IsPlan plan
-    → IsWalk plan depth before seen → Grows plan (depth + 1) before after → rank_in after c ≡ Some depth → MayEnter plan depth c
-may_visit plan depth before after seen c is walk g at =
+pub may_visit : (plan : Network) (depth first : ℕ) (before after : List (Titles × ℕ)) (seen : Seen) (c : Titles) → IsPlan plan
+    → IsWalk plan depth first before seen → Grows plan (depth + 1) before after → rank_in after c ≡ Some depth → MayEnter plan depth c
+may_visit plan depth first before after seen c is walk g at =
     let meets : Meets plan depth c = (walk.ranks c depth (ranked_earlier plan depth before after c g at)).1 in
     record { node = (meets_class plan is depth c meets).1; meets = meets }
 
-pub walk_next : (plan : Network) (depth : ℕ) (before after : List (Titles × ℕ)) (s t : Seen) → IsWalk plan depth before s
+pub walk_next : (plan : Network) (depth first next : ℕ) (before after : List (Titles × ℕ)) (s t : Seen)
+    → IsWalk plan depth first before s
     → Grows plan (depth + 1) before after → IsSeen plan t → IsMore s t
     → ((c : Titles) → rank_in before c ≡ Some depth → Decided plan c → IsSettled plan t after c depth)
-    → IsWalk plan (depth + 1) after t
-walk_next plan depth before after s t walk g sound more settled =
+    → ((place : ℕ) (c : Titles) → place < next → IsEntry after place c (depth + 1) → ⊥) → IsWalk plan (depth + 1) next after t
+walk_next plan depth first next before after s t walk g sound more settled earlier =
     record {
       ranks = ranks_grown plan (depth + 1) before after g (deeper_ranks plan depth before walk.ranks);
       sound = sound;
       starts = λ number cover at. ranked_more before after (start_of number cover) 0 g.kept (walk.starts number cover at);
+      earlier = earlier;
       known = λ c r e. ⊎_elim (λ (old : rank_in before c ≡ Some r). was c r old (walk.known c r old))
           (λ (new : (r ≡ depth + 1) × Meets plan (depth + 1) c × IsPut plan (depth + 1) after c).
           put_known plan (depth + 1) r after t c new.0 new.2)

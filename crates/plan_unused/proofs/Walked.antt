@@ -69,15 +69,15 @@ own plan met c r spot e has decided =
     record { class = c; rank = r; ranked = e; few = omega arith; decided = decided; title = has; cover = refl }
 
 -- down to the decided part that has the title
-settle : (plan : Network) (met : List (Titles × ℕ)) (seen : Seen) (last : ℕ) → IsPlan plan
-    → IsWalk plan last met seen → (fuel : ℕ) (c : Titles) (r : ℕ) (spot : Spot) → c.most ≤ fuel → rank_in met c ≡ Some r
+settle : (plan : Network) (met : List (Titles × ℕ)) (seen : Seen) (last first : ℕ) → IsPlan plan
+    → IsWalk plan last first met seen → (fuel : ℕ) (c : Titles) (r : ℕ) (spot : Spot) → c.most ≤ fuel → rank_in met c ≡ Some r
     → HasTitle c spot → IsAt plan met c.cover r spot
-settle plan met seen last is walk zero c r spot le e has =
+settle plan met seen last first is walk zero c r spot le e has =
     ⊎_elim
     (λ (h : IsKnown plan last met seen c r). own plan met c r spot e has h.0)
     (λ (h : IsInParts plan met c r). absurd (let more = open_digits plan c h.0 in omega (arith, le, more)))
     (walk.known c r e)
-settle plan met seen last is walk (suc n) c r spot le e has =
+settle plan met seen last first is walk (suc n) c r spot le e has =
     ⊎_elim
     (λ (h : IsKnown plan last met seen c r). own plan met c r spot e has h.0)
     (λ (h : IsInParts plan met c r).
@@ -86,20 +86,20 @@ settle plan met seen last is walk (suc n) c r spot le e has =
     let found = splits.whole has.0 has.1 in
     let part : IsPart c found.1 = subst (IsPart c) found.3 (splits.each found.0 found.1 found.2) in
     let ranked : IsRankedBy met found.1 r = subst (λ p. IsRankedBy met p r) found.3 (h.1 found.0 found.1 found.2) in
-    let at = settle plan met seen last is walk n found.1 ranked.0 spot (omega (arith, part.fewer, le)) ranked.1
+    let at = settle plan met seen last first is walk n found.1 ranked.0 spot (omega (arith, part.fewer, le)) ranked.1
     (has.0, found.4, has.2 ∙ sym (same_spot c found.1 has.0 part)) in
     subst (λ number. IsAt plan met number r spot) part.cover (at_deeper plan met found.1.cover ranked.0 r spot ranked.2 at))
     (walk.known c r e)
 
 -- along the hops of a route
-trace : (plan : Network) (met : List (Titles × ℕ)) (seen : Seen) → IsPlan plan → IsWalk plan 14 met seen
+trace : (plan : Network) (met : List (Titles × ℕ)) (seen : Seen) (first : ℕ) → IsPlan plan → IsWalk plan 14 first met seen
     → (s : Spot) (ms : List (List Mark)) (spot : Spot) (number depth : ℕ) → IsAt plan met number depth s → depth + length ms ≤ 13
     → Sends (does plan) s ms spot → IsAt plan met number (depth + length ms) spot
-trace plan met seen is walk s [] spot number depth at few same =
+trace plan met seen first is walk s [] spot number depth at few same =
     at_deeper plan met number depth (depth + 0) spot (omega arith) (subst (IsAt plan met number depth) same at)
-trace plan met seen is walk s (m ∷ ms) spot number depth at few sends =
+trace plan met seen first is walk s (m ∷ ms) spot number depth at few sends =
     at_deeper plan met number (depth + 1 + length ms) (depth + length (m ∷ ms)) spot (omega arith)
-    (trace plan met seen is walk sends.0 ms spot number (depth + 1) on (omega (arith, few)) sends.2)
+    (trace plan met seen first is walk sends.0 ms spot number (depth + 1) on (omega (arith, few)) sends.2)
   where
     class : IsClass at.class × (at.class.node < length plan.nodes)
     class = meets_class plan is at.rank at.class (walk.ranks at.class at.rank at.ranked).1
@@ -126,7 +126,7 @@ trace plan met seen is walk s (m ∷ ms) spot number depth at few sends =
     on : IsAt plan met number (depth + 1) sends.0
     on = subst (λ n. IsAt plan met n (depth + 1) sends.0) (by.cover ∙ at.cover)
         (at_deeper plan met by.next.cover ranked.0 (depth + 1) sends.0 (omega (arith, ranked.2, at.few))
-        (settle plan met seen 14 is walk by.next.most by.next ranked.0 sends.0 (omega arith) ranked.1 by.title))
+        (settle plan met seen 14 first is walk by.next.most by.next ranked.0 sends.0 (omega arith) ranked.1 by.title))
 
 -- a settled class that has the title
 pub record IsFound (plan : Network) (seen : Seen) (met : List (Titles × ℕ)) (number : ℕ) (spot : Spot) : Type 0 where
@@ -138,9 +138,9 @@ pub record IsFound (plan : Network) (seen : Seen) (met : List (Titles × ℕ)) (
   pub cover : class.cover ≡ number
   pub settled : IsSettled plan seen met class rank
 
-found : (plan : Network) (met : List (Titles × ℕ)) (seen : Seen) (number : ℕ) (spot : Spot) → IsPlan plan
-    → IsWalk plan 14 met seen → IsMet plan number spot → IsFound plan seen met number spot
-found plan met seen number spot is walk m =
+found : (plan : Network) (met : List (Titles × ℕ)) (seen : Seen) (first number : ℕ) (spot : Spot) → IsPlan plan
+    → IsWalk plan 14 first met seen → IsMet plan number spot → IsFound plan seen met number spot
+found plan met seen first number spot is walk m =
     record {
       class = at.class;
       rank = at.rank;
@@ -166,8 +166,8 @@ found plan met seen number spot is walk m =
     cover : (c : Cover) × (slice_get plan.covers number ≡ Some c) × Covers c m.start
     cover = some_is (slice_get plan.covers number) (λ c. Covers c m.start) m.covered
 
-    first : HasTitle (start_of number cover.0) m.start
-    first = (start_exact plan.nodes number cover.0 (start_of number cover.0)
+    started : HasTitle (start_of number cover.0) m.start
+    started = (start_exact plan.nodes number cover.0 (start_of number cover.0)
         (cover_at plan number cover.0 is cover.1) refl m.start).1 cover.2
 
     ranked : IsRankedBy met (start_of number cover.0) 0
@@ -175,11 +175,11 @@ found plan met seen number spot is walk m =
 
     start : IsAt plan met number 0 m.start
     start = at_deeper plan met number ranked.0 0 m.start ranked.2
-        (settle plan met seen 14 is walk (start_of number cover.0).most (start_of number cover.0) ranked.0 m.start (omega arith)
-        ranked.1 first)
+        (settle plan met seen 14 first is walk (start_of number cover.0).most (start_of number cover.0) ranked.0 m.start (omega arith)
+        ranked.1 started)
 
     at : IsAt plan met number (0 + length (take hop.0 m.markings)) spot
-    at = trace plan met seen is walk m.start (take hop.0 m.markings) spot number 0 start (omega (arith, size, hop.1, m.few)) hop.2
+    at = trace plan met seen first is walk m.start (take hop.0 m.markings) spot number 0 start (omega (arith, size, hop.1, m.few)) hop.2
 
 -- the row of a title is that of its class
 row_is : (plan : Network) (c : Titles) (spot : Spot) → IsClass c → Decided plan c → (has : HasTitle c spot)
@@ -202,26 +202,26 @@ takes_reaches plan c spot t class decided has takes =
     (option_map_or (λ (r : Rule). r.targets) o []) t)) (decided has.0 (sample_of c) has.1 (sample_member c class))
     (subst (λ (s : Spot). TakesTarget plan s t) has.2 takes)
 
-pub whole_from : (plan : Network) (met : List (Titles × ℕ)) (seen : Seen) → IsPlan plan → IsWalk plan 14 met seen
+pub whole_from : (plan : Network) (met : List (Titles × ℕ)) (seen : Seen) (first : ℕ) → IsPlan plan → IsWalk plan 14 first met seen
     → IsWhole plan seen
-whole_from plan met seen is walk =
+whole_from plan met seen first is walk =
     record { relays = relays; rows = rows; targets = targets; gaps = gaps }
   where
     relays : (n : ℕ) → UsesRelay plan n → IsTrue (has_relay seen n)
     relays n h =
-        let f = found plan met seen h.0 h.1 is walk h.2 in
+        let f = found plan met seen first h.0 h.1 is walk h.2 in
         subst (λ k. IsTrue (has_relay seen k)) (sym (node_is f.class h.1 f.title) ∙ h.3) f.settled.relay
 
     rows : (place : RowPlace) → UsesRow plan place.node place.row → IsTrue (has_row seen place)
     rows place h =
-        let f = found plan met seen h.0 h.1 is walk h.2 in
+        let f = found plan met seen first h.0 h.1 is walk h.2 in
         subst (λ k. IsTrue (has_row seen (row_at k place.row))) (sym (node_is f.class h.1 f.title) ∙ h.3.node)
         (f.settled.row place.row h.3.row (sym (row_is plan f.class h.1 f.is_class f.decided f.title) ∙ h.3.counts)
         (row_there plan f.class place.node place.row h.1 h.3.row f.title h.3.node h.3.at))
 
     targets : (place : TargetPlace) → UsesTarget plan place.node place.row place.target → IsTrue (has_target seen place)
     targets place h =
-        let f = found plan met seen h.0 h.1 is walk h.2 in
+        let f = found plan met seen first h.0 h.1 is walk h.2 in
         subst (λ k. IsTrue (has_target seen (target_at k place.row place.target))) (sym (node_is f.class h.1 f.title) ∙ h.3.node)
         (f.settled.target place.row h.3.row (sym (row_is plan f.class h.1 f.is_class f.decided f.title) ∙ h.3.counts)
         (row_there plan f.class place.node place.row h.1 h.3.row f.title h.3.node h.3.at) place.target
@@ -229,6 +229,6 @@ whole_from plan met seen is walk =
 
     gaps : (number : ℕ) (spot : Spot) → HasGap plan number spot → IsSome (gap_in seen number)
     gaps number spot h =
-        let f = found plan met seen number spot is walk h.0 in
+        let f = found plan met seen first number spot is walk h.0 in
         subst (λ k. IsSome (gap_in seen k)) f.cover
         (f.settled.gap (sym (row_is plan f.class spot f.is_class f.decided f.title) ∙ h.1))

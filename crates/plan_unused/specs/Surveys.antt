@@ -2,7 +2,6 @@
 use Rattle.std.specs.Prelude.{ℕ, ◌≡◌, ◌<◌, ◌⊎◌, ◌↔◌, List, length, IsSomeAnd, slice_get}
 use Rattle.std.specs.List.{All, Any, AllPairs, Contains}
 use Rattle.plan_model.specs.declared.spot.Spot.{Spot}
-use Rattle.plan_model.specs.Limits.{most_classes}
 use Rattle.plan_model.specs.Network.{Network}
 use Rattle.plan_covers.specs.Needless.{AreNeedless}
 use Rattle.plan_unused.specs.declared.survey.Gap.{Gap}
@@ -64,7 +63,7 @@ pub record IsUnused (plan : Network) (found : Unused) : Type 0 where
   pub covers : AreNeedless plan.covers found.covers
   pub gaps : ListsGaps plan found.gaps
 
--- what is unused, and which titles have no row; or covered titles get to at least 262,144 classes
+-- what is unused, and which titles have no row; or covered titles get to at least as many classes as the limit of the plan
 abbrev pub IsLawfulSurvey : Network → Survey → Type 0
 IsLawfulSurvey plan (UnusedParts found) = IsUnused plan found
-IsLawfulSurvey plan TooWide = MeetsAtLeast plan most_classes
+IsLawfulSurvey plan TooWide = MeetsAtLeast plan plan.limits.classes

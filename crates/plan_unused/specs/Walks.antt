@@ -1,5 +1,5 @@
 -- What the walk from hop to hop keeps.
-use Rattle.std.specs.Prelude.{ℕ, ◌≡◌, ◌+◌, ◌<◌, ◌≤◌, ◌⊎◌, Bool, IsTrue, IsSome, List, length, Option, Some, None, slice_get}
+use Rattle.std.specs.Prelude.{ℕ, ◌≡◌, ◌+◌, ◌++◌, ◌<◌, ◌≤◌, ◌⊎◌, Bool, IsTrue, IsSome, List, length, Option, Some, None, slice_get}
 use Rattle.std.specs.List.{All}
 use Rattle.std.specs.Ordering.{nat_cmp, ordering_then}
 use Rattle.std.specs.declared.cmp.Ordering.{Ordering}
@@ -11,7 +11,7 @@ use Rattle.plan_model.specs.declared.spot.Spot.{Spot}
 use Rattle.plan_model.specs.Network.{Network, IsPlan}
 use Rattle.plan_classes.specs.Titles.{Titles, parts_of}
 use Rattle.plan_classes.specs.Classes.{start_of, Decided, Reaches, class_row}
-use Rattle.plan_check.specs.Ranking.{rank_in}
+use Rattle.plan_check.specs.Ranking.{rank_in, classes_in}
 use Rattle.plan_unused.specs.declared.survey.RowPlace.{RowPlace}
 use Rattle.plan_unused.specs.declared.survey.TargetPlace.{TargetPlace}
 use Rattle.plan_unused.specs.declared.seen.Seen.{Seen}
@@ -79,9 +79,14 @@ AreRanks plan depth met = (c : Titles) (r : ℕ) → rank_in met c ≡ Some r �
 abbrev pub IsPut : Network → ℕ → List (Titles × ℕ) → Titles → Type 0
 IsPut plan depth met c = Decided plan c ⊎ ((Decided plan c → ⊥) × All (λ part. IsRankedBy met part depth) (parts_of c))
 
--- Classes were put at this depth. Ranks are kept, and each class with a new one was put.
+-- classes keep their places, and new ones come last
+abbrev pub KeepsPlaces : List (Titles × ℕ) → List (Titles × ℕ) → Type 0
+KeepsPlaces before after = (more : List Titles) × (classes_in after ≡ classes_in before ++ more)
+
+-- Classes were put at this depth. Ranks and places are kept, and each class with a new rank was put.
 pub record Grows (plan : Network) (depth : ℕ) (before after : List (Titles × ℕ)) : Type 0 where
   pub kept : (c : Titles) (r : ℕ) → rank_in before c ≡ Some r → rank_in after c ≡ Some r
+  pub places : KeepsPlaces before after
   pub added : (c : Titles) (r : ℕ) → rank_in after c ≡ Some r → (rank_in before c ≡ Some r)
       ⊎ ((r ≡ depth) × Meets plan depth c × IsPut plan depth after c)
 
@@ -119,11 +124,17 @@ pub record IsSettled (plan : Network) (seen : Seen) (met : List (Titles × ℕ))
   pub onward : depth < 13 → (t : ℕ) (next : Titles) → Reaches plan c t → HasFitting plan c t next → IsRankedBy met next (depth + 1)
   pub gap : class_row plan c ≡ None → IsSome (gap_in seen c.cover)
 
+-- the class at this place has this rank
+pub record IsEntry (met : List (Titles × ℕ)) (place : ℕ) (c : Titles) (r : ℕ) : Type 0 where
+  pub at : slice_get (classes_in met) place ≡ Some c
+  pub rank : rank_in met c ≡ Some r
+
 -- What the walk has before it looks at the stops of a hop. A decided class that was met before this hop is settled, and an undecided
--- one has parts that were met no later.
-pub record IsWalk (plan : Network) (depth : ℕ) (met : List (Titles × ℕ)) (seen : Seen) : Type 0 where
+-- one has parts that were met no later. The classes before the first place were met at earlier hops.
+pub record IsWalk (plan : Network) (depth first : ℕ) (met : List (Titles × ℕ)) (seen : Seen) : Type 0 where
   pub ranks : AreRanks plan depth met
   pub sound : IsSeen plan seen
   pub starts : (number : ℕ) (cover : Cover) → slice_get plan.covers number ≡ Some cover → IsRankedBy met (start_of number cover) 0
+  pub earlier : (place : ℕ) (c : Titles) → place < first → IsEntry met place c depth → ⊥
   pub known : (c : Titles) (r : ℕ) → rank_in met c ≡ Some r → (Decided plan c × (IsSettled plan seen met c r ⊎ (r ≡ depth)))
       ⊎ ((Decided plan c → ⊥) × All (λ part. IsRankedBy met part r) (parts_of c))

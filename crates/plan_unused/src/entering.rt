@@ -1,13 +1,12 @@
 //! Classes that are met at a hop.
 ghost use Rattle.std.specs.Prelude.{◌≡◌, ◌<◌, ℕ, None, Some, Err, if◌then◌else◌, OnOk};
 ghost use Rattle.std.specs.Ordering.{is_eq};
-ghost use Rattle.plan_model.specs.Limits.{most_classes};
 ghost use Rattle.plan_classes.specs.Titles.{Titles};
 ghost use Rattle.plan_classes.specs.Classes.{Decided};
 ghost use Rattle.plan_check.specs.Ranking.{rank_in, class_cmp};
 ghost use Rattle.plan_unused.specs.declared.halt.Halt.TheVariants as halts;
 ghost use Rattle.plan_unused.specs.Meets.{Meets, MeetsAtLeast};
-ghost use Rattle.plan_unused.specs.Walks.{IsRankedBy, AreRanks, Grows, MayEnter};
+ghost use Rattle.plan_unused.specs.Walks.{IsRankedBy, AreRanks, KeepsPlaces, Grows, MayEnter};
 
 use crate::first_hops::FirstHops;
 use crate::halt::Halt;
@@ -28,7 +27,7 @@ pub(crate) fn enter(
     requires ranks { AreRanks plan.now depth met.old }
     ensures grows { OnOk result (Grows plan.now depth met.old met.new) }
     ensures ranked { OnOk result (IsRankedBy met.new class.now depth) }
-    ensures wide { result ≡ Err halts.Wide → MeetsAtLeast plan.now most_classes }
+    ensures wide { result ≡ Err halts.Wide → MeetsAtLeast plan.now plan.now.limits.classes }
 {
     if met.get(class).is_some() {
         return Ok(());
@@ -48,7 +47,7 @@ fn enter_whole(plan: &Plan, class: &Class, depth: u8, met: &mut FirstHops) -> Re
     requires ranks { AreRanks plan.now depth met.old }
     ensures grows { OnOk result (Grows plan.now depth met.old met.new) }
     ensures ranked { OnOk result (IsRankedBy met.new class.now depth) }
-    ensures wide { result ≡ Err halts.Wide → MeetsAtLeast plan.now most_classes }
+    ensures wide { result ≡ Err halts.Wide → MeetsAtLeast plan.now plan.now.limits.classes }
 {
     rank(plan, class, depth, met)
 }
@@ -69,7 +68,7 @@ fn enter_parts(
     requires ranks { AreRanks plan.now depth met.old }
     ensures grows { OnOk result (Grows plan.now depth met.old met.new) }
     ensures ranked { OnOk result (IsRankedBy met.new class.now depth) }
-    ensures wide { result ≡ Err halts.Wide → MeetsAtLeast plan.now most_classes }
+    ensures wide { result ≡ Err halts.Wide → MeetsAtLeast plan.now plan.now.limits.classes }
 {
     let parts = parts(alloc, class)?;
     for part in parts.as_slice() {
@@ -83,7 +82,8 @@ fn rank(plan: &Plan, class: &Class, depth: u8, met: &mut FirstHops) -> Result<()
     requires ranks { AreRanks plan.now depth met.old }
     ensures puts { OnOk result ((c : Titles) → rank_in met.new c
         ≡ (if is_eq (class_cmp class.now c) then Some depth else rank_in met.old c)) }
-    ensures wide { result ≡ Err halts.Wide → MeetsAtLeast plan.now most_classes }
+    ensures places { OnOk result (KeepsPlaces met.old met.new) }
+    ensures wide { result ≡ Err halts.Wide → MeetsAtLeast plan.now plan.now.limits.classes }
 {
-    met.put(*class, depth)
+    met.put(*class, depth, plan.limits().classes as usize)
 }

@@ -15,8 +15,8 @@ use std::alloc::Global;
 
 /// What no covered title of the plan can use within fourteen hops, whatever the relays have prohibited, and which covers add nothing
 /// to another one. Also, for each cover of which some title gets to a relay without a row for it, one such title, the first that was
-/// met and so after the fewest hops. `TooWide` is answered only if covered titles get to at least 262,144 classes. The plan need not
-/// be safe.
+/// met and so after the fewest hops. `TooWide` is answered only if covered titles get to at least as many classes as
+/// the limit of the plan. The plan need not be safe.
 pub fn find_unused(alloc: Global, plan: &Plan) -> Result<Survey, OutOfMemory>
     ensures { IfOk result (IsLawfulSurvey plan.now) }
 {

@@ -1,27 +1,24 @@
 //! The classes that were met.
-ghost use Rattle.std.specs.Prelude.{◌≡◌, ◌≤◌, [], if◌then◌else◌, length, OnOk, IfSome, Some, None, Err};
-ghost use Rattle.std.specs.List.Sorted.{IsStrictlySortedBy};
+ghost use Rattle.std.specs.Prelude.{◌≡◌, ◌≢◌, ◌≤◌, ◌<◌, [], if◌then◌else◌, length, slice_get, OnOk, Some, Err};
+ghost use Rattle.std.specs.List.{AllPairs};
 ghost use Rattle.std.specs.Ordering.{is_eq};
-ghost use Rattle.std.specs.BTreeMap.Range.{IsFromStart};
-ghost use Rattle.std.specs.declared.cmp.Ordering.TheVariants.{Less};
-ghost use Rattle.plan_model.specs.Limits.{most_classes};
 ghost use Rattle.plan_classes.specs.Titles.{Titles};
 ghost use Rattle.plan_check.specs.Ranking.{rank_in, class_cmp, classes_in};
 ghost use Rattle.plan_unused.specs.declared.halt.Halt.TheVariants as halts;
+ghost use Rattle.plan_unused.specs.Walks.{KeepsPlaces};
 
 use crate::halt::Halt;
+use indexmap::IndexMap;
 use plan_classes::Class;
-use plan_model::MOST_CLASSES;
 use std::alloc::Global;
-use std::collections::BTreeMap;
 use std::marker::Model;
-use std::ops::Bound;
 
-/// The classes that were met, each with the first hop that it was met at, its rank. Contracts see it as the list of the classes in
-/// their order, each with its rank. The stops of a hop are read off it, so they take no memory of their own.
+/// The classes that were met, each with the first hop that it was met at, its rank. A class is found by its hash and by its place, in
+/// the order in which they were met. So the stops of a hop take no memory of their own. Contracts see the list of the classes with
+/// their ranks, in that order.
 #[derive(Drop)]
 pub(crate) struct FirstHops {
-    hops: BTreeMap<Class, u8>,
+    hops: IndexMap<Class, u8>,
 }
 
 impl Model for FirstHops {
@@ -39,8 +36,15 @@ impl FirstHops {
         ensures { result ≡ [] }
     {
         FirstHops {
-            hops: BTreeMap::new(alloc),
+            hops: IndexMap::new(alloc),
         }
+    }
+
+    /// How many classes were met.
+    pub(crate) fn len(&self) -> usize
+        ensures { result ≡ length self.now }
+    {
+        self.hops.len()
     }
 
     /// The rank of a class.
@@ -50,33 +54,31 @@ impl FirstHops {
         self.hops.get(class).copied()
     }
 
-    /// Gives a class a rank. The fault is `Wide` if 262,144 classes have one.
-    pub(crate) fn put(&mut self, class: Class, rank: u8) -> Result<(), Halt>
+    /// The class at a place, with its rank.
+    pub(crate) fn at(&self, place: usize) -> (Class, u8)
+        requires { place < length self.now }
+        ensures class { slice_get (classes_in self.now) place ≡ Some result.0 }
+        ensures rank { rank_in self.now result.0 ≡ Some result.1 }
+    {
+        match self.hops.get_index(place) {
+            Some((class, rank)) => (*class, *rank),
+            None => unreachable!(),
+        }
+    }
+
+    /// Gives a class a rank. A new class has the last place. The fault is `Wide` if as many classes as the limit have a rank.
+    pub(crate) fn put(&mut self, class: Class, rank: u8, limit: usize) -> Result<(), Halt>
         ensures ok { OnOk result ((c : Titles) → rank_in self.new c
             ≡ (if is_eq (class_cmp class c) then Some rank else rank_in self.old c)) }
-        ensures wide { result ≡ Err halts.Wide → (most_classes ≤ length self.old) × IsStrictlySortedBy class_cmp (classes_in self.old) }
+        ensures places { OnOk result (KeepsPlaces self.old self.new) }
+        ensures wide { result ≡ Err halts.Wide → (limit ≤ length self.old) × AllPairs (λ c d. c ≢ d) (classes_in self.old) }
     {
-        if self.hops.len() >= MOST_CLASSES {
+        if self.hops.len() >= limit {
             return Err(Halt::Wide);
         }
         match self.hops.insert(class, rank) {
             Ok(_) => Ok(()),
             Err(_) => Err(Halt::OutOfMemory),
         }
-    }
-
-    /// The first class of a rank among those that come from there on.
-    pub(crate) fn first_at(&self, rank: u8, from: Bound<Class>) -> Option<Class>
-        ensures found { IfSome result (λ c. (rank_in self.now c ≡ Some rank) × IsFromStart class_cmp from c) }
-        ensures first { IfSome result (λ c. (d : Titles) → rank_in self.now d ≡ Some rank → IsFromStart class_cmp from d
-            → class_cmp d c ≡ Less → ⊥) }
-        ensures none { result ≡ None → (d : Titles) → rank_in self.now d ≡ Some rank → IsFromStart class_cmp from d → ⊥ }
-    {
-        for (class, other) in self.hops.range((from, Bound::Unbounded)) {
-            if *other == rank {
-                return Some(*class);
-            }
-        }
-        None
     }
 }

@@ -70,11 +70,11 @@ pub(crate) fn unused_rows(
 }
 
 /// How many rows a node has.
-fn row_count(plan: &Plan, node: u8) -> u16
+fn row_count(plan: &Plan, node: u8) -> u32
     requires { node < length plan.now.nodes }
     ensures { HasCount plan.now node result }
 {
-    plan.nodes().as_slice()[usize::from(node)].table.len() as u16
+    plan.nodes().as_slice()[usize::from(node)].table.len() as u32
 }
 
 /// Adds the unused rows of a node.
@@ -163,7 +163,7 @@ fn target_count(plan: &Plan, place: RowPlace) -> u8
 {
     plan.nodes().as_slice()[usize::from(place.node)]
         .table
-        .row(usize::from(place.row))
+        .row(place.row as usize)
         .target_count()
 }
 
@@ -222,7 +222,7 @@ pub(crate) fn gaps(alloc: Global, plan: &Plan, seen: &Seen) -> Result<List<Gap>,
     ensures { IfOk result (ListsGaps plan.now) }
 {
     let mut found = List::new(alloc);
-    let count = plan.covers().as_slice().len() as u16;
+    let count = plan.covers().as_slice().len() as u32;
     for cover in 0..count {
         if let Some(spot) = seen.gap(cover) {
             found.push(Gap { cover, spot })?;

@@ -1,6 +1,5 @@
 //! What the titles of a class use, and where they are sent on to.
 ghost use Rattle.std.specs.Prelude.{◌≡◌, ◌+◌, ◌<◌, ℕ, None, Err, IsTrue, IsSome, length, OnOk};
-ghost use Rattle.plan_model.specs.Limits.{most_classes};
 ghost use Rattle.plan_classes.specs.Titles.{Titles};
 ghost use Rattle.plan_classes.specs.Classes.{class_row, Reaches};
 ghost use Rattle.plan_unused.specs.declared.halt.Halt.TheVariants as halts;
@@ -41,7 +40,7 @@ pub(crate) fn look(
     ensures seen { OnOk result (IsSeen plan.now seen.new) }
     ensures more { OnOk result (IsMore seen.old seen.new) }
     ensures settled { OnOk result (IsSettled plan.now seen.new met.new class.now depth) }
-    ensures wide { result ≡ Err halts.Wide → MeetsAtLeast plan.now most_classes }
+    ensures wide { result ≡ Err halts.Wide → MeetsAtLeast plan.now plan.now.limits.classes }
 {
     let node = class_node(plan, class);
     match node
@@ -54,7 +53,7 @@ pub(crate) fn look(
                 row: node.table.row(place),
                 place: RowPlace {
                     node: class.node(),
-                    row: place as u16,
+                    row: place as u32,
                 },
                 depth,
             };
@@ -93,7 +92,7 @@ fn look_row(
     ensures seen { OnOk result (IsSeen plan.now seen.new) }
     ensures more { OnOk result (IsMore seen.old seen.new) }
     ensures settled { OnOk result (IsSettled plan.now seen.new met.new stop.now.class.now stop.now.depth) }
-    ensures wide { result ≡ Err halts.Wide → MeetsAtLeast plan.now most_classes }
+    ensures wide { result ≡ Err halts.Wide → MeetsAtLeast plan.now plan.now.limits.classes }
 {
     seen.note_relay(plan, stop.place.node)?;
     seen.note_row(plan, stop.place)?;
@@ -116,7 +115,7 @@ fn look_targets(
     ensures more { OnOk result (IsMore seen.old seen.new) }
     ensures followed { OnOk result ((t : ℕ)
         → IsFollowed plan.now seen.new met.new stop.now.class.now stop.now.depth stop.now.place.row t) }
-    ensures wide { result ≡ Err halts.Wide → MeetsAtLeast plan.now most_classes }
+    ensures wide { result ≡ Err halts.Wide → MeetsAtLeast plan.now plan.now.limits.classes }
 {
     for target in 0..stop.row.target_count() {
         look_target(alloc, plan, stop, target, met, seen)?;
@@ -141,7 +140,7 @@ fn look_target(
     ensures seen { OnOk result (IsSeen plan.now seen.new) }
     ensures more { OnOk result (IsMore seen.old seen.new) }
     ensures followed { OnOk result (IsFollowed plan.now seen.new met.new stop.now.class.now stop.now.depth stop.now.place.row target) }
-    ensures wide { result ≡ Err halts.Wide → MeetsAtLeast plan.now most_classes }
+    ensures wide { result ≡ Err halts.Wide → MeetsAtLeast plan.now plan.now.limits.classes }
 {
     if !reaches_by(plan, stop.class, stop.row, target) {
         return Ok(());
@@ -172,7 +171,7 @@ fn follow(
     ensures grows { OnOk result (Grows plan.now (stop.now.depth + 1) met.old met.new) }
     ensures onward { OnOk result (stop.now.depth < 13 → (next : Titles) → HasFitting plan.now stop.now.class.now target next
         → IsRankedBy met.new next (stop.now.depth + 1)) }
-    ensures wide { result ≡ Err halts.Wide → MeetsAtLeast plan.now most_classes }
+    ensures wide { result ≡ Err halts.Wide → MeetsAtLeast plan.now plan.now.limits.classes }
 {
     if stop.depth >= LAST_HOP {
         return Ok(());

@@ -16,7 +16,7 @@ pub(crate) struct Seen {
     pub relays: BTreeSet<u8>,
     pub rows: BTreeSet<RowPlace>,
     pub targets: BTreeSet<TargetPlace>,
-    pub gaps: BTreeMap<u16, Spot>,
+    pub gaps: BTreeMap<u32, Spot>,
 }
 
 impl Seen {
@@ -72,7 +72,7 @@ impl Seen {
     pub(crate) fn note_gap(
         &mut self,
         plan: &Plan,
-        cover: u16,
+        cover: u32,
         spot: Spot,
     ) -> Result<(), OutOfMemory>
         requires gap { HasGap plan.now cover spot }
@@ -110,7 +110,7 @@ impl Seen {
     }
 
     /// A title of the cover without a row.
-    pub(crate) fn gap(&self, cover: u16) -> Option<Spot>
+    pub(crate) fn gap(&self, cover: u32) -> Option<Spot>
         ensures { result ≡ gap_in self.now cover }
     {
         self.gaps.get(&cover).copied()

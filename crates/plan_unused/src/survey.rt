@@ -7,14 +7,14 @@ use sccp_base::List;
 #[derive(Clone, Copy, PartialEq, Eq, PartialOrd, Ord)]
 pub struct RowPlace {
     pub node: u8,
-    pub row: u16,
+    pub row: u32,
 }
 
 /// The place of a target: that of its row, and its own among the row's targets.
 #[derive(Clone, Copy, PartialEq, Eq, PartialOrd, Ord)]
 pub struct TargetPlace {
     pub node: u8,
-    pub row: u16,
+    pub row: u32,
     pub target: u8,
 }
 
@@ -22,7 +22,7 @@ pub struct TargetPlace {
 #[derive(Clone, Copy)]
 pub struct Gap {
     /// The place of the cover in the plan.
-    pub cover: u16,
+    pub cover: u32,
     /// The title, at the relay.
     pub spot: Spot,
 }
@@ -47,6 +47,6 @@ pub struct Unused {
 #[derive(Drop)]
 pub enum Survey {
     Unused(Unused),
-    /// Covered titles get to at least 262,144 classes, so nothing is said.
+    /// Covered titles get to at least as many classes as the limit of the plan, so nothing is said.
     TooWide,
 }

@@ -2,11 +2,11 @@ use Rattle.std.proofs.Common.{◌∙◌, subst, arith, rules, take_all}
 use Rattle.std.specs.List.{All}
 use Rattle.plan_classes.specs.Titles.{IsPart}
 use Rattle.plan_classes.proofs.Parting.{part_of}
-use Rattle.plan_unused.specs.Walks.{IsRankedBy, Grows}
+use Rattle.plan_unused.specs.Walks.{IsRankedBy, KeepsPlaces, Grows}
 use Rattle.plan_unused.specs.Meets.Meets.{Part}
 use Rattle.plan_unused.proofs.Growing.{Puts, grows_none, grows_on, ranks_grown, was_ranked, parts_grow, put_ranked, parts_ranked}
 use Rattle.plan_unused.proofs.Meeting.{part_at}
-use Rattle.plan_unused.proofs.Noting.{on_ok}
+use Rattle.plan_unused.proofs.Noting.{on_ok, ok_both}
 use Rattle.plan_unused.proofs.entering.+enter.Goals as goal
 
 pub enter-returns-then-is_some-clause-grows : goal.enter-returns-then-is_some-clause-grows
@@ -58,14 +58,14 @@ enter_parts-rank-requires t c = record {
 
 pub enter_parts-returns-clause-grows : goal.enter_parts-returns-clause-grows
 enter_parts-returns-clause-grows t c =
-    on_ok c.rank.result (Puts c.loop-part.met c.rank.new.met c.args.class.now c.args.depth)
-    (Grows c.args.plan.now c.args.depth c.args.met.now c.rank.new.met)
-    (λ puts. parts_grow c.args.plan.now c.args.depth c.args.met.now c.loop-part.met c.rank.new.met c.args.class.now c.requires.fresh
+    ok_both c.rank.result (Puts c.loop-part.met c.rank.new.met c.args.class.now c.args.depth)
+    (KeepsPlaces c.loop-part.met c.rank.new.met) (Grows c.args.plan.now c.args.depth c.args.met.now c.rank.new.met)
+    (λ puts places. parts_grow c.args.plan.now c.args.depth c.args.met.now c.loop-part.met c.rank.new.met c.args.class.now c.requires.fresh
     c.requires.undecided c.requires.may.meets c.loop-part.invariant.grows
     (subst (All (λ part. IsRankedBy c.loop-part.met part c.args.depth)) (take_all c.loop-part.part-index
     c.as_slice-part-items.result.now c.loop-part-test.false ∙ (c.as_slice-part-items.ensures ∙ c.in_ok-parts.ensures.value))
-    c.loop-part.invariant.ranked) puts)
-    c.rank.ensures.puts
+    c.loop-part.invariant.ranked) puts places)
+    c.rank.ensures.puts c.rank.ensures.places
 
 pub enter_parts-returns-clause-ranked : goal.enter_parts-returns-clause-ranked
 enter_parts-returns-clause-ranked t c =

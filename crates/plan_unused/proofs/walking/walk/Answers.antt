@@ -12,5 +12,5 @@ returns-clause-seen c = c.loop-depth.invariant.sound
 pub returns-clause-whole : goal.returns-clause-whole
 returns-clause-whole c =
     let last : c.loop-depth.depth ≡ 14 = omega (arith, c.loop-depth-test.false) in
-    whole_from c.args.plan.now c.loop-depth.met c.loop-depth.seen c.in_ok-met.ensures.sound
-    (subst (λ (n : ℕ). IsWalk c.args.plan.now n c.loop-depth.met c.loop-depth.seen) last c.loop-depth.invariant)
+    whole_from c.args.plan.now c.loop-depth.met c.loop-depth.seen c.loop-depth.first c.in_ok-met.ensures.sound
+    (subst (λ (n : ℕ). IsWalk c.args.plan.now n c.loop-depth.first c.loop-depth.met c.loop-depth.seen) last c.loop-depth.invariant)
