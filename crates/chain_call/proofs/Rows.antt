@@ -1,5 +1,6 @@
 -- Worked rows: a connection over two relays, and one that is refused.
 use Rattle.std.specs.Prelude.{◌≡◌, [], ◌∷◌, Some, None, codes, refl}
+use Rattle.plan_model.specs.Limits.{standard}
 use Rattle.plan_model.specs.Network as plans
 use Rattle.plan_rules.specs.Rule.{rule}
 use Rattle.plan_rules.specs.declared.target.Target.TheVariants.{Relay, Final}
@@ -16,6 +17,7 @@ use Rattle.chain_call.specs.Steps.{through, carried, carried_on, name_at, with_l
 -- relay a at 1-0-2 sends titles of 49 to relay b at 1-0-3, which sends those of 0 to 2-0-1
 two_relays : plans.Network
 two_relays = record {
+  limits = standard;
   nodes =
       record {
         name = codes "a";
