@@ -24,9 +24,9 @@ returns-in_err-tally g c =
     c.with_accepted.new.out in
     let m : Moment = moment g.F.Files.contents g.F.Files.sound g.F.Files.faults g.K.Sink.taken g.K.Sink.faults c.with_accepted.new.files
     c.measure_covers-tally.new.out in
-    let losses = c.limit.result.now in
+    let losses = c.limit-limit.result.now in
     let stop = c.in_err-tally.field-0.0 in
-    rw (p.1, p.2) (subst (λ l. Works (margin_work c.args.file.now l) (Err stop) b m) c.limit.ensures.value
+    rw (p.1, p.2) (subst (λ l. Works (margin_work c.args.file.now l) (Err stop) b m) c.limit-limit.ensures.value
     (c.in_ok-accepted.ensures (each_margin losses) (Err stop) m
     (subst (λ plan. Works (each_margin losses plan) (Err stop) n m) c.plan.ensures.value (c.in_err-tally.ensures n))))
 
@@ -39,9 +39,9 @@ returns-in_err-line g c =
     c.with_accepted.new.out in
     let m : Moment = moment g.F.Files.contents g.F.Files.sound g.F.Files.faults g.K.Sink.taken g.K.Sink.faults c.with_accepted.new.files
     c.measure_covers-tally.new.out in
-    let losses = c.limit.result.now in
+    let losses = c.limit-limit.result.now in
     let tally = c.in_ok-tally.tally in
-    rw (p.1, p.2) (subst (λ l. Works (margin_work c.args.file.now l) (Err Memory) b m) c.limit.ensures.value
+    rw (p.1, p.2) (subst (λ l. Works (margin_work c.args.file.now l) (Err Memory) b m) c.limit-limit.ensures.value
     (c.in_ok-accepted.ensures (each_margin losses) (Err Memory) m
     (subst (λ plan. Works (each_margin losses plan) (Err Memory) n m) c.plan.ensures.value
     (c.in_ok-tally.ensures n (Err Memory) m (Works-memory (answered (margin_status tally, margin_line losses.most tally)) m)))))
@@ -56,9 +56,9 @@ returns g c =
     c.measure_covers-tally.new.out in
     let a : Moment = moment g.F.Files.contents g.F.Files.sound g.F.Files.faults g.K.Sink.taken g.K.Sink.faults c.with_accepted.new.files
     c.print_last.new.out in
-    let losses = c.limit.result.now in
+    let losses = c.limit-limit.result.now in
     let tally = c.in_ok-tally.tally in
-    subst (λ l. Works (margin_work c.args.file.now l) c.print_last.result b a) c.limit.ensures.value
+    subst (λ l. Works (margin_work c.args.file.now l) c.print_last.result b a) c.limit-limit.ensures.value
     (c.in_ok-accepted.ensures (each_margin losses) c.print_last.result a
     (subst (λ plan. Works (each_margin losses plan) c.print_last.result n a) c.plan.ensures.value
     (c.in_ok-tally.ensures n c.print_last.result a
