@@ -89,7 +89,7 @@ def calls(sizes):
         found = calls + found
     if sizes.rows <= SMALL:
         found += [(["wide", "covers", "plan"], 0, "cover 0 accepted bound "), (["wide", "unused", "plan"], 0, "unused "),
-                  (["wide", "margin", "plan", "1"], 1, "accepted bound "), (["wide", "change", "plan", "new"], 0, "old accepted bound ")]
+                  (["wide", "margin", "plan", "1"], 0, "accepted bound "), (["wide", "change", "plan", "new"], 0, "old accepted bound ")]
     return found
 
 
