@@ -18,6 +18,7 @@ load NUMBER SIZE WORKERS
 send-on PLAN NODE ORIGIN SIZE HEX
 connect PLAN NODE FROM SELECTOR SSN DIGITS HEX
 import PLAN FILE
+wide COMMAND WORD..
 --json COMMAND WORD..
 --help COMMAND
 --version
@@ -25,16 +26,18 @@ import PLAN FILE
 '
 # The end of the table.
 
-# Sets kind to what may take the place of the last of these words, and plan to the first plan before it.
+# Sets kind to what may take the place of the last of these words, plan to the first plan before it, and wide to 1 after that word.
 _sccp_look() {
   local line use place
-  kind=COMMAND plan=''
-  # After --json all words are as without it.
+  kind=COMMAND plan='' wide=0
+  # After --json all words are as without it, and after wide those of a command that reads a plan.
   [ $# -gt 1 ] && [ "$1" = --json ] && shift
+  [ $# -gt 1 ] && [ "$1" = wide ] && wide=1 && shift
   [ $# -gt 1 ] || return
   while read -r line; do
     read -ra use <<<"$line"
     [ "${use[0]-}" = "$1" ] || continue
+    _sccp_may_follow "$line" || break
     for ((place = 1; place < $#; place++)); do
       kind=${use[place]-}
       if [ -z "$plan" ] && ((place < $# - 1)); then
@@ -45,6 +48,9 @@ _sccp_look() {
   done <<<"$_sccp_uses"
   kind=''
 }
+
+# Whether a command may follow the words before it: after wide, if it reads a plan.
+_sccp_may_follow() { ((!wide)) || [[ $1 == *' '@(PLAN|OLD)* ]]; }
 
 # The values that these keys have in the plan, one a line.
 _sccp_values() {
@@ -65,13 +71,15 @@ _sccp_values() {
 
 # The commands. The words of the launcher are offered if one is begun, and if the program is called by a path, as the launcher is.
 _sccp_first() {
-  local kept=-v
+  local kept=-v line
   [[ $current == -* && $program == */* && ${#words[@]} -eq 1 ]] && kept=-e
-  cut -d ' ' -f 1 <<<"$_sccp_uses" | grep $kept '^--'
+  while read -r line; do
+    _sccp_may_follow "$line" && echo "${line%% *}"
+  done <<<"$_sccp_uses" | grep $kept '^--'
 }
 
 _sccp() {
-  local words program current kind plan
+  local words program current kind plan wide
   read -ra words <<<"${COMP_LINE:0:COMP_POINT}"
   [[ ${COMP_LINE:0:COMP_POINT} == *[[:blank:]] ]] && words+=('')
   program=${words[0]}

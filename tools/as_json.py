@@ -113,7 +113,7 @@ class Signals:
 
 def run(program, words):
     """Runs the program, and gives its status or ends by its signal."""
-    objects = Objects(words[0] if words else None)
+    objects = Objects(lines.command_of(words))
     signals = Signals(objects)
     try:
         started = subprocess.Popen([program, *words], stdout=subprocess.PIPE)

@@ -4,13 +4,14 @@
   read_lines(lines, command=None)   the record of each line, in order; any number of lines in constant memory
   read_groups(lines, command=None)  the same, but lines that belong to the one before them are in its record (see below)
   write_line(record)                the line of a record, without a line feed; of one with lists by read_groups its own line
+  command_of(words)                 the command of the words of a call: the first one, or the one after wide
   mark_text(mark)                   the text of a mark, as point:2-0-1
   FORMS                             the forms by their names
   RETURN_CAUSES, REFUSAL_CAUSES, ERROR_CAUSES    the texts of causes by their numbers
 
 A record is a dict. Its "form" is the name of a form in FORMS, and its other keys are the fields of that form, each of one type.
-Every line that the program prints is read by exactly one form of its command, which is the first word of the call, and can be
-written again from the fields. Without a command that is known all forms are tried; a line such as `5 undecodable short` is then taken
+Every line that the program prints is read by exactly one form of its command, which command_of gives, and can be written again from
+the fields. Without a command that is known all forms are tried; a line such as `5 undecodable short` is then taken
 for one of a replay, not of `cuts`. A line of no form gives {"form": "text", "text": LINE}.
 
   number      a whole number, as an int
@@ -24,17 +25,17 @@ Fields in [] are only there if the line has them. A.B is the key B of the dict A
 
   form               fields                                       lines, and the commands that print them
   usage              shapes                                       every command
-  too_long                                                        every command that reads a file
+  too_long           [limit]                                      every command that reads a file
   read_fault                                                      the same
   bad_plan           [which] FAULT                                every command that reads a plan
   bad_trace_line     line fault                                   show, import, replay
   unknown_node       [line]                                       route, connect, send-on; with a line: replay
   accepted           [which] bound                                verify, margin; with which ("old" or "new"): change
   refused            [which] KIND cover steady                    verify, margin, replay, load, connect; with which: change
-  too_wide           [which]                                      the same, and unused
+  too_wide           [which] [limit]                              the same, and unused
   cover_accepted     cover bound                                  covers
   cover_refused      KIND cover steady                            covers
-  cover_too_wide     cover [points]                               covers; with points: margin
+  cover_too_wide     cover [points] [limit]                       covers; with points: margin
   covers_accepted    bound                                        covers
   covers_counted     accepted refused too_wide                    covers: how many, if not all are accepted
   unused_relay       node                                         unused
@@ -51,11 +52,11 @@ Fields in [] are only there if the line has them. A.B is the key B of the dict A
   hop                [which] node title held step ..              verify, covers, margin, route, replay, load, connect, change
   change_accepted    bound                                        change
   change_refused     KIND old_cover new_cover                     change
-  change_too_wide                                                 change
+  change_too_wide    [limit]                                      change
   other_nodes                                                     change
   plan_accepted      [line] plan file bound                       replay: the first plan (no line), and later ones
   plan_refused       line file KIND cover steady                  replay: a later plan; so are the next three
-  plan_too_wide      line file
+  plan_too_wide      line file [limit]
   plan_bad           line file FAULT
   plan_other_nodes   line file
   journey            line plan via end ..                         replay: a message that was routed
@@ -91,7 +92,8 @@ Fields in [] are only there if the line has them. A.B is the key B of the dict A
 
 KIND is kind, and for "loop" hop, for "forbidden" point and ssn, for "no row" cause; "long" and "overgrown" have no more.
 FAULT is fault, with place.node, place.row, place.cover and place.key as far as the place has them. "rule" also has rule: "twice" with
-place.rows, "strip too long" or "kind two" with place.row. "limit" has of, and "not toml" and "no cover" have no more.
+place.rows, "strip too long" or "kind two" with place.row. "limit" has of and [limit], and "not toml" and "no cover" have no more. limit is the number that was passed, if it is not the standard
+one, as it is after wide.
 WHY is fault, and for "bad pointer" and "bad part" number, for "address" number and why, for "field" name.
 
 title of a hop or a gap is title.selector, title.ssn and title.digits. step is "sent" with next and target, "ended" with point, ssn and
@@ -221,7 +223,8 @@ NAMED = {
     "STEADY": "steady ({steady:=true:yes}|{steady:=false:no})",
     "PLACE": "(|node {place.node} (|row {place.row} )|cover {place.cover} ){place.key:key_word}",
     "RULE": "({rule=twice} {place.rows}|{rule=strip too long} {place.row}|{rule=kind two} {place.row})",
-    "LIMIT": "{fault=limit} ({of=nodes}|{of=rows}|{of=covers})",
+    "LIMIT": "{fault=limit} ({of=nodes}|{of=rows}|{of=covers})<PASSED>",
+    "PASSED": "(| {limit})",
     "BAD_PLAN": "bad plan ({fault=not toml}|{fault=no cover}|<LIMIT>|{fault:placed_fault} <PLACE>|{fault=rule} node {place.node} <RULE>)",
     "NUMBERED": "{fault=bad pointer} {number}|{fault=bad part} {number}|{fault=address} {number} {why:address_fault}",
     "WHY": "({fault=unknown type}|{fault=short}|{fault=bad optional}|<NUMBERED>|{fault=field} {name})",
@@ -257,7 +260,7 @@ def causes(table, other):
     return f"({'|'.join(with_texts)}|{{cause:{other}}}{{text:=null:}})"
 
 
-EVERY = "show-hex show cuts route verify covers unused margin change replay load send-on connect import"
+EVERY = "show-hex show cuts route verify covers unused margin change replay load send-on connect import wide"
 FILES = "show route verify covers unused margin change replay send-on connect import"
 COMMANDS = frozenset(EVERY.split())
 JUDGED = "verify margin replay load connect"
@@ -266,17 +269,17 @@ SHOWN = "show-hex show"
 # Each form: its name, and each of its patterns after the commands that print such lines.
 TABLE = [
     ("usage", (EVERY, "usage: {shapes}")),
-    ("too_long", (FILES, "too long")),
+    ("too_long", (FILES, "too long<PASSED>")),
     ("read_fault", (FILES, "read fault")),
     ("bad_plan", ("route verify covers unused margin replay send-on connect import", "<BAD_PLAN>"), ("change", "<WHICH><BAD_PLAN>")),
     ("bad_trace_line", ("show import replay", "bad trace line {line} {fault:line_fault}")),
     ("unknown_node", ("route connect send-on", "unknown node"), ("replay", "{line} unknown node")),
     ("accepted", ("verify margin", "accepted bound {bound}"), ("change", "<WHICH>accepted bound {bound}")),
     ("refused", (JUDGED, "refused <KIND> cover {cover} <STEADY>"), ("change", "<WHICH>refused <KIND> cover {cover} <STEADY>")),
-    ("too_wide", (f"{JUDGED} unused", "too wide"), ("change", "<WHICH>too wide")),
+    ("too_wide", (f"{JUDGED} unused", "too wide<PASSED>"), ("change", "<WHICH>too wide<PASSED>")),
     ("cover_accepted", ("covers", "cover {cover} accepted bound {bound}")),
     ("cover_refused", ("covers", "cover {cover} refused <KIND> <STEADY>")),
-    ("cover_too_wide", ("covers", "cover {cover} too wide"), ("margin", "cover {cover} too wide at {points}")),
+    ("cover_too_wide", ("covers", "cover {cover} too wide<PASSED>"), ("margin", "cover {cover} too wide at {points}")),
     ("covers_accepted", ("covers", "all accepted bound {bound}")),
     ("covers_counted", ("covers", "accepted {accepted} refused {refused} too wide {too_wide}")),
     ("unused_relay", ("unused", "unused relay {node}")),
@@ -294,11 +297,11 @@ TABLE = [
     ("hop", (f"{JUDGED} covers route change", "<HOP>"), ("change", "<WHICH><HOP>")),
     ("change_accepted", ("change", "change accepted bound {bound}")),
     ("change_refused", ("change", "change refused <KIND> covers {old_cover} {new_cover}")),
-    ("change_too_wide", ("change", "change too wide")),
+    ("change_too_wide", ("change", "change too wide<PASSED>")),
     ("other_nodes", ("change", "other nodes")),
     ("plan_accepted", ("replay", "({line} plan {plan}|plan {plan:=1:1}) {file} accepted bound {bound}")),
     ("plan_refused", ("replay", "{line} plan {file} refused <KIND> cover {cover} <STEADY>")),
-    ("plan_too_wide", ("replay", "{line} plan {file} too wide")),
+    ("plan_too_wide", ("replay", "{line} plan {file} too wide<PASSED>")),
     ("plan_bad", ("replay", "{line} plan {file} <BAD_PLAN>")),
     ("plan_other_nodes", ("replay", "{line} plan {file} other nodes")),
     ("journey", ("replay", "{line} by {plan} via {via} <END>")),
@@ -486,6 +489,12 @@ def by_keys():
 KNOWN = by_keys()
 
 # ---- Reading and writing
+
+def command_of(words):
+    """The command of a call: its first word, or the one after wide. None of a call without words."""
+    words = words[1:] if words[:1] == ["wide"] and len(words) > 1 else words
+    return words[0] if words else None
+
 
 # What read_groups adds to records.
 LISTS = ("hops", "parts", "sends")

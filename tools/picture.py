@@ -9,6 +9,7 @@
   tools/picture.py --change OLD NEW --route FILE
 
   --no-rows       only the relays and places of the route
+  --wide          verify and change run after the word wide, for plans of real size
   --program FILE  the program to run, in place of ./sccp of this repository
 
 The text goes to standard output: `tools/picture.py PLAN --verify | dot -Tsvg > plan.svg`.
@@ -393,7 +394,7 @@ def picture_of(words):
     if words.route:
         printed = lines_in(words.route)
     elif asked:
-        printed = printed_by(words.program, asked)
+        printed = printed_by(words.program, ["wide", *asked] if words.wide else asked)
     if printed is None:
         return draw(plans, rows=not words.no_rows)
     route = first_route(routes_in(lines.read_groups(printed)))
@@ -403,12 +404,13 @@ def picture_of(words):
 
 
 def main(words):
-    parser = argparse.ArgumentParser(add_help=False, allow_abbrev=False, usage="picture.py [--verify | --route FILE] [--no-rows] [--program FILE] PLAN | --change OLD NEW")
+    parser = argparse.ArgumentParser(add_help=False, allow_abbrev=False, usage="picture.py [--verify | --route FILE] [--no-rows] [--wide] [--program FILE] PLAN | --change OLD NEW")
     parser.add_argument("plan", nargs="?")
     parser.add_argument("--change", nargs=2)
     parser.add_argument("--verify", action="store_true")
     parser.add_argument("--route")
     parser.add_argument("--no-rows", action="store_true")
+    parser.add_argument("--wide", action="store_true")
     parser.add_argument("--program", default=os.path.join(TOP, "sccp"))
     if words in (["-h"], ["--help"]):
         print(__doc__, end="")

@@ -1,7 +1,9 @@
 #!/usr/bin/env python3
 """Makes a plan file of version 2 from three tables in CSV.
 
-  tools/plan_of_csv.py RELAYS ROWS COVERS > PLAN
+  tools/plan_of_csv.py [--wide] RELAYS ROWS COVERS > PLAN
+
+With --wide the plan may have as many relays, rows, covers and octets as the program reads after its word wide.
 
 Each table has a head line with the names of its columns, in any order. A column with a ? may be absent.
 
@@ -25,12 +27,15 @@ above it with the file and the line that it was made from.
 Faults are written to standard error, each with its file and line and what was expected there, and no plan is written then.
 Statuses: 0 the plan was written, 1 there are faults, 64 the words are wrong, 74 a file cannot be read.
 """
+import collections
 import csv
 import os
 import re
 import sys
 
-MOST_RELAYS, MOST_ROWS, MOST_COVERS, MOST_TARGETS, MOST_OCTETS = 64, 4096, 256, 8, 1048576
+Limits = collections.namedtuple("Limits", "relays rows covers octets")
+STANDARD, WIDE = Limits(64, 4096, 256, 1048576), Limits(255, 1048576, 65535, 268435456)
+MOST_TARGETS = 8
 WIDEST = 120  # a list of targets that would make a longer line has one target a line
 ANY = 0  # in place of the subsystem number of a row that is for all
 
@@ -431,29 +436,29 @@ def report_repeats(found, key, column, expected):
             met[value] = one.record.line
 
 
-def read_relays(table):
+def read_relays(table, most):
     if not table.has_columns(["name", "point"], ["subsystems", "concerned", "comment"]):
         return []
-    relays = [Relay(record) for record in table.lines(MOST_RELAYS, "relays")]
+    relays = [Relay(record) for record in table.lines(most, "relays")]
     report_repeats(relays, lambda relay: (relay.name,), "name", "a name of its own")
     report_repeats(relays, lambda relay: (relay.point,), "point", "a point code of its own")
     return relays
 
 
-def read_rows(table, names):
+def read_rows(table, names, most):
     targets = [f"target{i + 1}" for i in range(MOST_TARGETS)]
     if not table.has_columns(["relay", "selector", "prefix", "target1"], ["ssn", "drop", "put"] + targets[1:] + ["comment"]):
         return []
-    rows = [Row(record, names) for record in table.lines(MOST_ROWS, "rows")]
+    rows = [Row(record, names) for record in table.lines(most, "rows")]
     report_repeats(rows, Row.key, "prefix", "one row for a relay, selector, ssn and prefix")
     return rows
 
 
-def read_covers(table, names):
+def read_covers(table, names, most):
     needed = ["relay", "selector", "ssn", "prefix", "least", "most", "allowed"]
     if not table.has_columns(needed, ["comment"]):
         return []
-    covers = [Cover(record, names) for record in table.lines(MOST_COVERS, "covers")]
+    covers = [Cover(record, names) for record in table.lines(most, "covers")]
     if not table.records:
         table.fault(table.head_line, "expected a cover or more below the head line")
     return covers
@@ -467,28 +472,31 @@ def names_in(table):
     return {cells[column] for _, cells in table.records if column < len(cells)}
 
 
-def plan_of(tables, faults):
+def plan_of(tables, faults, limits):
     """The text of the plan, if there are no faults."""
-    relays = read_relays(tables[0])
+    relays = read_relays(tables[0], limits.relays)
     names = names_in(tables[0])
-    rows, covers = read_rows(tables[1], names), read_covers(tables[2], names)
+    rows, covers = read_rows(tables[1], names, limits.rows), read_covers(tables[2], names, limits.covers)
     if faults.all:
         return ""
+    rows_of = {relay.name: [] for relay in relays}
+    for row in rows:
+        rows_of[row.relay].append(row)
     bases = [table.base for table in tables]
     made = f"# Made by plan_of_csv.py from {bases[0]}, {bases[1]} and {bases[2]}: each comment below begins with a file and a line."
-    text = "\n".join(tables[0].above + [made, "version = 2"]) + "\n"
+    parts = ["".join(line + "\n" for line in [*tables[0].above, made, "version = 2"])]
     for relay in relays:
-        text += "\n" + relay.text()
-        text += "".join("\n" + row.text() for row in rows if row.relay == relay.name)
-    return text + "".join("\n" + cover.text() for cover in covers)
+        parts += [one.text() for one in [relay, *rows_of[relay.name]]]
+    return "\n".join(parts + [cover.text() for cover in covers])
 
 
 def main(words):
     if words in (["-h"], ["--help"]):
         print(__doc__, end="")
         return 0
+    limits, words = (WIDE, words[1:]) if words[:1] == ["--wide"] else (STANDARD, words)
     if len(words) != 3:
-        print("usage: plan_of_csv.py RELAYS ROWS COVERS > PLAN", file=sys.stderr)
+        print("usage: plan_of_csv.py [--wide] RELAYS ROWS COVERS > PLAN", file=sys.stderr)
         return 64
     faults, unread, tables = Faults(), False, []
     for place_of, path in enumerate(words):
@@ -502,12 +510,12 @@ def main(words):
             print(f"{path}: cannot be read: {fault.strerror}", file=sys.stderr)
     if unread:
         return 74
-    octets = plan_of(tables, faults).encode("utf-8")
+    octets = plan_of(tables, faults, limits).encode("utf-8")
     if faults.all:
         sys.stderr.write(faults.text())
         return 1
-    if len(octets) > MOST_OCTETS:
-        print(f"the plan has {len(octets)} octets: expected at most {MOST_OCTETS}, so write shorter comments", file=sys.stderr)
+    if len(octets) > limits.octets:
+        print(f"the plan has {len(octets)} octets: expected at most {limits.octets}, so write shorter comments", file=sys.stderr)
         return 1
     sys.stdout.buffer.write(octets)
     return 0

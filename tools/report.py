@@ -1,7 +1,7 @@
 #!/usr/bin/env python3
 """Writes what the program says of a plan as one HTML page, which needs no other file and no network.
 
-  tools/report.py PLAN [--losses N] [--change NEW] [--trace TRACE [--workers N]] [-o FILE]
+  tools/report.py [--wide] PLAN [--losses N] [--change NEW] [--trace TRACE [--workers N]] [-o FILE]
 
 The page has the verdict of `verify`, the relays with their rows, the covers, and the printed route as a picture and as a table with
 what to mend. Of a plan that is not accepted it has the same of each bad cover, as `covers` prints it. Of any plan it has what
@@ -10,6 +10,7 @@ another number is given by --losses, with the titles that are stopped. With --ch
 to NEW, and with --trace what a replay came to, by one worker unless N are asked for. Pictures are drawn by dot of Graphviz;
 without it the page has the tables only.
 
+  --wide          every command runs after the word wide, for plans of real size
   -o FILE         the page; standard output if it is absent
   --program FILE  the program to run, in place of ./sccp of this repository
   --dot FILE      the dot to run, in place of the one on the path; with - none is run
@@ -103,12 +104,16 @@ class Report:
             return None, f"{str(fault)[0].upper()}{str(fault)[1:]}."
 
     def ask(self, words):
-        return list(lines.read_groups(self.program.lines(words), words[0]))
+        return list(lines.read_groups(self.program.lines(self.called(words)), words[0]))
+
+    def called(self, words):
+        """The words of a call of this command."""
+        return ["wide", *words] if self.words.wide else words
 
     def replay(self):
         counts = replay_counts.Counts()
         words = ["replay", self.words.plan, self.words.trace, str(self.words.workers)]
-        for record in lines.read_lines(self.program.lines(words), "replay"):
+        for record in lines.read_lines(self.program.lines(self.called(words)), "replay"):
             counts.take(record)
         return counts
 
@@ -275,12 +280,13 @@ def dot_of(words):
     return Dot(words.dot or shutil.which("dot"))
 
 
-USAGE = "report.py PLAN [--losses N] [--change NEW] [--trace TRACE [--workers N]] [-o FILE] [--program FILE] [--dot FILE]"
+USAGE = "report.py [--wide] PLAN [--losses N] [--change NEW] [--trace TRACE [--workers N]] [-o FILE] [--program FILE] [--dot FILE]"
 
 
 def parsed(words):
     parser = argparse.ArgumentParser(add_help=False, allow_abbrev=False, usage=USAGE)
     parser.add_argument("plan")
+    parser.add_argument("--wide", action="store_true")
     parser.add_argument("--losses", type=int, default=3, choices=range(100), metavar="N")
     parser.add_argument("--change")
     parser.add_argument("--trace")

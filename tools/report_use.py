@@ -2,7 +2,7 @@
 import picture
 from html_page import Raw, code, counted, joined, section, table, tag, whole
 from report_routes import route_parts
-from report_words import cover_words, no_row_words
+from report_words import cover_words, no_row_words, passed
 
 MOST_STOPS = 12  # titles that are stopped by lost points, with their routes
 
@@ -20,7 +20,7 @@ def unused(report):
     """What `unused` lists: by relay the rows with their lines in the file, then covers and gaps."""
     answer = report.unused[-1] if report.unused else {"form": ""}
     if answer["form"] == "too_wide":
-        said = "Covered titles get to at least 262,144 classes."
+        said = f"Covered titles get to at least {passed(answer)} classes."
         return section("Unused parts", tag("p", tag("b", "No answer: too wide. "), said, class_="verdict warn"))
     if answer["form"] != "unused_counted":
         return Raw("")

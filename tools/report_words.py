@@ -80,6 +80,11 @@ def first_line(records):
 ANSWERS = ("refused", "too_wide", "bad_plan", "change_refused", "change_accepted", "change_too_wide", "other_nodes", "read_fault", "too_long")
 
 
+def passed(record):
+    """The number of classes at which a search gave up: the one of the line, or the standard one."""
+    return f"{record.get('limit', 262144):,}"
+
+
 def verdict_line(record):
     """A coloured line for a verdict or an answer."""
     form, said = record["form"], picture.line_of(record)
@@ -89,8 +94,8 @@ def verdict_line(record):
                                  f"that both plans cover goes as it should within {counted(record.get('bound', 0), 'hop')}."),
              "refused": ("bad", "Refused.", "A covered title takes the bad route below."),
              "change_refused": ("bad", "The changeover is refused.", "While some relays hold the old plan and others the new one, a title that both cover takes the bad route below."),
-             "too_wide": ("warn", "No verdict: too wide.", "The plan reaches at least 262,144 classes of titles. That says nothing about safety."),
-             "change_too_wide": ("warn", "No answer: too wide.", "The two plans together reach at least 262,144 classes of titles. That says nothing about safety."),
+             "too_wide": ("warn", "No verdict: too wide.", f"The plan reaches at least {passed(record)} classes of titles. That says nothing about safety."),
+             "change_too_wide": ("warn", "No answer: too wide.", f"The two plans together reach at least {passed(record)} classes of titles. That says nothing about safety."),
              "bad_plan": ("bad", "The file is no plan.", "Nodes, rows and covers are counted from 0 in the fault."),
              "other_nodes": ("warn", "Other nodes.", "The two plans do not have the same relays, points, own subsystems and concerned points, so nothing is said."),
              "read_fault": ("bad", "A file could not be read.", ""), "too_long": ("bad", "A file is too long.", "")}

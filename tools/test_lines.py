@@ -26,7 +26,7 @@ CRATES = os.path.join(TOP, "crates")
 
 # The calls that begin with ? print the usage line, which those that begin with > have in full.
 CALLS = [(words, [line for line in printed if (mark, line) != ("?", "usage")]) for mark, words, printed in stored_cases.stored_calls()]
-PRINTED = sorted({(words[0] if words[0] in lines.COMMANDS else "", line) for words, printed in CALLS for line in printed})
+PRINTED = sorted({(command if (command := lines.command_of(words)) in lines.COMMANDS else "", line) for words, printed in CALLS for line in printed})
 
 POINT, SCCP = {"kind": "point", "point": "2-0-1"}, {"kind": "sccp", "point": "7-255-7"}
 SUBSYSTEM = {"kind": "subsystem", "point": "0-0-0", "ssn": 6}
@@ -56,12 +56,20 @@ TYPED = {
         ("at a 4:0:1:4 6 49A held none no row 1", hop("no row", cause=1)),
         ("at a 4:0:1:4 6 49A held none overgrown", hop("overgrown")),
         ("bad plan not toml", record("bad_plan", fault="not toml")),
+        ("bad plan limit nodes 255", record("bad_plan", fault="limit", of="nodes", limit=255)),
+        ("bad plan limit rows 1048576", record("bad_plan", fault="limit", of="rows", limit=1048576)),
+        ("too long", record("too_long")),
+        ("too long 268435456", record("too_long", limit=268435456)),
+        ("too wide 67108864", record("too_wide", limit=67108864)),
     ],
     "change": [
         ("old accepted bound 2", record("accepted", which="old", bound=2)),
         ("new refused overgrown cover 1 steady no", record("refused", which="new", kind="overgrown", cover=1, steady=False)),
         ("old too wide", record("too_wide", which="old")),
+        ("new too wide 67108864", record("too_wide", which="new", limit=67108864)),
         ("change too wide", record("change_too_wide")),
+        ("change too wide 67108864", record("change_too_wide", limit=67108864)),
+        ("old bad plan limit covers 65535", record("bad_plan", which="old", fault="limit", of="covers", limit=65535)),
         ("change refused overgrown covers 2 0", record("change_refused", kind="overgrown", old_cover=2, new_cover=0)),
         ("new at sixteen_octets-_ 2:255 0 - held point:2-0-1,sccp:7-255-7,subsystem:0-0-0/6 overgrown",
          record("hop", which="new", node="sixteen_octets-_", title={"selector": "2:255", "ssn": 0, "digits": ""},
@@ -75,6 +83,7 @@ TYPED = {
         ("cover 3 refused no row 1 steady yes", record("cover_refused", cover=3, kind="no row", cause=1, steady=True)),
         ("cover 2 accepted bound 14", record("cover_accepted", cover=2, bound=14)),
         ("cover 1 too wide", record("cover_too_wide", cover=1)),
+        ("cover 65534 too wide 67108864", record("cover_too_wide", cover=65534, limit=67108864)),
         ("all accepted bound 2", record("covers_accepted", bound=2)),
         ("accepted 2 refused 3 too wide 0", record("covers_counted", accepted=2, refused=3, too_wide=0)),
     ],
@@ -127,6 +136,8 @@ TYPED = {
         ("5 plan 2 refused loop 0 cover 0 steady no",
          record("plan_refused", line=5, file="2", kind="loop", hop=0, cover=0, steady=False)),
         ("5 plan 2 too wide", record("plan_too_wide", line=5, file="2")),
+        ("5 plan 2 too wide 67108864", record("plan_too_wide", line=5, file="2", limit=67108864)),
+        ("5 plan 2 bad plan limit rows 1048576", record("plan_bad", line=5, file="2", fault="limit", of="rows", limit=1048576)),
         ("5 plan 2 other nodes", record("plan_other_nodes", line=5, file="2")),
         ("5 plan 2 bad plan repeated node 1 name",
          record("plan_bad", line=5, file="2", fault="repeated", place={"node": 1, "key": "name"})),
@@ -229,7 +240,8 @@ FAULTY = {
         "at a 4:0:1:4 6 49 held point:2-0-8 overgrown", "at a 4:0:1:4 6 49 held point:2-256-1 overgrown",
         "at a 4:0:1:4 6 49 held subsystem:2-0-1 overgrown", "at a 4:0:1:4 6 49 held point:2-0-1/6 overgrown",
         "bad plan bad value row 0 targets", "bad plan bad value node 1 row targets", "bad plan bad value node 1",
-        "bad plan rule node 0 twice 1", "bad plan rule node 0 kind two", "bad plan", "bad plan limit",
+        "bad plan rule node 0 twice 1", "bad plan rule node 0 kind two", "bad plan", "bad plan limit", "bad plan limit 255",
+        "bad plan limit nodes 0255", "bad plan limit nodes  255", "bad plan no cover 1", "too wide 067108864", "too wide 1 2", "too long -",
     ],
     "covers": [
         "accepted bound 2", "too wide", "refused long cover 0 steady yes", "cover 0 refused loop steady yes", "cover accepted bound 2",
@@ -246,7 +258,7 @@ FAULTY = {
     ],
     "margin": [
         "cover 0 stopped by any", "cover 0 stopped 3", "cover stopped by 3", "cover 0 survives", "cover 0 survives 01", "all survive any",
-        "cover 0 too wide", "cover 0 too wide at",
+        "cover 0 too wide", "cover 0 too wide at", "cover 0 too wide at 1 67108864", "cover 0 too wide 67108864",
         "cover 0 accepted bound 2", "least 1 stopped 2", "least any stopped 2 too wide 0", "all accepted bound 2",
     ],
     "change": [
@@ -351,13 +363,23 @@ class Cases(unittest.TestCase):
 
 
 def may_be_absent(words, at):
-    return words[at] == "national" or (words[at] in ("old", "new") and words[at + 1:at + 2] == ["at"])
+    if words[at] == "national" or (words[at] in ("old", "new") and words[at + 1:at + 2] == ["at"]):
+        return True
+    # A limit that was passed. The last lines of covers and margin end with a count.
+    is_limit = words[at - 2:at] in (["too", "wide"], ["too", "long"]) or words[at - 2:at - 1] == ["limit"]
+    return is_limit and at == len(words) - 1 and words[0] not in ("accepted", "least")
 
 
 def misspelled(line, start, end):
     """The line with another letter at the end of each word of small letters in this part of it."""
     ends = [found.end() for found in re.finditer(r"(?<![\w:-])[a-z]+(?![\w-])", line[start:end])]
     return [line[:start + at - 1] + ("q" if line[start + at - 1] != "q" else "p") + line[start + at:] for at in ends]
+
+
+class Commands(unittest.TestCase):
+    def test_the_command_of_a_call(self):
+        for words, command in (("verify p", "verify"), ("wide verify p", "verify"), ("wide", "wide"), ("wide wide verify", "wide"), ("", None)):
+            self.assertEqual(command, lines.command_of(words.split()))
 
 
 class Typed(unittest.TestCase):
@@ -454,8 +476,9 @@ class Streams(unittest.TestCase):
             head = {key: value for key, value in group.items() if key not in lines.LISTS}
             return ([] if head == {"form": "route"} else [head]) + inner
         for words, printed in CALLS:
-            whole = [part for group in lines.read_groups(printed, words[0]) for part in spread(group)]
-            self.assertEqual(list(lines.read_lines(printed, words[0])), whole, words)
+            command = lines.command_of(words)
+            whole = [part for group in lines.read_groups(printed, command) for part in spread(group)]
+            self.assertEqual(list(lines.read_lines(printed, command)), whole, words)
 
 
 class Pipeline(unittest.TestCase):

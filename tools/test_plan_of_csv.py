@@ -105,9 +105,9 @@ class Case(unittest.TestCase):
     def path(self, name):
         return os.path.join(self.scratch.name, name)
 
-    def made(self, relays=RELAYS, rows=ROWS, covers=COVERS):
+    def made(self, relays=RELAYS, rows=ROWS, covers=COVERS, *options):
         """The answer for three tables, whose folder is left out of the reports."""
-        words = []
+        words = [*options]
         for name, text in (("relays.csv", relays), ("rows.csv", rows), ("covers.csv", covers)):
             words.append(self.path(name))
             with open(words[-1], "wb") as file:
@@ -293,6 +293,18 @@ rows.csv:4098: expected at most 4096 rows, found 4098
 covers.csv:258: expected at most 256 covers, found 258
 """, relays=relays, rows=rows, covers=covers)
 
+    def test_wide_limits(self):
+        relays = "name,point\n" + "".join(f"n{i},{i}\n" for i in range(256))
+        rows = "relay,selector,prefix,target1\n" + "".join(f"n{i % 255},4:0:1:4,{i:05},2-0-1\n" for i in range(4097))
+        covers = "relay,selector,ssn,prefix,least,most,allowed\n" + "n1,4:0:1:4,6,-,1,2,2-0-1/6\n" * 65536
+        few_relays, few_covers = relays.removesuffix("n255,255\n"), covers[:-len("n1,4:0:1:4,6,-,1,2,2-0-1/6\n")]
+        status, out, told = self.made(few_relays, rows, few_covers, "--wide")
+        self.assertEqual((0, ""), (status, told))
+        self.assertEqual([255, 4097, 65535], [out.count(b"\n" + head) for head in (b"[[node]]", b"[[node.row]]", b"[[cover]]")])
+        self.assertEqual((1, b"", """relays.csv:257: expected at most 255 relays, found 256
+covers.csv:65537: expected at most 65535 covers, found 65536
+"""), self.made(relays, rows, covers, "--wide"))
+
     def test_a_plan_that_is_too_long(self):
         def covers(length):
             return COVERS + f"a,4:0:1:4,7,4,1,9,2-0-1/6,{'x' * 100000}\n" * 10 + f"a,4:0:1:4,7,4,1,9,2-0-1/6,{'x' * length}\n"
@@ -304,7 +316,8 @@ covers.csv:258: expected at most 256 covers, found 258
         self.assertEqual((1, b"", told), self.made(covers=covers(length + 1)))
 
     def test_words_and_files(self):
-        self.assertEqual((64, b"", "usage: plan_of_csv.py RELAYS ROWS COVERS > PLAN\n"), run("relays.csv", "rows.csv"))
+        self.assertEqual((64, b"", "usage: plan_of_csv.py [--wide] RELAYS ROWS COVERS > PLAN\n"), run("relays.csv", "rows.csv"))
+        self.assertEqual(64, run("--wide", "relays.csv", "rows.csv")[0])
         status, out, told = run("--help")
         self.assertEqual((0, b"Makes a plan file of version 2 from three tables in CSV.", ""), (status, out.split(b"\n")[0], told))
         absent = self.path("absent.csv")

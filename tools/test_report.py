@@ -120,7 +120,7 @@ class Balance(html.parser.HTMLParser):
 
 
 def words_of(plan, **given):
-    return types.SimpleNamespace(**{"plan": plan, "losses": 3, "change": None, "trace": None, "workers": 1, "output": None} | given)
+    return types.SimpleNamespace(**{"plan": plan, "losses": 3, "change": None, "trace": None, "workers": 1, "output": None, "wide": False} | given)
 
 
 def hops_in(graph):
@@ -220,6 +220,17 @@ class Cases(unittest.TestCase):
             self.assertIn(said, made)
         made = self.page_of(words_of(plan), Answers({("margin", plan, "3"): ["accepted bound 1", "cover 0 survives 3"]}))
         self.assertIn("The program ended before its last line.", made)
+
+    def test_wide(self):
+        """Every call begins with the word wide, and a limit that was passed is that of its line."""
+        plan = "plans/q.toml"
+        answers = Answers({("wide", "verify", plan): ["too wide 67108864"], ("wide", "covers", plan): ["cover 0 too wide 67108864", "accepted 0 refused 0 too wide 1"],
+                           ("wide", "unused", plan): ["too wide 67108864"], ("wide", "change", plan, plan): ["old accepted bound 1", "new accepted bound 1", "change too wide 67108864"]})
+        made = self.page_of(words_of(plan, change=plan, wide=True), answers)
+        self.assertEqual([["wide", command] for command in ("verify", "covers", "unused", "change")], [call["words"][:2] for call in answers.calls])
+        for said in ("The plan reaches at least 67,108,864 classes of titles.", "Covered titles get to at least 67,108,864 classes.",
+                     "The two plans together reach at least 67,108,864 classes of titles."):
+            self.assertIn(said, made)
 
     def test_pages_of_all_changes(self):
         calls = [words for words in STORED if words[:1] == ("change",) and len(words) == 3 and all(map(os.path.isfile, words[1:]))]
@@ -457,6 +468,11 @@ class Pages(unittest.TestCase):
         given = self.call(picture, self.plan, "--route", self.write("lines", printed + "\n"))
         self.assertEqual((asked[0], asked), (0, given))
         self.assertEqual(hops_in(asked[1]), [0])
+        program = self.stub(printed)
+        with open(program, encoding="utf-8") as file:
+            self.write("stub", file.read().replace("case $1", "[ \"$1 $2\" = 'wide verify' ] || exit 70\ncase $1"))
+        self.assertEqual((self.call(picture, self.plan, "--verify", "--wide", "--program", program), asked), (asked, asked))
+        self.assertEqual(self.call(picture, self.plan, "--verify", "--program", program)[0], 70)
         mixed = "old accepted bound 1\nnew accepted bound 1\nchange accepted bound 1\nold at b 4:0:1:4 6 - held none ended 2-0-1/6 target 0"
         status, graph, _ = self.call(picture, "--change", self.plan, self.plan, "--program", self.stub(mixed))
         self.assertEqual((status, hops_in(graph)), (0, [0]))

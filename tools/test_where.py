@@ -601,7 +601,7 @@ class Plans(Case):
 
     def test_no_lines(self):
         path = self.file(PLAN)
-        for line in ("bad plan no cover", "bad plan limit nodes", "bad plan limit rows", "bad plan limit covers"):
+        for line in ("bad plan no cover", "bad plan limit nodes", "bad plan limit rows", "bad plan limit covers", "bad plan limit nodes 255"):
             self.assertEqual((65, f"{path}: {line}\n", ""), answer(path, "--line", line))
 
     def test_a_line_of_another_command(self):
@@ -672,6 +672,16 @@ class Calls(Case):
         with open(os.path.join(self.scratch.name, "words"), encoding="utf-8") as file:
             self.assertEqual("verify plan.toml\n", file.read())
 
+    def test_wide(self):
+        self.stub('echo "bad plan limit rows 1048576"\necho "$*" > "$(dirname "$0")/words"\nexit 65\n')
+        path = self.file(PLAN)
+        self.assertEqual((65, f"{path}: bad plan limit rows 1048576\n", ""), answer("--wide", path))
+        with open(os.path.join(self.scratch.name, "words"), encoding="utf-8") as file:
+            self.assertEqual("wide verify plan.toml\n", file.read())
+        path = self.file(b"#" * 1048577 + b"\nversion = 3\n")
+        self.assertEqual((65, f"{path}:2: bad plan bad value version\n      2 | version = 3\n", ""),
+                         answer("--wide", path, "--line", "bad plan bad value version"))
+
     def test_no_fault(self):
         path = self.file(PLAN)
         for status in (0, 1, 67):
@@ -705,7 +715,7 @@ class Calls(Case):
     def test_words_and_files(self):
         path = self.file(PLAN)
         for words in ((), (path, path), (path, "--line"), (path, "--lines", "x"), ("--line", "x", path)):
-            self.assertEqual((64, "", "usage: where.py PLAN [--line LINE]\n"), answer(*words))
+            self.assertEqual((64, "", "usage: where.py [--wide] PLAN [--line LINE]\n"), answer(*words))
         status, out, told = answer("--help")
         first = "Shows the lines of a plan file that have the fault which the program reports."
         self.assertEqual((0, first, ""), (status, out.split("\n", maxsplit=1)[0], told))

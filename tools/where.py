@@ -1,9 +1,9 @@
 #!/usr/bin/env python3
 """Shows the lines of a plan file that have the fault which the program reports.
 
-  tools/where.py PLAN [--line LINE]
+  tools/where.py [--wide] PLAN [--line LINE]
 
-Without --line it calls ./sccp verify PLAN. A fault of a plan text is `bad plan ..` with a place in numbers, such as node 17 row
+Without --line it calls ./sccp verify PLAN, and with --wide ./sccp wide verify PLAN. A fault of a plan text is `bad plan ..` with a place in numbers, such as node 17 row
 203 targets. For each place of the fault one line is printed, PLAN:LINE: or PLAN:LINE-LINE: and the program's own line, and below
 it the first three lines there and a note if one is needed. With --line no program is called: LINE is a line that has `bad plan`,
 of whatever command. PLAN has to be the file that the command read.
@@ -36,10 +36,12 @@ except ModuleNotFoundError:
     tomllib = None
 
 TOP = os.path.dirname(os.path.dirname(os.path.abspath(__file__)))
-USAGE = "usage: where.py PLAN [--line LINE]"
+USAGE = "usage: where.py [--wide] PLAN [--line LINE]"
 ACCEPTED, REFUSED, BAD_PLAN, TOO_WIDE = 0, 1, 65, 67
 WRONG_WORDS, NO_INPUT, NO_PROGRAM = 64, 66, 70
-MOST_OCTETS, MOST_UNKNOWN, SHOWN_LINES, WIDEST = 1048576, 20, 3, 120
+MOST_UNKNOWN, SHOWN_LINES, WIDEST = 20, 3, 120
+# The most octets of a plan, without the word wide and after it.
+MOST_OCTETS = {(): 1048576, ("wide",): 268435456}
 
 # The keys that each table may have (docs/PLAN-FILE.md).
 TOP_KEYS = {"version", "node", "cover"}
@@ -53,7 +55,7 @@ FAULT = re.compile(
     rf"bad plan (?:(?P<kind>wrong shape|bad value|repeated|unknown node|relay to self|bad cover) "
     rf"(?:node (?P<node>\d+) (?:row (?P<row>\d+) )?|cover (?P<cover>\d+) )?(?P<key>{KEYS})"
     rf"|rule node (?P<of>\d+) (?:twice (?P<one>\d+) (?P<two>\d+)|(?:strip too long|kind two) (?P<only>\d+))"
-    rf"|(?P<toml>not toml)|no cover|limit (?:nodes|rows|covers))")
+    rf"|(?P<toml>not toml)|no cover|limit (?:nodes|rows|covers)(?: \d+)?)")
 
 # What decides whether a value goes on after a line end. Texts of several lines are tried before those of one.
 TOKEN = re.compile(r'"""(?:\\.|[^\\])*?"""(?!")|' r"'''.*?'''(?!')|" r'"(?:\\.|[^"\\\n])*"|' r"'[^'\n]*'|#[^\n]*|\r?\n|[][{},]", re.S)
@@ -345,13 +347,13 @@ def same_if_equal(key, value):
 # ---- the answer
 
 class Plan:
-    """A plan file: its octets, its lines, its pieces."""
+    """A plan file: its octets, up to one more than there may be, its lines, its pieces."""
 
-    def __init__(self, path):
+    def __init__(self, path, most):
         self.path = path
         try:
             with open(path, "rb") as file:
-                self.octets = file.read(MOST_OCTETS + 1)
+                self.octets = file.read(most + 1)
         except OSError as fault:
             raise Stop(NO_INPUT, f"{path}: cannot be read: {fault.strerror}") from None
 
@@ -442,32 +444,32 @@ def one_line(text):
 
 # ---- calls
 
-def call(command, octets, *words):
-    """The status and the first line of a command of the program about a plan of these octets."""
+def call(before, command, octets, *words):
+    """The status and the first line of a command of the program about a plan of these octets, with the words before it."""
     with tempfile.TemporaryDirectory(prefix="where.") as folder:
         with open(os.path.join(folder, "plan.toml"), "wb") as file:
             file.write(octets)
         try:
-            done = subprocess.run([os.path.join(TOP, "sccp"), command, "plan.toml", *words], cwd=folder, stdin=subprocess.DEVNULL,
+            done = subprocess.run([os.path.join(TOP, "sccp"), *before, command, "plan.toml", *words], cwd=folder, stdin=subprocess.DEVNULL,
                                   stdout=subprocess.PIPE, check=False)
         except OSError as fault:
             raise Stop(NO_PROGRAM, f"./sccp cannot be run: {fault.strerror}") from None
     return done.returncode, done.stdout.decode("utf-8", "replace").partition("\n")[0]
 
 
-def asked_by_route(octets):
+def asked_by_route(before):
     """How `route` begins, which reads a plan and does not verify it."""
-    return call("route", octets, "-", "1:0", "0", "-")[1]
+    return lambda octets: call(before, "route", octets, "-", "1:0", "0", "-")[1]
 
 
-def answer(path, line):
+def answer(before, path, line):
     """Prints the answer, and gives its status."""
-    plan, asked = Plan(path), None
-    if line is not None and len(plan.octets) > MOST_OCTETS:
-        raise Stop(WRONG_WORDS, f"{path} has more than {MOST_OCTETS} octets: is the line of this file?")
+    plan, asked = Plan(path, MOST_OCTETS[before]), None
+    if line is not None and len(plan.octets) > MOST_OCTETS[before]:
+        raise Stop(WRONG_WORDS, f"{path} has more than {MOST_OCTETS[before]} octets: is the line of this file?")
     if line is None:
-        asked = asked_by_route
-        status, line = call("verify", plan.octets)
+        asked = asked_by_route(before)
+        status, line = call(before, "verify", plan.octets)
         if status in (ACCEPTED, REFUSED, TOO_WIDE):
             print(f"{path}: no fault")
             return status
@@ -485,6 +487,7 @@ def main(words):
     if words in (["-h"], ["--help"]):
         print(__doc__, end="")
         return 0
+    before, words = (("wide",), words[1:]) if words[:1] == ["--wide"] else ((), words)
     if len(words) not in (1, 3) or len(words) == 3 and words[1] != "--line" or words[0].startswith("--"):
         print(USAGE, file=sys.stderr)
         return WRONG_WORDS
@@ -492,7 +495,7 @@ def main(words):
         print("where.py: Python 3.11 or a later one is needed, for its tomllib", file=sys.stderr)
         return NO_PROGRAM
     try:
-        return answer(words[0], words[2] if len(words) == 3 else None)
+        return answer(before, words[0], words[2] if len(words) == 3 else None)
     except Stop as stop:
         print(f"where.py: {stop}", file=sys.stderr)
         return stop.status
