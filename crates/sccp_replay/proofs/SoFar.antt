@@ -127,7 +127,7 @@ SoFar-more z lines ls pieces more at at' h same workers is plans messages manage
   fit = λ number name has. fits number name (Contains-append_cases lines ls (record { number = number; line = Plan name }) has);
 } where
   fits : (number : ℕ) (name : List ℕ) → Contains lines (record { number = number; line = Plan name })
-      ⊎ Contains ls (record { number = number; line = Plan name }) → Fits z.c name
+      ⊎ Contains ls (record { number = number; line = Plan name }) → Fits z.c z.first.plan.limits name
   fits number name (inl e) = h.fit number name e
   fits number name (inr e) = fit number name e
 
