@@ -45,12 +45,14 @@ pub Works-accepted : (word : List ℕ) (limits : Limits) (next : Network → Wor
     (put : Result (Unit {0}) Stop) (m n o : Moment) → plan_within limits octets ≡ Ok plan → GivesAccepted word plan (Ok accepted) m n
     → Writes (word ++ accepted_line accepted.bound) put n.taken o.taken n.write_faults o.write_faults → Kept n o
     → Goes-on (read_on_plan word limits next (plan_within limits octets)) (next plan) put m o
-Works-accepted word limits next octets plan accepted put m n o reads gives writes kept = by put (printed (word ++ accepted_line accepted.bound)
+Works-accepted word limits next octets plan accepted put m n o reads gives writes kept =
+    by put (printed (word ++ accepted_line accepted.bound)
     (next plan) put n o writes kept)
   where
     on : (result : Result Status Stop) (a : Moment) → Works (told_first word next plan accepted) result n a
         → Works (read_on_plan word limits next (plan_within limits octets)) result m a
-    on result a w = subst (λ r. Works (read_on_plan word limits next r) result m a) (sym reads) (gives (told_first word next plan) result a w)
+    on result a w = subst (λ r. Works (read_on_plan word limits next r) result m a) (sym reads)
+        (gives (told_first word next plan) result a w)
 
     by : (r : Result (Unit {0}) Stop) → Printed (word ++ accepted_line accepted.bound) (next plan) r n o
         → Goes-on (read_on_plan word limits next (plan_within limits octets)) (next plan) r m o
@@ -58,8 +60,10 @@ Works-accepted word limits next octets plan accepted put m n o reads gives write
     by (Err stop) w = on (Err stop) o w
 
 -- it is not accepted, or memory was wanting
-pub Works-unaccepted : (word : List ℕ) (limits : Limits) (next : Network → Work) (octets : List ℕ) (plan : Network) (stop : Stop) (m a : Moment)
-    → plan_within limits octets ≡ Ok plan → GivesAccepted word plan (Err stop) m a → Works (read_on_plan word limits next (plan_within limits octets)) (Err stop) m a
+pub Works-unaccepted : (word : List ℕ) (limits : Limits) (next : Network
+    → Work) (octets : List ℕ) (plan : Network) (stop : Stop) (m a : Moment)
+    → plan_within limits octets ≡ Ok plan → GivesAccepted word plan (Err stop) m a
+    → Works (read_on_plan word limits next (plan_within limits octets)) (Err stop) m a
 Works-unaccepted word limits next octets plan stop m a reads gives =
     subst (λ r. Works (read_on_plan word limits next r) (Err stop) m a) (sym reads) (gives (told_first word next plan))
 
@@ -67,7 +71,8 @@ Works-unaccepted word limits next octets plan stop m a reads gives =
 pub Works-unread : (word : List ℕ) (limits : Limits) (next : Network → Work) (octets : List ℕ) (fault : PlanFault) (line : List ℕ)
     (result : Result Status Stop) (m a : Moment) → plan_within limits octets ≡ Err fault → line ≡ word ++ bad_plan limits fault
     → Writes line result m.taken a.taken m.write_faults a.write_faults → IfOk result (λ s. s ≡ BadPlan) → a.contents ≡ m.contents
-    → a.sound ≡ m.sound → a.read_faults ≡ m.read_faults → Works (read_on_plan word limits next (plan_within limits octets)) (Err (early result)) m a
+    → a.sound ≡ m.sound → a.read_faults ≡ m.read_faults → Works (read_on_plan word limits next (plan_within limits octets))
+    (Err (early result)) m a
 Works-unread word limits next octets fault line result m a is spelt writes answer contents sound read_faults =
     let whole = subst (λ t. Writes t result m.taken a.taken m.write_faults a.write_faults) spelt writes in
     subst (λ r. Works (read_on_plan word limits next r) (Err (early result)) m a) (sym is)
@@ -116,12 +121,14 @@ from_file contents file word next on TooLong text goes (lengths.long h) = long h
 from_file contents file word next on s text goes (lengths.within h) = from_text contents file word next on h.0 s text
     (plan_within file.limits h.0) goes refl h.1 h.2 h.3
 
-pub Ends-with_accepted : (contents : Option Contents) (file : PlanFile) (word : List ℕ) (next : Network → Work) (on : Network → Status → List ℕ
+pub Ends-with_accepted : (contents : Option Contents) (file : PlanFile) (word : List ℕ) (next : Network → Work) (on : Network → Status
+    → List ℕ
     → Type 0) (s : Status) (text : List ℕ) → ((plan : Network) (rest : List ℕ) → Ends contents (next plan) s rest → on plan s rest)
     → Ends contents (with_accepted word file next) s text → FileTells contents file word on text s
 Ends-with_accepted contents file word next on s text goes h =
     from_file contents file word next on s text goes
-    (Ends-within_limit (λ octets t. Ends contents (read_on_plan word file.limits next (plan_within file.limits octets)) t text) contents file
+    (Ends-within_limit (λ octets t. Ends contents (read_on_plan word file.limits next
+    (plan_within file.limits octets)) t text) contents file
     (λ octets. read_on_plan word file.limits next (plan_within file.limits octets)) s text (λ octets e. e) h)
 
 -- the text left out
@@ -131,7 +138,8 @@ verdict_of word plan next on s text goes (is_refused same w lawful is spelt) = s
 verdict_of word plan next on s text goes (is_wide same lawful is spelt) = subst (VerdictEnds plan on) (sym is) (wide lawful)
 verdict_of word plan next on s text goes (is_accepted a rest lawful spelt more) = accepted (a.bound, lawful.0) (goes rest more)
 
-pub file_of : (contents : Option Contents) (file : PlanFile) (word : List ℕ) (next : Network → Status → List ℕ → Type 0) (on : Network → Status
+pub file_of : (contents : Option Contents) (file : PlanFile) (word : List ℕ) (next : Network → Status → List ℕ → Type 0) (on : Network
+    → Status
     → Type 0) (text : List ℕ) (s : Status) → ((plan : Network) (rest : List ℕ) → next plan s rest → on plan s)
     → FileTells contents file word next text s → PlanEnds contents file (λ plan t. VerdictEnds plan (on plan) t) s
 file_of contents file word next on text TooLong goes (long h) = long h
@@ -161,9 +169,11 @@ refused_or_wide plan on s is (accepted safe k) = absurd (safe_or_bad plan safe i
 
 -- ---- the files of the command
 
-pub with_accepted_files : (c : Contents) (word : List ℕ) (file : PlanFile) (next : Network → Work) → ((plan : Network) → HasFiles c (next plan))
+pub with_accepted_files : (c : Contents) (word : List ℕ) (file : PlanFile) (next : Network → Work)
+    → ((plan : Network) → HasFiles c (next plan))
     → IsThere c file.name → HasFiles c (with_accepted word file next)
-with_accepted_files c word file next go there = limit_files c file (λ octets. read_on_plan word file.limits next (plan_within file.limits octets))
+with_accepted_files c word file next go there = limit_files c file
+    (λ octets. read_on_plan word file.limits next (plan_within file.limits octets))
     (λ octets. by (plan_within file.limits octets)) there
   where
     by : (r : Result Network PlanFault) → HasFiles c (read_on_plan word file.limits next r)

@@ -9,12 +9,18 @@ use Rattle.sccp_report.specs.Limits.{too_long_line}
 use Rattle.sccp_work.specs.Ending.{Works}
 use Rattle.sccp_work.specs.Limit.{within_limit, IsThere, HasFile, HasLongFile}
 use Rattle.sccp_work.specs.Moment.{Moment}
-use Rattle.sccp_work.specs.PlanFile.{PlanFile}
+use Rattle.sccp_work.specs.PlanFile.{PlanFile, plan_file}
 use Rattle.sccp_work.specs.Work.{Work, answered, Ends, HasFiles}
 use Rattle.sccp_work.specs.declared.status.Status.{Status}
 use Rattle.sccp_work.specs.declared.status.Status.TheVariants.{TooLong}
 use Rattle.sccp_work.specs.declared.stop.Stop.{Stop}
 use Rattle.sccp_work.proofs.WorkLemmas.{Moved, Works-read, same_octets}
+
+-- the file of a name and of limits that are its own
+pub same_file : (file : PlanFile) (name : List ℕ) (limits : Limits) → name ≡ file.name → limits ≡ file.limits
+    → plan_file name limits ≡ file
+same_file file name limits named within =
+    subst (λ l. plan_file name l ≡ file) (sym within) (subst (λ n. plan_file n file.limits ≡ file) (sym named) refl)
 
 -- what follows the reading
 abbrev pub file_or_answer : Limits → (List ℕ → Work) → List ℕ → Work
@@ -23,7 +29,8 @@ file_or_answer limits next octets = cond (ltb limits.octets (length octets)) (an
 -- more than the limit was read
 pub Works-long : (file : PlanFile) (next : List ℕ → Work) (octets : List ℕ) (result : Result Status Stop) (b m a : Moment) → Moved b m
     → (IsTrue b.sound → lacks b.contents file.name ≡ false → m.read_faults ≡ b.read_faults)
-    → Reads b.contents file.name octets → file.limits.octets < length octets → Works (answered (TooLong, too_long_line file.limits)) result m a
+    → Reads b.contents file.name octets → file.limits.octets < length octets
+    → Works (answered (TooLong, too_long_line file.limits)) result m a
     → Works (within_limit file next) result b a
 Works-long file next octets result b m a p spared reads more w =
     let e : ltb file.limits.octets (length octets) ≡ true = (Decides-ltb file.limits.octets (length octets)).1 more in
@@ -33,7 +40,8 @@ Works-long file next octets result b m a p spared reads more w =
 -- the whole file was read
 pub Works-within : (file : PlanFile) (next : List ℕ → Work) (octets : List ℕ) (result : Result Status Stop) (b m a : Moment) → Moved b m
     → (IsTrue b.sound → lacks b.contents file.name ≡ false → m.read_faults ≡ b.read_faults)
-    → Reads b.contents file.name octets → length octets ≤ file.limits.octets → Works (next octets) result m a → Works (within_limit file next) result b a
+    → Reads b.contents file.name octets → length octets ≤ file.limits.octets → Works (next octets) result m a
+    → Works (within_limit file next) result b a
 Works-within file next octets result b m a p spared reads few w =
     let e : ltb file.limits.octets (length octets) ≡ false = le-ltb file.limits.octets (length octets) few in
     Works-read file.name (file_or_answer file.limits next) octets result b m a p spared reads
@@ -51,7 +59,8 @@ pub Ends-within_limit : (on : List ℕ → Status → Type 0) (contents : Option
     → ((octets : List ℕ) → Ends contents (next octets) s text → on octets s) → Ends contents (within_limit file next) s text
     → FileEnds contents file on s
 Ends-within_limit on contents file next s text goes h = by (ltb file.limits.octets (length h.0)) refl h.2 where
-  by : (v : Bool) → ltb file.limits.octets (length h.0) ≡ v → Ends contents (cond v (answered (TooLong, too_long_line file.limits)) (next h.0)) s text
+  by : (v : Bool) → ltb file.limits.octets (length h.0) ≡ v
+      → Ends contents (cond v (answered (TooLong, too_long_line file.limits)) (next h.0)) s text
       → FileEnds contents file on s
   by true e k = subst (FileEnds contents file on) (sym k.2.0) (long (h.0, h.1, ltb-true file.limits.octets (length h.0) e))
   by false e k = within (h.0, h.1, ltb-false file.limits.octets (length h.0) e, goes h.0 k)
@@ -62,12 +71,14 @@ at_file c file P Q h has = subst P (same_octets (c file.name) h.0 has.0 h.1 has.
 
 pub not_long : (c : Contents) (file : PlanFile) (P : List ℕ → Type 0) → HasFile (Some c) file P → HasLongFile (Some c) file → ⊥
 not_long c file P h has =
-    let few : length has.0 ≤ file.limits.octets = subst (λ o. length o ≤ file.limits.octets) (same_octets (c file.name) h.0 has.0 h.1 has.1) h.2 in
+    let few : length has.0 ≤ file.limits.octets = subst (λ o. length o ≤ file.limits.octets)
+    (same_octets (c file.name) h.0 has.0 h.1 has.1) h.2 in
     absurd (omega (arith, few, has.2))
 
 -- ---- the files of a command over such a file
 
-pub limit_files : (c : Contents) (file : PlanFile) (next : List ℕ → Work) → ((octets : List ℕ) → HasFiles c (next octets)) → IsThere c file.name
+pub limit_files : (c : Contents) (file : PlanFile) (next : List ℕ → Work) → ((octets : List ℕ) → HasFiles c (next octets))
+    → IsThere c file.name
     → HasFiles c (within_limit file next)
 limit_files c file next go there = (there.0, there.1, by (ltb file.limits.octets (length there.0))) where
   by : (b : Bool) → HasFiles c (cond b (answered (TooLong, too_long_line file.limits)) (next there.0))

@@ -1,5 +1,5 @@
 -- The steps of a loop over a file that is read in pieces.
-use Rattle.std.proofs.Common.{◌≡◌, ℕ, List, [], ◌++◌, take, Bool, false, Option, Some, None, Result, Ok, Err, IsTrue, refl, sym, ◌∙◌, ap, subst}
+use Rattle.std.proofs.Common.{◌≡◌, ℕ, List, [], ◌++◌, take, false, Option, Some, None, Result, Ok, Err, refl, sym, ◌∙◌, ap, subst}
 use Rattle.std.specs.Prelude.{is_none}
 use Rattle.std.specs.Io.KnownBytes.{prepend_known, IsAtEnd}
 use Rattle.sccp_io.specs.Faults.{HasCause}
@@ -12,7 +12,7 @@ use Rattle.sccp_work.specs.Reading.{reading_stop}
 use Rattle.sccp_work.specs.Work.{Work, read, ComesToReading}
 use Rattle.sccp_work.specs.declared.status.Status.{Status}
 use Rattle.sccp_work.specs.declared.stop.Stop.{Stop}
-use Rattle.sccp_work.specs.declared.stop.Stop.TheVariants.{Answered, Memory}
+use Rattle.sccp_work.specs.declared.stop.Stop.TheVariants.{Memory}
 use Rattle.sccp_work.proofs.ReadingLemmas.{reading_stop-Read, reading_stop-Write, reading_stop-Answered}
 use Rattle.sccp_work.proofs.WorkLemmas.{Moved, Works-memory, Works-read, Works-reading, Works-moved, Works-failed}
 

@@ -21,7 +21,8 @@ use Rattle.sccp_work.proofs.LimitLemmas as lengths
 use Rattle.sccp_work.proofs.WorkLemmas.{Works-answered, Works-early}
 
 -- the text is no plan, and the line that says so is the answer
-pub Works-bad_plan : (limits : Limits) (next : Network → Work) (octets : List ℕ) (fault : PlanFault) (line : List ℕ) (result : Result Status Stop)
+pub Works-bad_plan : (limits : Limits) (next : Network → Work) (octets : List ℕ) (fault : PlanFault) (line : List ℕ)
+    (result : Result Status Stop)
     (m a : Moment) → plan_within limits octets ≡ Err fault → line ≡ bad_plan limits fault
     → Writes line result m.taken a.taken m.write_faults a.write_faults → IfOk result (λ s. s ≡ BadPlan) → a.contents ≡ m.contents
     → a.sound ≡ m.sound → a.read_faults ≡ m.read_faults
@@ -42,7 +43,8 @@ pub data PlanEnds (contents : Option Contents) (file : PlanFile) (on : Network �
 
 from_text : (on : Network → Status → Type 0) (contents : Option Contents) (file : PlanFile) (next : Network
     → Work) (octets : List ℕ) (s : Status) (text : List ℕ) (r : Result Network PlanFault)
-    → ((plan : Network) → Ends contents (next plan) s text → on plan s) → plan_within file.limits octets ≡ r → Reads contents file.name octets
+    → ((plan : Network) → Ends contents (next plan) s text → on plan s) → plan_within file.limits octets ≡ r
+    → Reads contents file.name octets
     → length octets ≤ file.limits.octets → Ends contents (planned file.limits r next) s text
     → PlanEnds contents file on s
 from_text on contents file next octets s text (Ok plan) goes is reads few h = good (octets, reads, few, (plan, is, goes plan h))
@@ -52,9 +54,11 @@ from_text on contents file next octets s text (Err fault) goes is reads few h = 
 from_file : (on : Network → Status → Type 0) (contents : Option Contents) (file : PlanFile) (next : Network
     → Work) (s : Status) (text : List ℕ)
     → ((plan : Network) → Ends contents (next plan) s text → on plan s)
-    → FileEnds contents file (λ octets t. Ends contents (planned file.limits (plan_within file.limits octets) next) t text) s → PlanEnds contents file on s
+    → FileEnds contents file (λ octets t. Ends contents (planned file.limits (plan_within file.limits octets) next) t text) s
+    → PlanEnds contents file on s
 from_file on contents file next TooLong text goes (lengths.long h) = long h
-from_file on contents file next s text goes (lengths.within h) = from_text on contents file next h.0 s text (plan_within file.limits h.0) goes refl h.1 h.2 h.3
+from_file on contents file next s text goes (lengths.within h) =
+    from_text on contents file next h.0 s text (plan_within file.limits h.0) goes refl h.1 h.2 h.3
 
 pub Ends-with_plan : (on : Network → Status → Type 0) (contents : Option Contents) (file : PlanFile) (next : Network
     → Work) (s : Status) (text : List ℕ)
@@ -75,14 +79,16 @@ pub if_long : (c : Contents) (file : PlanFile) (on : Network → Status → Type
     → HasLongFile (Some c) file → s ≡ TooLong
 if_long c file on TooLong (long h) has = refl
 if_long c file on BadPlan (bad h) has = absurd (not_long c file (λ octets. IsErr (plan_within file.limits octets)) h has)
-if_long c file on s (good h) has = absurd (not_long c file (λ octets. (plan : Network) × (plan_within file.limits octets ≡ Ok plan) × on plan s) h has)
+if_long c file on s (good h) has = absurd (not_long c file (λ octets. (plan : Network) × (plan_within file.limits octets ≡ Ok plan)
+    × on plan s) h has)
 
 pub if_bad : (c : Contents) (file : PlanFile) (on : Network → Status → Type 0) (s : Status) → PlanEnds (Some c) file on s
     → HasBadPlan (Some c) file → s ≡ BadPlan
 if_bad c file on TooLong (long h) has = absurd (not_long c file (λ octets. IsErr (plan_within file.limits octets)) has h)
 if_bad c file on BadPlan (bad h) has = refl
 if_bad c file on s (good h) has =
-    let g = at_file c file (λ octets. (plan : Network) × (plan_within file.limits octets ≡ Ok plan) × on plan s) (λ octets. IsErr (plan_within file.limits octets)) h has in
+    let g = at_file c file (λ octets. (plan : Network) × (plan_within file.limits octets ≡ Ok plan)
+    × on plan s) (λ octets. IsErr (plan_within file.limits octets)) h has in
     absurd (not_both (plan_within file.limits has.0) (ap is_ok g.1) has.3)
 
 -- with a plan that reads the command goes on
@@ -91,7 +97,8 @@ pub if_plan : (c : Contents) (file : PlanFile) (on : Network → Status → Type
     → (plan : Network) × (plan_within file.limits has.0 ≡ Ok plan) × on plan s
 if_plan c file on TooLong (long h) has = absurd (not_long c file (λ octets. IsOk (plan_within file.limits octets)) has h)
 if_plan c file on BadPlan (bad h) has =
-    absurd (not_both (plan_within file.limits has.0) has.3 (at_file c file (λ octets. IsErr (plan_within file.limits octets)) (λ octets. IsOk (plan_within file.limits octets)) h has))
+    absurd (not_both (plan_within file.limits has.0) has.3
+    (at_file c file (λ octets. IsErr (plan_within file.limits octets)) (λ octets. IsOk (plan_within file.limits octets)) h has))
 if_plan c file on s (good h) has = at_file c file (λ octets. (plan : Network) × (plan_within file.limits octets ≡ Ok plan)
     × on plan s) (λ octets. IsOk (plan_within file.limits octets)) h has
 
@@ -106,12 +113,14 @@ at_plan c file on P s ends has =
 
 -- ---- the files of a command over a plan
 
-pub plan_files : (c : Contents) (file : PlanFile) (next : Network → Work) → ((plan : Network) → HasFiles c (next plan)) → IsThere c file.name
+pub plan_files : (c : Contents) (file : PlanFile) (next : Network → Work) → ((plan : Network) → HasFiles c (next plan))
+    → IsThere c file.name
     → HasFiles c (with_plan file next)
-plan_files c file next go there = limit_files c file (λ octets. planned file.limits (plan_within file.limits octets) next) (λ octets. by (plan_within file.limits octets)) there where
-  by : (r : Result Network PlanFault) → HasFiles c (planned file.limits r next)
-  by (Ok plan) = go plan
-  by (Err fault) = tt
+plan_files c file next go there = limit_files c file (λ octets. planned file.limits (plan_within file.limits octets) next)
+    (λ octets. by (plan_within file.limits octets)) there where
+      by : (r : Result Network PlanFault) → HasFiles c (planned file.limits r next)
+      by (Ok plan) = go plan
+      by (Err fault) = tt
 
 -- ---- a command that prints a text about the plan
 

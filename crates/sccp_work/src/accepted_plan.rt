@@ -35,8 +35,9 @@ pub fn with_accepted<F: Files, K: Sink>(
         (moment F.contents F.sound F.faults K.taken K.faults files.old out.old)
         (moment F.contents F.sound F.faults K.taken K.faults files.new out.new) }
 {
+    let limits = file.limits();
     let text = within_limit(alloc, Opened::First, file, files, out)?;
-    match plan_text::read_within(alloc, file.limits(), &text) {
+    match plan_text::read_within(alloc, limits, &text) {
         Ok(plan) => {
             let accepted = if_accepted(alloc, word, plan, out)?;
             match put_accepted(alloc, word, &accepted, out) {
@@ -48,7 +49,7 @@ pub fn with_accepted<F: Files, K: Sink>(
             }
         }
         Err(fault) => {
-            let line = bad_plan_after(alloc, word, file.limits(), &fault)?;
+            let line = bad_plan_after(alloc, word, limits, &fault)?;
             Err(early(print_last(out, line.as_slice(), Status::BadPlan)))
         }
     }

@@ -29,11 +29,11 @@ pub fn within_limit<F: Files, K: Sink>(
     // What is left of the other file stays.
     ensures other { other which (F.left files.new) (F.left_beside files.new) ≡ other which (F.left files.old) (F.left_beside files.old) }
 {
-    let most = file.limits().octets as usize;
-    match read_whole(alloc, files, which, file.name(), most)? {
+    let limits = file.limits();
+    match read_whole(alloc, files, which, file.name(), limits.octets as usize)? {
         Some(octets) => Ok(octets),
         None => {
-            let line = too_long_text(alloc, file.limits())?;
+            let line = too_long_text(alloc, limits)?;
             Err(early(print_last(out, line.as_slice(), Status::TooLong)))
         }
     }

@@ -30,11 +30,12 @@ pub fn with_plan<F: Files, K: Sink>(
         (moment F.contents F.sound F.faults K.taken K.faults files.new out.new) }
     ensures sound { IfOk result IsPlan }
 {
+    let limits = file.limits();
     let text = within_limit(alloc, Opened::First, file, files, out)?;
-    match plan_text::read_within(alloc, file.limits(), &text) {
+    match plan_text::read_within(alloc, limits, &text) {
         Ok(plan) => Ok(plan),
         Err(fault) => {
-            let line = bad_plan(alloc, file.limits(), &fault)?;
+            let line = bad_plan(alloc, limits, &fault)?;
             Err(early(print_last(out, line.as_slice(), Status::BadPlan)))
         }
     }
