@@ -23,7 +23,7 @@ judge_cover-requires-clause-plan g c =
     c.next.new.self c.in-Some.cover c.in-Some.is c.next.ensures.steps in
     let at : slice_get c.args.plan.covers (length c.loop-cover.yielded) ≡ Some c.in-Some.cover =
     slice_get_read c.args.plan.covers (length c.args.plan.covers) (length c.loop-cover.yielded) c.in-Some.cover refl t.0 t.1 in
-    subst (λ limits. IsPlan (network_within limits c.loop-cover.judging.nodes (c.in-Some.cover ∷ []))) (sym c.limits.ensures)
+    subst (λ limits. IsPlan (network_within limits c.loop-cover.judging.nodes (c.in-Some.cover ∷ []))) (sym c.limits-limits.ensures)
     (subst (λ nodes. IsPlan (network_within c.args.plan.limits nodes (c.in-Some.cover ∷ []))) (sym c.loop-cover.invariant.nodes)
     (alone_sound c.args.plan (length c.loop-cover.yielded) c.in-Some.cover c.into_parts-nodes.ensures.sound at))
 
@@ -49,7 +49,7 @@ returns-in_err-judging-clause-gives g c =
     (subst (λ nodes. GivesNext c.args.plan.limits nodes c.loop-cover.number c.in-Some.cover c.loop-cover.judging.tally
     (Err c.in_err-judging.field-0.0) now after) c.loop-cover.invariant.nodes
     (subst (λ limits. GivesNext limits c.loop-cover.judging.nodes c.loop-cover.number c.in-Some.cover c.loop-cover.judging.tally
-    (Err c.in_err-judging.field-0.0) now after) c.limits.ensures (c.in_err-judging.ensures.gives any))))
+    (Err c.in_err-judging.field-0.0) now after) c.limits-limits.ensures (c.in_err-judging.ensures.gives any))))
 
 pub loop-cover-preserved : goal.loop-cover-preserved
 loop-cover-preserved g c =
@@ -77,7 +77,7 @@ loop-cover-preserved g c =
           (subst (λ nodes. GivesNext c.args.plan.limits nodes c.loop-cover.number c.in-Some.cover c.loop-cover.judging.tally
           (Ok c.in_ok-judging.judging) now after) kept.nodes
           (subst (λ limits. GivesNext limits c.loop-cover.judging.nodes c.loop-cover.number c.in-Some.cover c.loop-cover.judging.tally
-          (Ok c.in_ok-judging.judging) now after) c.limits.ensures (e.gives any))));
+          (Ok c.in_ok-judging.judging) now after) c.limits-limits.ensures (e.gives any))));
       nodes = e.nodes ∙ kept.nodes;
       place = omega (arith, count, kept.place);
       count = omega (arith, count, kept.count, e.one_more);
