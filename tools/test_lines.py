@@ -190,6 +190,7 @@ TYPED = {
         ("# packet 7 chunk 2 short", record("packet_skipped", packet=7, chunk=2, why="short")),
         ("# octet 58 cut", record("capture_ended", octet=58, why="cut")),
         ("# octet 0 no capture", record("capture_ended", octet=0, why="no capture")),
+        ("# octet 82040 interfaces", record("capture_ended", octet=82_040, why="interfaces")),
         ("# end packets 4 messages 1 left 2 repeated 3 others 5 faults 6",
          record("capture_counted", packets=4, messages=1, left=2, repeated=3, others=5, faults=6)),
     ],
