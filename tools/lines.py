@@ -76,8 +76,11 @@ Fields in [] are only there if the line has them. A.B is the key B of the dict A
   sections           number                                       connect
   connection_refused cause text                                   connect
   unanswered, unsettled, end_is_node                              connect
-  trace_message      node origin octets                           import
+  trace_message      node origin octets                           import, capture
   skipped            why [number]                                 import
+  packet_skipped     packet [chunk] why [number] [layer] [octets] capture: a packet or a chunk that gives no message
+  capture_ended      octet why                                    capture: the file is cut off or damaged there
+  capture_counted    packets messages left repeated others faults capture
   cut                count ok [WHY]                               cuts: ok is a bool
   message            type                                         show-hex, show, as all that follow but empty
   class              class options
@@ -208,6 +211,7 @@ TYPES = {
                        "least, most, allowed, unknown key"),
     "placed_fault": one_of("wrong shape, bad value, repeated, unknown node, relay to self, bad cover"),
     "line_fault": one_of("too many, too long, not a line"),
+    "layer": one_of("ethernet, cooked, loopback, ip, ipv6, sctp, m2pa, mtp2, mtp3, sccp"),
     "address_fault": one_of("empty, short, extra, odd without digits"),
     "return_cause": without(RETURN_CAUSES), "refusal_cause": without(REFUSAL_CAUSES), "error_cause": without(ERROR_CAUSES),
 }
@@ -246,6 +250,9 @@ NAMED = {
     "OWN_TITLE": "({title:=null:title - digits -}|title {title.selector} digits {title.digits}|<RAW>)",
     "PARTY": "route ({route=ssn}|{route=title}) <DASHED> <OWN_TITLE>({national:=false:}|{national:=true: national})",
     "YES": "({yes:=true:yes}|{yes:=false:no})",
+    "LEFT_OUT": "({why=refused} {number}|{why=service} {number}|{why=point}|{why=unknown node}|{why=empty}|{why=long})",
+    "UNREAD": "({why=short} {layer}|{why=bad} {layer})",
+    "ENDED": "({why=cut}|{why=no capture}|{why=version}|{why=order}|{why=length}|{why=end}|{why=interfaces})",
 }
 
 
@@ -260,8 +267,8 @@ def causes(table, other):
     return f"({'|'.join(with_texts)}|{{cause:{other}}}{{text:=null:}})"
 
 
-EVERY = "show-hex show cuts route verify covers unused margin change replay load send-on connect import wide"
-FILES = "show route verify covers unused margin change replay send-on connect import"
+EVERY = "show-hex show cuts route verify covers unused margin change replay load send-on connect import capture wide"
+FILES = "show route verify covers unused margin change replay send-on connect import capture"
 COMMANDS = frozenset(EVERY.split())
 JUDGED = "verify margin replay load connect"
 SHOWN = "show-hex show"
@@ -271,7 +278,7 @@ TABLE = [
     ("usage", (EVERY, "usage: {shapes}")),
     ("too_long", (FILES, "too long<PASSED>")),
     ("read_fault", (FILES, "read fault")),
-    ("bad_plan", ("route verify covers unused margin replay send-on connect import", "<BAD_PLAN>"), ("change", "<WHICH><BAD_PLAN>")),
+    ("bad_plan", ("route verify covers unused margin replay send-on connect import capture", "<BAD_PLAN>"), ("change", "<WHICH><BAD_PLAN>")),
     ("bad_trace_line", ("show import replay", "bad trace line {line} {fault:line_fault}")),
     ("unknown_node", ("route connect send-on", "unknown node"), ("replay", "{line} unknown node")),
     ("accepted", ("verify margin", "accepted bound {bound}"), ("change", "<WHICH>accepted bound {bound}")),
@@ -327,8 +334,15 @@ TABLE = [
     ("unanswered", ("connect", "unanswered")),
     ("unsettled", ("connect", "unsettled")),
     ("end_is_node", ("connect", "end is a node")),
-    ("trace_message", ("import", "msg {node} {origin} {octets}")),
+    ("trace_message", ("import capture", "msg {node} {origin} {octets}")),
     ("skipped", ("import", "# ({why=refused} {number}|{why=service} {number}|{why=point}|{why=unknown node}|{why=empty})")),
+    ("packet_skipped",
+     ("capture", "# packet {packet} (|chunk {chunk} )(<LEFT_OUT>|<UNREAD>)"),
+     ("capture", "# packet {packet} ({why=sccp} {octets}|{why=link} {number}|{why=fragment}|{why=interface}|{why=length})"),
+     ("capture", "# packet {packet} chunk {chunk} ({why=short}|{why=bad}|{why=interleaved}|{why=alone})")),
+    ("capture_ended", ("capture", "# octet {octet} <ENDED>")),
+    ("capture_counted", ("capture", "# end packets {packets} messages {messages} left {left} repeated {repeated} others {others} "
+                                    "faults {faults}")),
     ("cut", ("cuts", "{count} ({ok:=true:ok}|{ok:=false:undecodable} <WHY>)")),
     ("message", (SHOWN, either("type", f"{CONNECTION_ORIENTED}, {CONNECTIONLESS}"))),
     ("class", (SHOWN, "class {class} options {options}")),

@@ -179,6 +179,21 @@ TYPED = {
         ("# refused 3", record("skipped", why="refused", number=3)),
         ("# unknown node", record("skipped", why="unknown node")),
     ],
+    "capture": [
+        ("msg a 1-0-1 09", record("trace_message", node="a", origin="1-0-1", octets="09")),
+        ("# packet 3 chunk 1 service 5", record("packet_skipped", packet=3, chunk=1, why="service", number=5)),
+        ("# packet 3 long", record("packet_skipped", packet=3, why="long")),
+        ("# packet 1 sccp 0511", record("packet_skipped", packet=1, why="sccp", octets="0511")),
+        ("# packet 7 link 65535", record("packet_skipped", packet=7, why="link", number=65535)),
+        ("# packet 7 short ipv6", record("packet_skipped", packet=7, why="short", layer="ipv6")),
+        ("# packet 7 chunk 2 bad m2pa", record("packet_skipped", packet=7, chunk=2, why="bad", layer="m2pa")),
+        ("# packet 7 chunk 2 short", record("packet_skipped", packet=7, chunk=2, why="short")),
+        ("# octet 58 cut", record("capture_ended", octet=58, why="cut")),
+        ("# octet 0 no capture", record("capture_ended", octet=0, why="no capture")),
+        ("# octet 82040 interfaces", record("capture_ended", octet=82_040, why="interfaces")),
+        ("# end packets 4 messages 1 left 2 repeated 3 others 5 faults 6",
+         record("capture_counted", packets=4, messages=1, left=2, repeated=3, others=5, faults=6)),
+    ],
     "show": [
         ("bad trace line 1000001 too many", record("bad_trace_line", line=1000001, fault="too many")),
         ("", record("empty")),
@@ -286,6 +301,11 @@ FAULTY = {
     ],
     "import": [
         "# refused", "#", "msg a 1-0-1 -0",
+    ],
+    "capture": [
+        "# refused 3", "# packet 3 short", "# packet 3 alone", "# packet 3 chunk 1 fragment", "# packet 3 chunk 1 link 1", "# packet long",
+        "# packet 3 short ip4", "# packet 3 sccp", "# octet cut", "# octet 58", "# octet 58 alone", "end packets 4", "# end packets 4",
+        "# end packets 4 messages 1 left 2 repeated 3 others 5", "bad trace line 3 not a line",
     ],
     "": [
         "usage:", "usage", "accepted bound " + "9" * 5000, "\0",
