@@ -102,8 +102,8 @@ pub fault_met : (work : Work) (plan : Network) (s : Standing) (reader : reading.
 fault_met work plan s reader left fault result first mid now all some is h =
     done_all work (rest_work plan s reader) left result first mid now all
     (λ rest. subst (λ w. Works w result mid now) (sym (ap (told_work plan s) (stands rest) ∙ only_end plan s fault)) h) where
-  stands : (rest : List ℕ) → ahead reader true rest ≡ only fault
-  stands rest = ahead-fault reader.fault reader true rest (some ∙ ap is_some (sym is)) ∙ ap only is
+      stands : (rest : List ℕ) → ahead reader true rest ≡ only fault
+      stands rest = ahead-fault reader.fault reader true rest (some ∙ ap is_some (sym is)) ∙ ap only is
 
 -- the end of the file was found
 pub file_ended : (work : Work) (plan : Network) (s : Standing) (reader : reading.Standing) (n : ℕ) (buffer : List ℕ)

@@ -115,7 +115,8 @@ change_ends : (contents : Option Contents) (old new : PlanFile) (s : Status) (te
     → ChangeEnds contents old new s
 change_ends contents old new s text h =
     file_of contents old old_word (NewTells contents new) (Ahead contents new) text s
-    (λ p rest more. file_of contents new new_word (λ q. TellsMixture p q) (MixtureEnds p) rest s (λ q last k. mixture_answer p q s last k) more)
+    (λ p rest more. file_of contents new new_word (λ q. TellsMixture p q) (MixtureEnds p) rest s
+    (λ q last k. mixture_answer p q s last k) more)
     (change_told contents old new s text h)
 
 -- ---- what each answer says of the plans
@@ -206,7 +207,8 @@ both c old new holds s has ends =
     (p, q, further.3.2.1, goes_on q (MixtureEnds p q) s further.3.2.0 on_new)
 
 -- what follows an old plan that is surely safe
-past_old : (c : Contents) (old new : PlanFile) (P : Network → Type 0) (s : Status) → (has : HasPlan (Some c) old (λ p. IsSurelySafe p × P p))
+past_old : (c : Contents) (old new : PlanFile) (P : Network → Type 0) (s : Status)
+    → (has : HasPlan (Some c) old (λ p. IsSurelySafe p × P p))
     → ChangeEnds (Some c) old new s → (p : Network) × P p × Ahead (Some c) new p s
 past_old c old new P s has ends = (
   has.3.0,

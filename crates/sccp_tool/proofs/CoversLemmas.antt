@@ -1,5 +1,6 @@
 -- How each cover is verified by itself, and what that ends with.
-use Rattle.std.proofs.Common.{◌≡◌, ◌<◌, ◌≤◌, ◌+◌, ◌⊎◌, ℕ, true, false, zero, suc, List, [], ◌∷◌, ◌++◌, length, Option, Some, Result, Ok, Err}
+use Rattle.std.proofs.Common.{◌≡◌, ◌<◌, ◌≤◌, ◌+◌, ◌⊎◌, ℕ, true, false, zero, suc, List, [], ◌∷◌, ◌++◌, length, Option, Some, Result, Ok}
+use Rattle.std.proofs.Common.{Err}
 use Rattle.std.proofs.Common.{IfOk, refl, sym, ◌∙◌, ap, subst, inl, inr, ⊎_elim, arith, append_assoc, append-nil}
 use Rattle.std.specs.Prelude.{max, nat_lt, if◌then◌else◌, slice_get, get_or}
 use Rattle.std.specs.Io.KnownBytes.{append_known}
@@ -53,34 +54,42 @@ use Rattle.sccp_work.specs.declared.stop.Stop.{Stop}
 -- the work that follows a verdict
 abbrev told_on : Limits → List Node → ℕ → Cover → List Cover → Tally → Verdict → Work
 told_on limits nodes number cover covers tally verdict =
-    print (cover_text number (network_within limits nodes (cover ∷ [])) verdict) (covers_on limits nodes (number + 1) covers (counted tally verdict))
+    print (cover_text number (network_within limits nodes (cover ∷ [])) verdict)
+    (covers_on limits nodes (number + 1) covers (counted tally verdict))
 
 -- Once the text of a verdict is written, the work goes on with the covers that are left. If it could not be written whole, the work
 -- has stopped.
 abbrev pub AfterVerdict : Limits → List Node → ℕ → Cover → List Cover → Tally → Verdict → Result (Unit {0}) Stop → Moment → Moment → Type 0
 AfterVerdict limits nodes number cover covers tally verdict (Ok done) b m =
-    (result : Result Status Stop) (after : Moment) → Works (covers_on limits nodes (number + 1) covers (counted tally verdict)) result m after
+    (result : Result Status Stop) (after : Moment)
+    → Works (covers_on limits nodes (number + 1) covers (counted tally verdict)) result m after
     → Works (covers_on limits nodes number (cover ∷ covers) tally) result b after
-AfterVerdict limits nodes number cover covers tally verdict (Err stop) b m = Works (covers_on limits nodes number (cover ∷ covers) tally) (Err stop) b m
+AfterVerdict limits nodes number cover covers tally verdict (Err stop) b m = Works (covers_on limits nodes number (cover ∷ covers) tally)
+    (Err stop) b m
 
 after_verdict : (limits : Limits) (nodes : List Node) (number : ℕ) (cover : Cover) (covers : List Cover) (tally : Tally) (verdict : Verdict)
     (put : Result (Unit {0}) Stop) (b m : Moment) → IsJudged (network_within limits nodes (cover ∷ [])) verdict
-    → Printed (cover_text number (network_within limits nodes (cover ∷ [])) verdict) (covers_on limits nodes (number + 1) covers (counted tally verdict)) put b m
+    → Printed (cover_text number (network_within limits nodes (cover ∷ [])) verdict)
+    (covers_on limits nodes (number + 1) covers (counted tally verdict)) put b m
     → AfterVerdict limits nodes number cover covers tally verdict put b m
 after_verdict limits nodes number cover covers tally verdict (Ok done) b m judged goes = λ result after w.
-    Works-ask (verdict_on (network_within limits nodes (cover ∷ []))) (told_on limits nodes number cover covers tally) verdict result b after judged
+    Works-ask (verdict_on (network_within limits nodes (cover ∷ [])))
+    (told_on limits nodes number cover covers tally) verdict result b after judged
     (goes result after w)
 after_verdict limits nodes number cover covers tally verdict (Err stop) b m judged stops =
-    Works-ask (verdict_on (network_within limits nodes (cover ∷ []))) (told_on limits nodes number cover covers tally) verdict (Err stop) b m judged stops
+    Works-ask (verdict_on (network_within limits nodes (cover ∷ []))) (told_on limits nodes number cover covers tally) verdict
+    (Err stop) b m judged stops
 
-pub verdict_told : (limits : Limits) (nodes : List Node) (number : ℕ) (cover : Cover) (covers : List Cover) (tally : Tally) (verdict : Verdict)
+pub verdict_told : (limits : Limits) (nodes : List Node) (number : ℕ) (cover : Cover) (covers : List Cover) (tally : Tally)
+    (verdict : Verdict)
     (line : List ℕ) (put : Result (Unit {0}) Stop) (b m : Moment) → IsJudged (network_within limits nodes (cover ∷ [])) verdict
     → line ≡ cover_text number (network_within limits nodes (cover ∷ [])) verdict
     → Writes line put b.taken m.taken b.write_faults m.write_faults → Kept b m
     → AfterVerdict limits nodes number cover covers tally verdict put b m
 verdict_told limits nodes number cover covers tally verdict line put b m judged spelt writes kept =
     after_verdict limits nodes number cover covers tally verdict put b m judged
-    (printed (cover_text number (network_within limits nodes (cover ∷ [])) verdict) (covers_on limits nodes (number + 1) covers (counted tally verdict)) put b m
+    (printed (cover_text number (network_within limits nodes (cover ∷ [])) verdict)
+    (covers_on limits nodes (number + 1) covers (counted tally verdict)) put b m
     (subst (λ t. Writes t put b.taken m.taken b.write_faults m.write_faults) spelt writes) kept)
 
 -- ---- cover by cover
@@ -93,7 +102,8 @@ CoversLeft plan number covers tally first now =
 
 pub next_left : (plan : Network) (number : ℕ) (cover : Cover) (covers : List Cover) (tally : Tally) (judging : Judging)
     (first now after : Moment) → CoversLeft plan number (cover ∷ covers) tally first now
-    → GivesNext plan.limits plan.nodes number cover tally (Ok judging) now after → CoversLeft plan (number + 1) covers judging.tally first after
+    → GivesNext plan.limits plan.nodes number cover tally (Ok judging) now after
+    → CoversLeft plan (number + 1) covers judging.tally first after
 next_left plan number cover covers tally judging first now after left gives =
     λ result end work. left result end (gives covers result end work)
 
@@ -409,7 +419,8 @@ tells contents file s text taken taken' is (good h) = λ given. (
 covers_files : (c : Contents) (limits : Limits) (nodes : List Node) (number : ℕ) (covers : List Cover) (tally : Tally)
     → HasFiles c (covers_on limits nodes number covers tally)
 covers_files c limits nodes number [] tally = tt
-covers_files c limits nodes number (cover ∷ covers) tally = λ verdict judged. covers_files c limits nodes (number + 1) covers (counted tally verdict)
+covers_files c limits nodes number (cover ∷ covers) tally = λ verdict judged. covers_files c limits nodes (number + 1) covers
+    (counted tally verdict)
 
 pub covers_causes : (file : PlanFile) → Causes (Some (Covers file))
 covers_causes file = record {

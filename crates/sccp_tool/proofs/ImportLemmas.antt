@@ -31,10 +31,12 @@ IsTold contents plan text octets s = Ends contents (answered (import_answer plan
 abbrev OnFile : Option Contents → List ℕ → List ℕ → Network → Status → Type 0
 OnFile contents name text plan s = FileEnds contents (plain name) (IsTold contents plan text) s
 
-ends : (contents : Option Contents) (plan : PlanFile) (name : List ℕ) (s : Status) (text : List ℕ) → Ends contents (import_work plan name) s text
+ends : (contents : Option Contents) (plan : PlanFile) (name : List ℕ) (s : Status) (text : List ℕ)
+    → Ends contents (import_work plan name) s text
     → PlanEnds contents plan (OnFile contents name text) s
 ends contents plan name s text h =
-    Ends-with_plan (OnFile contents name text) contents plan (λ p. within_limit (plain name) (λ octets. answered (import_answer p octets))) s text
+    Ends-with_plan (OnFile contents name text) contents plan
+    (λ p. within_limit (plain name) (λ octets. answered (import_answer p octets))) s text
     (λ p e. Ends-within_limit (IsTold contents p text) contents (plain name) (λ octets. answered (import_answer p octets)) s text
     (λ octets f. f) e) h
 
@@ -48,13 +50,15 @@ caused contents plan name octets p (Ok text) h e reads few =
 caused contents plan name octets p (Err fault) h e reads few =
     (h.0, h.1, h.2, (p, h.3.1 ∙ ap Ok h.3.2, (octets, reads, few, ap is_err e)))
 
-only_on : (contents : Option Contents) (plan : PlanFile) (name text : List ℕ) (p : Network) (s : Status) → HasPlan contents plan (λ q. q ≡ p)
+only_on : (contents : Option Contents) (plan : PlanFile) (name text : List ℕ) (p : Network) (s : Status)
+    → HasPlan contents plan (λ q. q ≡ p)
     → OnFile contents name text p s → ImportCause contents plan name s
 only_on contents plan name text p TooLong h (lengths.long l) = inr (h.0, h.1, h.2, (p, h.3.1 ∙ ap Ok h.3.2, l))
 only_on contents plan name text p s h (lengths.within w) =
     subst (ImportCause contents plan name) (sym w.3.2.0) (caused contents plan name w.0 p (trace_of p w.0) h refl w.1 w.2)
 
-only : (contents : Option Contents) (plan : PlanFile) (name text : List ℕ) (s : Status) → PlanEnds contents plan (OnFile contents name text) s
+only : (contents : Option Contents) (plan : PlanFile) (name text : List ℕ) (s : Status)
+    → PlanEnds contents plan (OnFile contents name text) s
     → ImportCause contents plan name s
 only contents plan name text TooLong (long h) = inl h
 only contents plan name text BadPlan (bad h) = h
@@ -76,7 +80,8 @@ at_octets : (c : Contents) (name text : List ℕ) (p : Network) (P : List ℕ �
 at_octets c name text p P TooLong (lengths.long l) has = absurd (not_long c (plain name) P has l)
 at_octets c name text p P s (lengths.within w) has = (at_file c (plain name) (λ octets. IsTold (Some c) p text octets s) P w has).2.0
 
-if_file_long : (c : Contents) (name text : List ℕ) (p : Network) (s : Status) → OnFile (Some c) name text p s → HasLongFile (Some c) (plain name)
+if_file_long : (c : Contents) (name text : List ℕ) (p : Network) (s : Status) → OnFile (Some c) name text p s
+    → HasLongFile (Some c) (plain name)
     → s ≡ TooLong
 if_file_long c name text p TooLong (lengths.long l) has = refl
 if_file_long c name text p s (lengths.within w) has = absurd (not_long c (plain name) (λ octets. IsTold (Some c) p text octets s) w has)
@@ -106,7 +111,8 @@ all_told : (r : Result (List ℕ) LineFault) (contents : Option Contents) (text 
 all_told (Ok trace) contents text h = ap Ok (sym (h.1 ∙ ap (λ l. trace ++ l) h.2.1 ∙ append-nil trace))
 all_told (Err fault) contents text h = cc
 
-told_on : (c : Contents) (plan : PlanFile) (name text : List ℕ) (taken taken' : Option (List ℕ)) (p : Network) → taken' ≡ append_known taken text
+told_on : (c : Contents) (plan : PlanFile) (name text : List ℕ) (taken taken' : Option (List ℕ)) (p : Network)
+    → taken' ≡ append_known taken text
     → HasPlan (Some c) plan (λ q. q ≡ p) → (s : Status) → s ≡ Done
     → OnFile (Some c) name text p s → HasBoth (Some c) plan name (λ p octets. (text : List ℕ) × (taken' ≡ append_known taken text)
     × IsTraceOf p octets text)
@@ -124,7 +130,8 @@ told_on c plan name text taken taken' p is h s e (lengths.within w) =
       ),
     )
 
-told : (c : Contents) (plan : PlanFile) (name text : List ℕ) (taken taken' : Option (List ℕ)) (s : Status) → taken' ≡ append_known taken text → s ≡ Done
+told : (c : Contents) (plan : PlanFile) (name text : List ℕ) (taken taken' : Option (List ℕ)) (s : Status)
+    → taken' ≡ append_known taken text → s ≡ Done
     → PlanEnds (Some c) plan (OnFile (Some c) name text) s
     → HasBoth (Some c) plan name (λ p octets. (text : List ℕ) × (taken' ≡ append_known taken text) × IsTraceOf p octets text)
 told c plan name text taken taken' TooLong is e (long h) = cc

@@ -62,7 +62,7 @@ after_margin : (plan : Network) (losses : LossLimit) (number more : ℕ) (tally 
     → AfterMargin plan losses number more tally margin put b m
 after_margin plan losses number more tally margin (Ok done) b m measured goes = λ result after w.
     Works-ask (margin_of plan losses.kinds number losses.most) (told_on plan losses number more tally) margin result b after measured
-        (goes result after w)
+    (goes result after w)
 after_margin plan losses number more tally margin (Err stop) b m measured stops =
     Works-ask (margin_of plan losses.kinds number losses.most) (told_on plan losses number more tally) margin (Err stop) b m measured stops
 
@@ -74,7 +74,7 @@ pub margin_told : (plan : Network) (losses : LossLimit) (number more : ℕ) (tal
 margin_told plan losses number more tally margin put b m measured writes kept =
     after_margin plan losses number more tally margin put b m measured
     (printed (margin_text number plan losses.most margin)
-        (margins_on plan losses (number + 1) more (counted tally margin)) put b m writes kept)
+    (margins_on plan losses (number + 1) more (counted tally margin)) put b m writes kept)
 
 -- one more cover is counted at most
 pub counted_more : (tally : MarginTally) (margin : Measure) → total (counted tally margin) ≤ total tally + 1
@@ -118,7 +118,7 @@ stopped_left plan losses number tally stop first now after lt left gives =
 pub none_left : (plan : Network) (losses : LossLimit) (number : ℕ) (tally : MarginTally) (first now : Moment) → length plan.covers ≤ number
     → MarginsLeft plan losses number tally first now → (result : Result Status Stop) (after : Moment)
     → Works (answered (margin_status tally, margin_line losses.most tally)) result now after
-        → Works (each_margin losses plan) result first after
+    → Works (each_margin losses plan) result first after
 none_left plan losses number tally first now few left =
     let none : 0 ≡ length plan.covers - number = omega (arith, few) in
     λ result after w. left result after (subst (λ more. Works (margins_on plan losses number more tally) result now after) none w)
@@ -187,7 +187,7 @@ more_survive : (plan : Network) (losses : LossLimit) (number n : ℕ) → ((k : 
 more_survive plan losses number n before last k lt =
     ⊎_elim (λ less. before k less)
     (λ far. let same : number ≡ k = omega (arith, lt, far) in subst (λ i. SurvivesBelow plan losses.kinds i n) same last)
-        (cases_lt k number)
+    (cases_lt k number)
 
 -- what the least number of the covers before this one says of them
 abbrev LeastSoFar : Network → LossLimit → ℕ → Option ℕ → Type 0

@@ -60,7 +60,8 @@ only contents file s text (good h) =
 
 -- ---- what each answer follows from
 
-always : (c : Contents) (file : PlanFile) (t s : Status) (text : List ℕ) → VerifySure (Some c) file t → PlanEnds (Some c) file (Judged text) s
+always : (c : Contents) (file : PlanFile) (t s : Status) (text : List ℕ) → VerifySure (Some c) file t
+    → PlanEnds (Some c) file (Judged text) s
     → s ≡ t
 always c file Done s text has ends =
     let j = at_plan c file (Judged text) (λ plan. IsSafe plan × (IsWide plan → ⊥)) s ends has in
@@ -69,7 +70,8 @@ always c file BadPlan s text has ends = if_bad c file (Judged text) s ends has
 always c file TooLong s text has ends = if_long c file (Judged text) s ends has
 always c file t s text has ends = absurd has
 
-refused : (c : Contents) (file : PlanFile) (s : Status) (text : List ℕ) → HasPlan (Some c) file IsBad → PlanEnds (Some c) file (Judged text) s
+refused : (c : Contents) (file : PlanFile) (s : Status) (text : List ℕ) → HasPlan (Some c) file IsBad
+    → PlanEnds (Some c) file (Judged text) s
     → (s ≡ Refused) ⊎ (s ≡ TooWide)
 refused c file s text has ends =
     let j = at_plan c file (Judged text) IsBad s ends has in

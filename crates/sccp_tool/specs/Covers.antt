@@ -43,7 +43,8 @@ covers_words limits words = None
 abbrev pub covers_on : Limits → List Node → ℕ → List Cover → Tally → Work
 covers_on limits nodes number [] tally = answered (tally_status tally, tally_line tally)
 covers_on limits nodes number (cover ∷ covers) tally =
-    judge (network_within limits nodes (cover ∷ [])) (λ verdict. print (cover_text number (network_within limits nodes (cover ∷ [])) verdict)
+    judge (network_within limits nodes (cover ∷ [])) (λ verdict. print
+    (cover_text number (network_within limits nodes (cover ∷ [])) verdict)
     (covers_on limits nodes (number + 1) covers (counted tally verdict)))
 
 abbrev pub each_cover : Network → Work

@@ -100,7 +100,7 @@ pub record TellsMargins (plan : Network) (losses : LossLimit) (given : Status) (
   pub whole : text ≡ margins_text plan losses 0 margins ++ margin_line losses.most (tallied none_yet margins)
   pub shown : (number : ℕ) (stop : StoppedTitle) → slice_get margins number ≡ Some (StoppedBy stop)
       → SurvivesBelow plan losses.kinds number (points_lost stop.markings)
-          × IsStop plan losses.kinds number (points_lost stop.markings) stop
+      × IsStop plan losses.kinds number (points_lost stop.markings) stop
   pub least : IfSome (tallied none_yet margins).least (AllSurviveBelow plan losses.kinds)
   pub survive : given ≡ Done → AllSurviveBelow plan losses.kinds (losses.most + 1)
 
@@ -136,7 +136,7 @@ MarginCause contents file losses answer = ⊥
 abbrev pub MarginSure : Option Contents → PlanFile → LossLimit → Status → Type 0
 MarginSure contents file losses Done =
     HasPlan contents file (λ plan. IsSurelySafe plan × AllSurviveBelow plan losses.kinds (losses.most + 1)
-        × (HasWideMargin losses plan → ⊥))
+    × (HasWideMargin losses plan → ⊥))
 MarginSure contents file losses Refused = ⊥
 MarginSure contents file losses TooWide = ⊥
 MarginSure contents file losses answer = MarginCause contents file losses answer

@@ -10,7 +10,8 @@ use Rattle.sccp_work.specs.PlanFile.{plan_file}
 -- two file names, and the number of workers
 unfoldable pub replay_of : Limits → List ℕ → List ℕ → List ℕ → Option Task
 replay_of limits plan trace workers =
-    option_and_then (λ p. option_and_then (λ t. option_map (λ n. Replay (plan_file p limits) t n) (workers_in workers)) (file_name trace)) (file_name plan)
+    option_and_then (λ p. option_and_then (λ t. option_map (λ n. Replay (plan_file p limits) t n) (workers_in workers)) (file_name trace))
+    (file_name plan)
 
 -- PLAN TRACE WORKERS
 unfoldable pub replay_words : Limits → List (List ℕ) → Option Task

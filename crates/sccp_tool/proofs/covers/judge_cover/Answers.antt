@@ -27,9 +27,12 @@ returns-in-Ok-clause-gives g c =
     let b : Moment = with_sink any g.K.Sink.taken g.K.Sink.faults c.args.out.now in
     let m : Moment = with_sink any g.K.Sink.taken g.K.Sink.faults c.print_verdict.new.out in
     λ covers result after w.
-    subst (λ put. AfterVerdict c.args.limits c.args.judging.nodes c.args.number c.args.cover covers c.args.judging.tally v put b m) c.in-Ok.is
-    (verdict_told c.args.limits c.args.judging.nodes c.args.number c.args.cover covers c.args.judging.tally v (cover_text c.args.number (plan_of v) v)
+    subst (λ put. AfterVerdict c.args.limits c.args.judging.nodes c.args.number c.args.cover covers c.args.judging.tally v put b m)
+    c.in-Ok.is
+    (verdict_told c.args.limits c.args.judging.nodes c.args.number c.args.cover covers c.args.judging.tally v
+    (cover_text c.args.number (plan_of v) v)
     c.print_verdict.result b m (c.requires.plan, subst (λ plan. IsLawful plan v) c.in_ok-plan.ensures e.lawful)
     (ap (λ plan. cover_text c.args.number plan v) same) c.print_verdict.ensures
     (record { contents = refl; sound = refl; read_faults = refl })) result after
-    (subst (λ tally. Works (covers_on c.args.limits c.args.judging.nodes (c.args.number + 1) covers tally) result m after) c.counted-tally.ensures w)
+    (subst (λ tally. Works (covers_on c.args.limits c.args.judging.nodes
+    (c.args.number + 1) covers tally) result m after) c.counted-tally.ensures w)
