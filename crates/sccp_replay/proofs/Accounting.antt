@@ -156,7 +156,8 @@ among z done ls rest l e has = subst (λ k. Contains k l) (sym e)
     (Contains-append_right done (ls ++ rest) l (Contains-append_left ls rest l has))
 
 may_stop : (z : Scene) (done ls rest : List Numbered) (pieces : List Piece) (at : Standing) (acc : List ℕ) → SoFar z done pieces at
-    → lines_in z.c z.trace_name ≡ done ++ (ls ++ rest) → IsWritten z pieces acc → MayStop (Ends z) (Reads z) (Fronts z) z.c z.first.plan.limits ls acc
+    → lines_in z.c z.trace_name ≡ done ++ (ls ++ rest) → IsWritten z pieces acc
+    → MayStop (Ends z) (Reads z) (Fronts z) z.c z.first.plan.limits ls acc
 may_stop z done ls rest pieces at acc h e is =
     let long_line : List ℕ = too_long_line z.first.plan.limits in
     let here : IsWritten z pieces (acc ++ []) = append-nil acc ∙ is in (
@@ -399,9 +400,11 @@ last_follows goes z fault f batch done pieces at acc h is e oct joins begun = (
   told at' more h' =
       let is' : IsWritten z (pieces ++ more) (acc ++ texts more) = written_more z pieces more acc is in (
         (λ front starts. front_last z (done ++ batch) [] (pieces ++ more) at' acc (texts more) closing.1 front closing.0 h' all is'
-            (subst (λ n. IsLastLine z.c z.first.plan.limits z.trace_name (take n (lines_in z.c z.trace_name)) closing.1 closing.0) (sym count)
+            (subst (λ n. IsLastLine z.c z.first.plan.limits z.trace_name (take n (lines_in z.c z.trace_name)) closing.1 closing.0)
+            (sym count)
             (closing_so z fault f)) starts),
-        closing_told z fault (acc ++ (texts more ++ closing.1)) f (subst (LaterPlansFit z.c z.first.plan.limits) (append-nil' ∙ sym all) h'.fit)
+        closing_told z fault (acc ++ (texts more ++ closing.1)) f (subst (LaterPlansFit z.c z.first.plan.limits) (append-nil'
+            ∙ sym all) h'.fit)
             (subst (λ n. Account z.c (file_of z) z.workers (take n (lines_in z.c z.trace_name)) closing.1
             (acc ++ (texts more ++ closing.1))) count
             (account_of z (done ++ batch) [] (pieces ++ more) at' closing.1 (acc ++ (texts more ++ closing.1)) h' all

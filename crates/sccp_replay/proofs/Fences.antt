@@ -466,7 +466,8 @@ answers_within w v TooLong text b a i h = i.ends TooLong text h
 answers_within w v OtherNodes text b a i h = i.ends OtherNodes text h
 answers_within w v BadCapture text b a i h = i.ends BadCapture text h
 
-pub as_by_one : (c : Contents) (plan : PlanFile) (trace : List ℕ) (workers : ℕ) (s : Status) (text : List ℕ) (b a : Moment) → b.contents ≡ Some c
+pub as_by_one : (c : Contents) (plan : PlanFile) (trace : List ℕ) (workers : ℕ) (s : Status) (text : List ℕ) (b a : Moment)
+    → b.contents ≡ Some c
     → HasFences c plan trace → Answers (replay_work plan trace workers) s text b a → Answers (replay_work plan trace 1) s text b a
 as_by_one c plan trace workers s text b a is fenced h = answers_within (replay_work plan trace workers)
     (replay_work plan trace 1) s text b a

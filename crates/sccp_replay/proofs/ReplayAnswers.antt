@@ -107,7 +107,8 @@ replay_other plan trace workers = λ octets. by (ltb plan.limits.octets (length 
   on first (verdicts.Refused same w) = λ e. cc
   on first (verdicts.TooWide same) = λ e. cc
 
-  read : (r : Result Network PlanFault) → Finishes Other (planned plan.limits r (λ first. judge first (replayed plan.name trace workers first)))
+  read : (r : Result Network PlanFault)
+      → Finishes Other (planned plan.limits r (λ first. judge first (replayed plan.name trace workers first)))
   read (Ok first) = λ v. on first v
   read (Err fault) = λ e. cc
 

@@ -68,7 +68,8 @@ fit_or_long c limits trace fit long = not_long c (plan_file long.1 limits) Anyth
 
 -- ---- each cause
 
-pub done_must : (c : Contents) (plan : PlanFile) (trace : List ℕ) (s : Status) → ReplaySure c plan trace Done → ReplayCause c plan trace s → s ≡ Done
+pub done_must : (c : Contents) (plan : PlanFile) (trace : List ℕ) (s : Status) → ReplaySure c plan trace Done → ReplayCause c plan trace s
+    → s ≡ Done
 done_must c plan trace Done h e = refl
 done_must c plan trace BadTrace h e = absurd (none_or_some (fault_in c trace) h.2 e.1)
 done_must c plan trace TooLong h (inl e) = absurd (long_or c plan IsSurelySafe h.0 e)
@@ -83,7 +84,8 @@ done_must c plan trace NoMemory h e = absurd e
 done_must c plan trace ReadFault h e = absurd e
 done_must c plan trace WriteFault h e = absurd e
 
-pub bad_trace_must : (c : Contents) (plan : PlanFile) (trace : List ℕ) (s : Status) → ReplaySure c plan trace BadTrace → ReplayCause c plan trace s
+pub bad_trace_must : (c : Contents) (plan : PlanFile) (trace : List ℕ) (s : Status) → ReplaySure c plan trace BadTrace
+    → ReplayCause c plan trace s
     → s ≡ BadTrace
 bad_trace_must c plan trace BadTrace h e = refl
 bad_trace_must c plan trace Done h e = absurd (none_or_some (fault_in c trace) e.2 h.1)
@@ -99,7 +101,8 @@ bad_trace_must c plan trace NoMemory h e = absurd e
 bad_trace_must c plan trace ReadFault h e = absurd e
 bad_trace_must c plan trace WriteFault h e = absurd e
 
-pub too_long_must : (c : Contents) (plan : PlanFile) (trace : List ℕ) (s : Status) → ReplaySure c plan trace TooLong → ReplayCause c plan trace s
+pub too_long_must : (c : Contents) (plan : PlanFile) (trace : List ℕ) (s : Status) → ReplaySure c plan trace TooLong
+    → ReplayCause c plan trace s
     → s ≡ TooLong
 too_long_must c plan trace TooLong h e = refl
 too_long_must c plan trace Done (inl h) e = absurd (long_or c plan IsSafe e.0 h)
@@ -119,7 +122,8 @@ too_long_must c plan trace NoMemory h e = absurd e
 too_long_must c plan trace ReadFault h e = absurd e
 too_long_must c plan trace WriteFault h e = absurd e
 
-pub bad_plan_must : (c : Contents) (plan : PlanFile) (trace : List ℕ) (s : Status) → ReplaySure c plan trace BadPlan → ReplayCause c plan trace s
+pub bad_plan_must : (c : Contents) (plan : PlanFile) (trace : List ℕ) (s : Status) → ReplaySure c plan trace BadPlan
+    → ReplayCause c plan trace s
     → s ≡ BadPlan
 bad_plan_must c plan trace BadPlan h e = refl
 bad_plan_must c plan trace Done h e = absurd (bad_or c plan IsSafe e.0 h)
@@ -135,7 +139,8 @@ bad_plan_must c plan trace NoMemory h e = absurd e
 bad_plan_must c plan trace ReadFault h e = absurd e
 bad_plan_must c plan trace WriteFault h e = absurd e
 
-pub refused_must : (c : Contents) (plan : PlanFile) (trace : List ℕ) (s : Status) → ReplayCause c plan trace Refused → ReplayCause c plan trace s
+pub refused_must : (c : Contents) (plan : PlanFile) (trace : List ℕ) (s : Status) → ReplayCause c plan trace Refused
+    → ReplayCause c plan trace s
     → (s ≡ Refused) ⊎ (s ≡ TooWide)
 refused_must c plan trace Refused h e = inl refl
 refused_must c plan trace TooWide h e = inr refl

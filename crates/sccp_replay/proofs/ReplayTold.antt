@@ -305,7 +305,8 @@ on_plan : (goes : Goes) (c : Contents) (plan : PlanFile) (trace : List ℕ) (wor
     (planned plan.limits r (λ first. judge first (replayed plan.name trace workers first))) []
 on_plan goes c plan trace workers oct octets file few (Ok first) is =
     λ v j. on_verdict goes c plan trace workers oct octets file few first is v j
-on_plan goes c plan trace workers oct octets file few (Err fault) is = other_answer c plan trace workers BadPlan (bad_plan plan.limits fault)
+on_plan goes c plan trace workers oct octets file few (Err fault) is =
+    other_answer c plan trace workers BadPlan (bad_plan plan.limits fault)
     (bad_plan_other plan.limits fault) (λ e. cc) (λ e. cc) (octets, file, few, ap is_err is) (λ on. absurd on)
 
 replay_through : (goes : Goes) (c : Contents) (plan : PlanFile) (trace : List ℕ) (workers : ℕ)
@@ -340,7 +341,8 @@ with_last {c} {plan} {workers} {lines} {text} last h = record {
   of_lines = h.of_lines;
   plans = h.plans;
   messages = h.messages;
-  whole = ap (λ t. t ++ last) (h.whole ∙ ap (λ t. first_plan_line plan.name h.first.bound ++ t) (append-nil (flat_map (λ p. p.text) h.pieces)))
+  whole = ap (λ t. t ++ last) (h.whole ∙ ap (λ t. first_plan_line plan.name h.first.bound ++ t)
+      (append-nil (flat_map (λ p. p.text) h.pieces)))
       ∙ append_assoc (first_plan_line plan.name h.first.bound) (flat_map (λ p. p.text) h.pieces) last;
 }
 
@@ -364,7 +366,8 @@ faulted c plan trace workers written (inr r) = record {
 }
 
 -- a front of what was written before a reading and of the line on the fault
-cut_faulted : (c : Contents) (plan : PlanFile) (trace : List ℕ) (workers : ℕ) (written front : List ℕ) → ReadsAny c plan trace workers written
+cut_faulted : (c : Contents) (plan : PlanFile) (trace : List ℕ) (workers : ℕ) (written front : List ℕ)
+    → ReadsAny c plan trace workers written
     → StartsWith read_fault front
     → FrontsAny c plan trace workers (written ++ front)
 cut_faulted c plan trace workers written front (inl e) starts is =
@@ -404,13 +407,15 @@ ends_so c plan trace workers work s text h e = ends_of (EndsAny c plan trace wor
     (FrontsAny c plan trace workers)
     (Some c) work [] text s h e
 
-front_of_fault : (c : Contents) (plan : PlanFile) (trace : List ℕ) (workers : ℕ) (text written front : List ℕ) → ReadsAny c plan trace workers written
+front_of_fault : (c : Contents) (plan : PlanFile) (trace : List ℕ) (workers : ℕ) (text written front : List ℕ)
+    → ReadsAny c plan trace workers written
     → StartsWith read_fault front
     → text ≡ written ++ front → FrontsAny c plan trace workers text
 front_of_fault c plan trace workers text written front r starts same =
     subst (FrontsAny c plan trace workers) (sym same) (cut_faulted c plan trace workers written front r starts)
 
-cut_short : (c : Contents) (plan : PlanFile) (trace : List ℕ) (workers : ℕ) (work : Work) (text : List ℕ) (b a : Moment) → b.contents ≡ Some c
+cut_short : (c : Contents) (plan : PlanFile) (trace : List ℕ) (workers : ℕ) (work : Work) (text : List ℕ) (b a : Moment)
+    → b.contents ≡ Some c
     → Through (EndsAny c plan trace workers) (ReadsAny c plan trace workers) (FrontsAny c plan trace workers) (Some c) work []
     → IsCutShort work text b a → FrontsAny c plan trace workers text
 cut_short c plan trace workers work text b a is h (inl e) =
@@ -442,7 +447,8 @@ told_so c plan trace workers work ReadFault text b a is h e =
 told_so c plan trace workers work s text b a is h e = (ends_so c plan trace workers work s text h (subst (λ k. Ends k work s text) is e)).0
 
 -- what a replay prints, whatever it answers
-pub replay_told : (goes : Goes) (c : Contents) (plan : PlanFile) (trace : List ℕ) (workers : ℕ) (s : Status) (b a : Moment) → b.contents ≡ Some c
+pub replay_told : (goes : Goes) (c : Contents) (plan : PlanFile) (trace : List ℕ) (workers : ℕ) (s : Status) (b a : Moment)
+    → b.contents ≡ Some c
     → (o : Outcome (replay_work plan trace workers) s b a) → TellsReplay c plan trace workers s o.text
 replay_told goes c plan trace workers s b a is o =
     told_so c plan trace workers (replay_work plan trace workers) s o.text b a is

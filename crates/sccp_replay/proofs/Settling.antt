@@ -113,11 +113,12 @@ one_of y x c = on c.0 c.1 c.2 where
 
 pub fit_more : (c : Contents) (limits : Limits) (ls : List Numbered) (l : Numbered) → LaterPlansFit c limits ls → LineFits c limits l
     → LaterPlansFit c limits (ls ++ l ∷ [])
-fit_more c limits ls l h own number name has = on (Contains-append_cases ls (l ∷ []) (record { number = number; line = Plan name }) has) where
-  on : Contains ls (record { number = number; line = Plan name }) ⊎ Contains (l ∷ []) (record { number = number; line = Plan name })
-      → Fits c limits name
-  on (inl e) = h number name e
-  on (inr e) = own name (ap (λ k. k.line) (one_of l (record { number = number; line = Plan name }) e))
+fit_more c limits ls l h own number name has = on (Contains-append_cases ls (l ∷ [])
+    (record { number = number; line = Plan name }) has) where
+      on : Contains ls (record { number = number; line = Plan name }) ⊎ Contains (l ∷ []) (record { number = number; line = Plan name })
+          → Fits c limits name
+      on (inl e) = h number name e
+      on (inr e) = own name (ap (λ k. k.line) (one_of l (record { number = number; line = Plan name }) e))
 
 -- how many plans are accepted after these lines
 pub accepted_by : (z : Scene) (base : Standing) (es : List Entry) (at : Standing) → at.later ≡ base.later ++ map plan_in (plans_in es)
@@ -315,34 +316,35 @@ later_through : (ends : Status → List ℕ → Type 0) (reads fronts : List ℕ
     → Through ends reads fronts (Some z.c) (later_work at l.number name (plan_within at.first.limits octets) next) acc
 later_through ends reads fronts z base es at l name acc next h is_line role go octets there few' =
     by (plan_within at.first.limits octets) refl where
-  few : length octets ≤ z.first.plan.limits.octets
-  few = subst (λ (n : Network). length octets ≤ n.limits.octets) h.first few'
+      few : length octets ≤ z.first.plan.limits.octets
+      few = subst (λ (n : Network). length octets ≤ n.limits.octets) h.first few'
 
-  read_so : {r : Result Network PlanFault} → plan_within at.first.limits octets ≡ r → plan_within z.first.plan.limits octets ≡ r
-  read_so {r} e = subst (λ (n : Network). plan_within n.limits octets ≡ r) h.first e
+      read_so : {r : Result Network PlanFault} → plan_within at.first.limits octets ≡ r → plan_within z.first.plan.limits octets ≡ r
+      read_so {r} e = subst (λ (n : Network). plan_within n.limits octets ≡ r) h.first e
 
-  of : (b : Bool) (plan : Network) → same_nodes at.first plan ≡ b → plan_within z.first.plan.limits octets ≡ Ok plan
-      → Through ends reads fronts (Some z.c) (cond b (judge plan (λ v. judged_later at l.number name plan v next))
-      (next at (prints (other_nodes_line l.number name)))) acc
-  of true plan e is = λ v j. judged_through ends reads fronts z base es at l name acc next h is_line role go octets there few plan is e v j
-  of false plan e is = go at (prints (other_nodes_line l.number name)) None
-      (Settles-line z base es at l _ h (
-        (λ x f. other_role role f),
-        not_accepted z l name _ octets is_line there (subst
-            (λ r. TellsRefusal z.first.plan l.number name r (other_nodes_line l.number name))
-            (sym is) (inl (subst (λ n. same_nodes n plan ≡ false) h.first e, refl))),
-      ) (named_fits z.c z.first.plan.limits l name is_line octets there few))
+      of : (b : Bool) (plan : Network) → same_nodes at.first plan ≡ b → plan_within z.first.plan.limits octets ≡ Ok plan
+          → Through ends reads fronts (Some z.c) (cond b (judge plan (λ v. judged_later at l.number name plan v next))
+          (next at (prints (other_nodes_line l.number name)))) acc
+      of true plan e is = λ v j. judged_through ends reads fronts z base es at l name acc next h is_line role go octets there few
+          plan is e v j
+      of false plan e is = go at (prints (other_nodes_line l.number name)) None
+          (Settles-line z base es at l _ h (
+            (λ x f. other_role role f),
+            not_accepted z l name _ octets is_line there (subst
+                (λ r. TellsRefusal z.first.plan l.number name r (other_nodes_line l.number name))
+                (sym is) (inl (subst (λ n. same_nodes n plan ≡ false) h.first e, refl))),
+          ) (named_fits z.c z.first.plan.limits l name is_line octets there few))
 
-  by : (r : Result Network PlanFault) → plan_within at.first.limits octets ≡ r
-      → Through ends reads fronts (Some z.c) (later_work at l.number name r next) acc
-  by (Err fault) e = go at (prints (bad_plan_line l.number name at.first.limits fault)) None
-      (Settles-line z base es at l _ h (
-        (λ x f. other_role role f),
-        not_accepted z l name _ octets is_line there
-            (subst (λ r. TellsRefusal z.first.plan l.number name r (bad_plan_line l.number name at.first.limits fault))
-            (sym (read_so e)) (ap (λ (n : Network). bad_plan_line l.number name n.limits fault) h.first)),
-      ) (named_fits z.c z.first.plan.limits l name is_line octets there few))
-  by (Ok plan) e = of (same_nodes at.first plan) plan refl (read_so e)
+      by : (r : Result Network PlanFault) → plan_within at.first.limits octets ≡ r
+          → Through ends reads fronts (Some z.c) (later_work at l.number name r next) acc
+      by (Err fault) e = go at (prints (bad_plan_line l.number name at.first.limits fault)) None
+          (Settles-line z base es at l _ h (
+            (λ x f. other_role role f),
+            not_accepted z l name _ octets is_line there
+                (subst (λ r. TellsRefusal z.first.plan l.number name r (bad_plan_line l.number name at.first.limits fault))
+                (sym (read_so e)) (ap (λ (n : Network). bad_plan_line l.number name n.limits fault) h.first)),
+          ) (named_fits z.c z.first.plan.limits l name is_line octets there few))
+      by (Ok plan) e = of (same_nodes at.first plan) plan refl (read_so e)
 
 -- no line but that of a plan names one
 names_none : (first : Network) (l : Numbered) (r : Role) (text : List ℕ) (c : Contents) → role_of first l.line ≡ r
@@ -350,7 +352,8 @@ names_none : (first : Network) (l : Numbered) (r : Role) (text : List ℕ) (c : 
 names_none first l r text c is never name e = absurd (never name (sym is ∙ ap (role_of first) e))
 
 line_through : (ends : Status → List ℕ → Type 0) (reads fronts : List ℕ → Type 0) (z : Scene) (base : Standing) (es : List Entry)
-    (at : Standing) (l : Numbered) (acc : List ℕ) (next : Standing → Settled → Work) → MayStop ends reads fronts z.c z.first.plan.limits (l ∷ []) acc
+    (at : Standing) (l : Numbered) (acc : List ℕ) (next : Standing → Settled → Work)
+    → MayStop ends reads fronts z.c z.first.plan.limits (l ∷ []) acc
     → Settles z base es at → Goes ends reads fronts z base es l acc next
     → Through ends reads fronts (Some z.c) (settle_line at l (role_of at.first l.line) next) acc
 line_through ends reads fronts z base es at l acc next stop h go = by (role_of at.first l.line) refl where
@@ -379,7 +382,8 @@ line_through ends reads fronts z base es at l acc next stop h go = by (role_of a
   by : (r : Role) → role_of at.first l.line ≡ r → Through ends reads fronts (Some z.c) (settle_line at l r next) acc
   by (later name) e = (stop.0, λ octets there. long (ltb at.first.limits.octets (length octets)) name octets refl e there)
   by (routed x) e = go at (routes l.number x (accepted at)) None
-      (Settles-line z base es at l _ h (refl, is_first (routed x) e, refl) (unnamed z.c z.first.plan.limits at.first l (routed x) e (λ n f. cc)))
+      (Settles-line z base es at l _ h (refl, is_first (routed x) e, refl)
+      (unnamed z.c z.first.plan.limits at.first l (routed x) e (λ n f. cc)))
   by aside e = go at (prints (event_text at.first l [])) None
       (Settles-line z base es at l _ h (
         (λ x f. aside_or (is_first aside e) f),
