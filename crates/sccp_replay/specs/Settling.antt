@@ -12,8 +12,7 @@ use Rattle.sccp_replay.specs.Gathering.{joining_role}
 use Rattle.sccp_work.specs.Limit.{within_limit}
 use Rattle.sccp_work.specs.Moment.{Moment}
 use Rattle.sccp_replay.specs.Replay.{Standing, Settled, later_file, judged_later, later_work, settle_line, batch_work, batch_printed}
-use Rattle.sccp_replay.specs.Replay.{gathered}
-use Rattle.sccp_replay.specs.Replay.{alone_work, line_work, lines_work}
+use Rattle.sccp_replay.specs.Replay.{gathered, alone_work, line_work, lines_work}
 use Rattle.sccp_replay.specs.Replayers.{settled_in}
 use Rattle.sccp_replay.specs.Replaying.{EndsAs, SettlesTo, BatchGives, BatchStops}
 use Rattle.sccp_work.specs.Work.{Work, judge, read_on}
