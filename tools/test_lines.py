@@ -211,6 +211,8 @@ TYPED = {
          record("called", route="title", point=None, ssn=6, title={"raw": 12, "octets": "AABB"}, national=False)),
         ("parameter 0F -", record("parameter", name="0F", octets="")),
         ("usage: show-hex HEX | show FILE", record("usage", shapes=["show-hex HEX", "show FILE"])),
+        ("usage: margin PLAN LOSSES [subsystems] | wide COMMAND",
+         record("usage", shapes=["margin PLAN LOSSES [subsystems]", "wide COMMAND"])),
     ],
     "cuts": [
         ("3 undecodable bad pointer 0", record("cut", count=3, ok=False, fault="bad pointer", number=0)),
