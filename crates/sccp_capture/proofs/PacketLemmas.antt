@@ -1,5 +1,6 @@
 -- Packets whose lines are printed at once.
-use Rattle.std.proofs.Common.{◌≡◌, ℕ, suc, ◌+◌, ◌<◌, ◌≤◌, List, [], ◌∷◌, ◌++◌, length, map, drop, get_or, Option, Result, Ok, Err, IfOk, refl, sym, ◌∙◌}
+use Rattle.std.proofs.Common.{◌≡◌, ℕ, suc, ◌+◌, ◌<◌, ◌≤◌, List, [], ◌∷◌, ◌++◌, length, map, drop, get_or, Option, Result, Ok, Err, IfOk}
+use Rattle.std.proofs.Common.{refl, sym, ◌∙◌}
 use Rattle.std.proofs.Common.{ap, subst, append_assoc, append-nil, arith, drop-cons}
 use Rattle.std.proofs.Math.ListN.{drop_of_length-le}
 use Rattle.plan_model.specs.Network.{Network}
@@ -20,7 +21,8 @@ use Rattle.sccp_work.specs.Writing.{Writes}
 use Rattle.sccp_work.specs.declared.status.Status.{Status}
 use Rattle.sccp_work.specs.declared.stop.Stop.{Stop}
 use Rattle.sccp_work.specs.declared.stop.Stop.TheVariants.{Memory}
-use Rattle.sccp_work.proofs.RefineLemmas.{Refines, Refines-trans, Refines-read_on, Refines-print, Refines-nothing, Refines-twice, Works-refines}
+use Rattle.sccp_work.proofs.RefineLemmas.{Refines, Refines-trans, Refines-read_on, Refines-print, Refines-nothing, Refines-twice}
+use Rattle.sccp_work.proofs.RefineLemmas.{Works-refines}
 use Rattle.sccp_work.proofs.WorkLemmas.{Kept, Works-answered, Works-memory, Works-read_on, printed}
 
 -- ---- the text of packets

@@ -13,5 +13,4 @@ pub fn what_is_printed_are_the_lines()
     ensures { (contents : Option Contents) (plan : Network) (octets : List ℕ) (status : Status) (text : List ℕ)
         → Ends contents (octets_work plan octets) status text
         → (status ≡ status_of_octets octets) × (text ≡ text_of_lines (lines_of_capture plan octets)) }
-{
-}
+{}

@@ -1,5 +1,6 @@
 -- What printing the lines of a capture ends with, and what it writes.
-use Rattle.std.proofs.Common.{◌≡◌, ◌⊎◌, ◌≤◌, ℕ, List, [], length, Bool, true, false, cond, ltb, Option, Some, None, Result, Ok, Err, refl, sym, ◌∙◌}
+use Rattle.std.proofs.Common.{◌≡◌, ◌⊎◌, ◌≤◌, ℕ, List, [], length, Bool, true, false, cond, ltb, Option, Some, None, Result, Ok, Err, refl}
+use Rattle.std.proofs.Common.{sym, ◌∙◌}
 use Rattle.std.proofs.Common.{ap, subst, inl, inr}
 use Rattle.std.proofs.lemmas.Bool.{ltb-false}
 use Rattle.capture_file.specs.Told.{told}
@@ -38,7 +39,8 @@ ends contents plan file s text h =
     Ends-with_plan (OnCapture contents file text) contents plan (λ p. file_work p file) s text (λ p e. e) h
 
 -- the answer and the text
-are : (contents : Option Contents) (p : Network) (octets : List ℕ) (s : Status) (text : List ℕ) → Ends contents (octets_work p octets) s text
+are : (contents : Option Contents) (p : Network) (octets : List ℕ) (s : Status) (text : List ℕ)
+    → Ends contents (octets_work p octets) s text
     → (s ≡ status_of_octets octets) × (text ≡ text_of_lines (lines_of_capture p octets))
 are contents p octets s text h = ends_are contents p (told true octets).fault (told true octets).packets beginning s text h
 

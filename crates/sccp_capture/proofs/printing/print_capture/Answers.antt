@@ -1,4 +1,4 @@
-use Rattle.std.proofs.Common.{◌≡◌, ℕ, List, Ok, Err, map, take, refl, subst, arith}
+use Rattle.std.proofs.Common.{◌≡◌, List, Ok, Err, map, take, refl, subst, arith}
 use Rattle.std.proofs.lemmas.Result.{err_from_is_err_and}
 use Rattle.capture_file.specs.Packets.{Captured}
 use Rattle.capture_file.specs.Views.{captured}
@@ -100,7 +100,8 @@ returns-in_err-print_packets g c =
     (take c.in-Ok.taken c.take.new.buffer) packets (g.F.Files.left c.loop-turn.files) (g.F.Files.left c.take.new.self) b m a
     c.loop-turn.invariant e.takes refl c.in_ok-fed.ensures.goes_on
     (record { contents = e.contents; sound = e.soundness; taken = refl; write_faults = refl }) in
-    let prints : PrintsPackets {T = Unit {0}} c.args.plan.now packets c.loop-turn.capture (Err c.in_err-print_packets.field-0.0) c.print_packets.new.capture a z =
+    let prints : PrintsPackets {T = Unit {0}} c.args.plan.now packets c.loop-turn.capture
+    (Err c.in_err-print_packets.field-0.0) c.print_packets.new.capture a z =
     subst (λ ps. PrintsPackets {T = Unit {0}} c.args.plan.now (map captured ps) c.loop-turn.capture (Err c.in_err-print_packets.field-0.0)
     c.print_packets.new.capture a z) c.as_slice.ensures (c.in_err-print_packets.ensures a) in
     rw (p.1, p.2)
