@@ -2,9 +2,9 @@
 """Measures how fast the built program makes a trace of a capture: packets a second, and the peak memory.
 
 The capture is a pcap file of Ethernet. Each packet has IPv4, SCTP and one DATA chunk with a DATA message of M3UA, whose message of
-SCCP (UDT of 31 octets) ends with the number of the packet; with its record a packet has 134 octets. A second capture has the same chunks in pieces of
-20 octets, one a packet, and a third one random octets: as a file, and as the octets of packets. The time has to grow as the
-number of packets does, and the memory not at all. The last line of the output is compared with what it has to be.
+SCCP (UDT of 31 octets) ends with the number of the packet; with its record a packet has 134 octets. A second capture has the same
+messages in chunks of 20 octets, one a packet, and the others have random octets: as a file, as packets, and as chunks. The time has
+to grow as the number of packets does, and the memory not at all. The last line of the output is compared with what it has to be.
 
 With tshark on the path the same file is read by it, too, for the messages of M3UA.
 

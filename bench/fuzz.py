@@ -2,6 +2,7 @@
 """Hands drawn and mutated messages, plan texts and traces to the built program, and ends by itself after a given count.
 
   bench/fuzz.py [--program PROGRAM] [--count N] [--seed N] [--jobs N] [messages] [plans] [traces] [relays]
+                [captures]
 
 Of each kind N inputs are made (100,000 if not given) and handed over through files:
 
@@ -15,6 +16,9 @@ Of each kind N inputs are made (100,000 if not given) and handed over through fi
   0, 65, 66, 67, 68 or 74 (a plan line may name an absent file), and the last line has to fit it.
 - messages to `send-on`, one a call, over two plans: every third one drawn as above, the others with a called title of the
   plan, most of them long. What is printed has to be what the second maker (send_on.py) says, to the octet, and the status 0.
+
+- captures to `capture`, drawn and changed as tools/check_capture.py does it. What is printed has to be what its reader
+  (tools/capture_reference.py) says, to the octet, and so has the status, 0 or 70.
 
 A kind whose command the program does not have is left out, and said so. Nothing may be printed on standard error, no call may end by a
 signal or take more than a minute, twice. The first ten faults are printed with the file that shows each, which is kept; the last
@@ -37,6 +41,11 @@ TOP = os.path.dirname(os.path.dirname(os.path.abspath(__file__)))
 sys.path.insert(0, os.path.join(TOP, "bench"))
 import reference  # noqa: E402
 import send_on  # noqa: E402
+
+sys.dont_write_bytecode = True
+sys.path.insert(0, os.path.join(TOP, "tools"))
+import capture_reference  # noqa: E402
+import check_capture  # noqa: E402
 
 PLAN = """version = 1
 [[node]]
@@ -357,6 +366,21 @@ def relay_one(program, folder, seed):
     return collections.Counter({status: 1}), [(f"send-on: {why}", path)]
 
 
+def capture_one(program, folder, seed):
+    drawing = check_capture.Drawing(seed)
+    octets = drawing.changed(drawing.capture())
+    path = os.path.join(folder, f"c{seed}.pcap")
+    with open(path, "wb") as made:
+        made.write(octets)
+    lines, wanted = capture_reference.printed(check_capture.NODES, octets)
+    status, output, why = call(program, folder, "capture", "p.toml", os.path.basename(path))
+    if (status, output) != (wanted, "".join(line + "\n" for line in lines).encode()):
+        why = why or f"status {status}, or another text"
+    if why is None:
+        os.remove(path)
+    return collections.Counter({status: 1}), [(f"capture: {why}", path)] if why else []
+
+
 def main():
     words = argparse.ArgumentParser(usage=__doc__)
     words.add_argument("--program", default=os.path.join(TOP, "crates/sccp/out/sccp"))
@@ -366,7 +390,7 @@ def main():
     words.add_argument("kinds", nargs="*", default=[])
     given = words.parse_args()
     program = os.path.abspath(given.program)
-    kinds = given.kinds or ["messages", "plans", "traces", "relays"]
+    kinds = given.kinds or ["messages", "plans", "traces", "relays", "captures"]
     batch = 2_000
     faults = Faults(os.path.join(tempfile.gettempdir(), f"sccp_fuzz_{os.getpid()}"))
     with tempfile.TemporaryDirectory() as folder:
@@ -381,6 +405,9 @@ def main():
             if kind == "relays" and call(program, folder, "send-on", "p.toml", "a", "1-0-1", "1", "05")[0] == 64:
                 print("relays: left out, the program has no send-on")
                 continue
+            if kind == "captures" and call(program, folder, "capture", "p.toml", "p.toml")[0] == 64:
+                print("captures: left out, the program has no capture")
+                continue
             with concurrent.futures.ThreadPoolExecutor(given.jobs) as pool:
                 if kind == "messages":
                     turns = pool.map(lambda i: show_batch(program, folder, first + i, min(batch, given.count - i * batch)),
@@ -389,6 +416,8 @@ def main():
                     turns = pool.map(lambda i: verify_one(program, folder, first + i), range(given.count))
                 elif kind == "relays":
                     turns = pool.map(lambda i: relay_one(program, folder, first + i), range(given.count))
+                elif kind == "captures":
+                    turns = pool.map(lambda i: capture_one(program, folder, first + i), range(given.count))
                 else:
                     turns = pool.map(lambda i: replay_one(program, folder, first + i), range(given.count))
                 told = collections.Counter()

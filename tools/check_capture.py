@@ -5,7 +5,8 @@
 
 Captures of all formats, links and layers are drawn, with messages in several chunks, lost and repeated ones, and octets that are cut
 off, changed or put in. Each is read as a file, and some also through a pipe that is filled piece by piece, so that packets cross the
-pieces in which the program reads. Of the first N small ones (2 unless given) each beginning is a capture of its own.
+pieces in which the program reads. Of the first N small ones (2 unless given) each beginning is a capture of its own. Before them go
+captures at each limit: octets of a packet, interfaces, chunks that may be repeated or wait.
 
 300 captures are drawn unless N is given. The program is ./sccp of this repository if none is named. The last line counts captures,
 calls and lines of each kind. Each capture with a difference is kept beside its name, and the status is then 1.
@@ -240,6 +241,41 @@ class Drawing:
         return self.changed(make(count, most))
 
 
+# ---- captures at the limits, by what is at a limit
+
+def of_chunks(tsns):
+    """A packet of SCTP with chunks that are too short for M3UA."""
+    head = struct.pack(">HHII", 2905, 2905, 7, 0)
+    return head + b"".join(struct.pack(">BBHIHHI", 0, 3, 20, tsn, 0, 0, 3) + b"\1\1\1\1" for tsn in tsns)
+
+
+def of_records(link, packets):
+    return struct.pack("<IHHIIII", 0xA1B2C3D4, 2, 4, 0, 0, 0, link) + b"".join(
+        struct.pack("<IIII", 1, 2, len(octets), len(octets)) + octets for octets in packets)
+
+
+def of_interfaces(count, octets=b""):
+    """A section with so many interfaces of SCTP, and a packet of the last one."""
+    blocks = struct.pack("<IIIHHqI", 0x0A0D0D0A, 28, 0x1A2B3C4D, 1, 0, -1, 28) + count * struct.pack("<IIHHII", 1, 20, 248, 0, 0, 20)
+    size = 32 + len(octets) + -len(octets) % 4
+    head = struct.pack("<IIIIIII", 6, size, count - 1, 1, 2, len(octets), len(octets))
+    return blocks + head + octets + bytes(-len(octets) % 4) + struct.pack("<I", size)
+
+
+def limits():
+    one = of_chunks([9])
+    for size in (262_144, 262_145):
+        yield f"a record of {size} octets", of_records(248, [one + bytes(size - len(one)), of_chunks([8])])
+        yield f"a block of {size} octets", of_interfaces(1, one + bytes(size - len(one)))
+    for count in (4096, 4097):
+        yield f"{count} interfaces", of_interfaces(count, one)
+    keys = [of_chunks(range(at, at + 64)) for at in range(0, 65_536, 64)]
+    yield "65,536 keys", of_records(248, [*keys, of_chunks([0, 65_536, 1, 65_537, 3, 0])])
+    alone = [struct.pack(">HHII", 2905, 2905, 7, 0) + struct.pack(">BBHIHHI", 0, 2, 17, 2 * tsn, 0, 0, 3) + b"x\0\0\0" for tsn in range(259)]
+    for count in (256, 257, 259):
+        yield f"{count} chunks that wait", of_records(248, alone[:count])
+
+
 # ---- the program
 
 def call(program, folder, name, octets=None):
@@ -306,6 +342,9 @@ def main():
         with open(os.path.join(folder, "plan.toml"), "w") as file:
             file.write(PLAN)
         check, cut = Check(os.path.abspath(given.program), folder, tempfile.gettempdir()), given.cut
+        for title, octets in limits():
+            check.compare(octets, title)
+            check.compare(octets, title + " in pieces", True)
         for number in range(given.captures):
             octets = Drawing(given.seed * 1_000_003 + number).capture()
             title = f"capture {number} of seed {given.seed}"

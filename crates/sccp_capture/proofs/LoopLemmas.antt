@@ -1,9 +1,8 @@
 -- The steps of the loop over a capture file.
 use Rattle.std.proofs.Common.{◌≡◌, ℕ, List, [], ◌∷◌, ◌++◌, take, Bool, true, Option, Result, Ok, Err, refl, sym, ◌∙◌, ap, subst, inl}
 use Rattle.std.specs.Prelude.{is_some}
-use Rattle.std.specs.Io.KnownBytes.{prepend_known}
 use Rattle.plan_model.specs.Network.{Network}
-use Rattle.capture_file.specs.Packets.{Captured, Told, only, with_front}
+use Rattle.capture_file.specs.Packets.{Captured, only, with_front}
 use Rattle.capture_file.specs.Standings.{ahead}
 use Rattle.capture_file.specs.Standings as reading
 use Rattle.capture_file.specs.declared.file_fault.FileFault.{FileFault}
@@ -16,9 +15,9 @@ use Rattle.sccp_io.specs.Files.{Contents, TakesNext, BeginsFile}
 use Rattle.sccp_io.specs.declared.fault.IoFault.{IoFault}
 use Rattle.sccp_work.specs.Ending.{Works}
 use Rattle.sccp_work.specs.Moment.{Moment}
-use Rattle.sccp_work.specs.Pieces.{EndsAs, GoesOn}
+use Rattle.sccp_work.specs.Pieces.{GoesOn}
 use Rattle.sccp_work.specs.Reading.{reading_stop}
-use Rattle.sccp_work.specs.Work.{Work, read, ComesToReading}
+use Rattle.sccp_work.specs.Work.{Work, ComesToReading}
 use Rattle.sccp_work.specs.declared.status.Status.{Status}
 use Rattle.sccp_work.specs.declared.stop.Stop.{Stop}
 use Rattle.sccp_work.specs.declared.stop.Stop.TheVariants.{Memory}

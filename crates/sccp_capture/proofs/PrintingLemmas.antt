@@ -1,5 +1,5 @@
 -- What the work on a capture file prints: the lines of the whole capture, or a front of them.
-use Rattle.std.proofs.Common.{◌≡◌, ◌⊎◌, ℕ, List, [], ◌∷◌, ◌++◌, Option, refl, sym, ◌∙◌, ap, append-nil, append_assoc, inl, inr}
+use Rattle.std.proofs.Common.{◌≡◌, ℕ, List, [], ◌∷◌, ◌++◌, Option, refl, sym, ◌∙◌, ap, append-nil, append_assoc, inl, inr}
 use Rattle.std.proofs.lemmas.Grind.{flat_map-append}
 use Rattle.capture_file.specs.Packets.{Captured}
 use Rattle.capture_file.specs.declared.file_fault.FileFault.{FileFault}

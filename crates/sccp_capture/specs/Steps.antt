@@ -1,5 +1,5 @@
 -- What a call for packets gives, whatever packets follow.
-use Rattle.std.specs.Prelude.{◌≡◌, ℕ, List, ◌++◌, Option, Result, Ok, Err}
+use Rattle.std.specs.Prelude.{List, ◌++◌, Option, Result, Ok, Err}
 use Rattle.plan_model.specs.Network.{Network}
 use Rattle.capture_file.specs.Packets.{Captured}
 use Rattle.capture_file.specs.declared.file_fault.FileFault.{FileFault}

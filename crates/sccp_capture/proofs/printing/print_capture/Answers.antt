@@ -1,4 +1,4 @@
-use Rattle.std.proofs.Common.{◌≡◌, ℕ, List, Ok, Err, map, take, refl, subst, arith}
+use Rattle.std.proofs.Common.{◌≡◌, List, Ok, Err, map, take, refl, subst, arith}
 use Rattle.std.proofs.lemmas.Result.{err_from_is_err_and}
 use Rattle.capture_file.specs.Packets.{Captured}
 use Rattle.capture_file.specs.Views.{captured}

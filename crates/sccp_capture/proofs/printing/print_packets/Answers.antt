@@ -1,4 +1,4 @@
-use Rattle.std.proofs.Common.{◌≡◌, ◌++◌, [], ◌∙◌, map, refl, ap}
+use Rattle.std.proofs.Common.{◌++◌, ◌∙◌, map, refl, ap}
 use Rattle.std.proofs.lemmas.Result.{err_from_is_err_and}
 use Rattle.capture_file.specs.Views.{captured}
 use Rattle.sccp_capture.specs.Printing.{text_of_packets}
