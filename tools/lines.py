@@ -137,7 +137,7 @@ WHOLE = "(?:0|[1-9][0-9]{0,19})"
 CODE = f"{WHOLE}-(?:[0-9]|[1-9][0-9]|1[0-9][0-9]|2[0-4][0-9]|25[0-5])-[0-7]"
 NODE = "[A-Za-z0-9_-]{1,16}"
 MARK = f"(?:(?:point|sccp):{CODE}|subsystem:{CODE}/{WHOLE})"
-SHAPE = "[a-z][a-z-]*(?: [A-Z]+)*"
+SHAPE = "[a-z][a-z-]*(?: [A-Z]+| \\[[a-z]+\\])*"
 
 
 def read_mark(text):
