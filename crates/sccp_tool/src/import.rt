@@ -7,10 +7,11 @@ ghost use Rattle.sccp_work.specs.Moment.{moment};
 ghost use Rattle.sccp_tool.specs.Parsed.{task_in};
 
 use crate::command::Command;
+use crate::whole_file::whole_file;
 use m3ua_trace::ImportError;
 use plan_model::{Limits, Plan};
 use sccp_io::{Files, Sink};
-use sccp_work::{Opened, PlanPath, Status, Stop, bad_line, print_last, with_plan, within_limit};
+use sccp_work::{PlanPath, Status, Stop, bad_line, print_last, with_plan};
 use std::alloc::{AllocError, Global};
 use trace_text::is_file_name;
 
@@ -68,7 +69,7 @@ fn print_trace<F: Files, K: Sink>(
         (moment F.contents F.sound F.faults K.taken K.faults files.old out.old)
         (moment F.contents F.sound F.faults K.taken K.faults files.new out.new) }
 {
-    let octets = within_limit(alloc, Opened::First, &PlanPath::plain(file), files, out)?;
+    let octets = whole_file(alloc, file, files, out)?;
     let (status, text) = import_answer(alloc, plan, &octets)?;
     print_last(out, &text, status)
 }

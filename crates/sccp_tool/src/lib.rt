@@ -39,6 +39,7 @@ mod start;
 mod tally;
 mod unused;
 mod verify;
+mod whole_file;
 
 pub use program::{run, run_gated};
 pub use sccp_work::Status;

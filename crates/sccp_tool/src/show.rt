@@ -9,10 +9,11 @@ ghost use Rattle.sccp_tool.specs.Show.{show_words, show_work, shown_content, sho
 ghost use Rattle.sccp_tool.specs.declared.show.ShowError.TheVariants.{Memory};
 
 use crate::command::Command;
+use crate::whole_file::whole_file;
 use sccp_base::OutOfMemory;
 use sccp_io::{Files, Sink};
 use sccp_report::message_text;
-use sccp_work::{Opened, PlanPath, Status, Stop, bad_line, print_last, within_limit};
+use sccp_work::{Status, Stop, bad_line, print_last};
 use std::alloc::{AllocError, Global};
 use trace_text::{LineFault, LineKind, content, first_line, is_file_name, octets_of};
 
@@ -67,7 +68,7 @@ pub fn show<F: Files, K: Sink>(
         (moment F.contents F.sound F.faults K.taken K.faults files.old out.old)
         (moment F.contents F.sound F.faults K.taken K.faults files.new out.new) }
 {
-    let octets = within_limit(alloc, Opened::First, &PlanPath::plain(name), files, out)?;
+    let octets = whole_file(alloc, name, files, out)?;
     let (status, text) = show_answer(alloc, &octets)?;
     print_last(out, &text, status)
 }
