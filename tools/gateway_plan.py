@@ -322,7 +322,7 @@ class Network:
                 return parts
             parts = parts[1:] + [(country.code + national, country) for national in country.national]
         split = 0
-        while len(parts) < count:
+        while len(parts) - split < count:
             prefix, country = parts[split]
             parts += [(f"{prefix}{digit}", country) for digit in range(10)]
             split += 1

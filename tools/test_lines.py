@@ -387,6 +387,9 @@ class Cases(unittest.TestCase):
 def may_be_absent(words, at):
     if words[at] == "national" or (words[at] in ("old", "new") and words[at + 1:at + 2] == ["at"]):
         return True
+    # The layer of a fault in a chunk.
+    if words[1:2] == ["packet"] and words[3:4] == ["chunk"] and words[5:at] in (["short"], ["bad"]):
+        return True
     # A limit that was passed. The last lines of covers and margin end with a count.
     is_limit = words[at - 2:at] in (["too", "wide"], ["too", "long"]) or words[at - 2:at - 1] == ["limit"]
     return is_limit and at == len(words) - 1 and words[0] not in ("accepted", "least")
