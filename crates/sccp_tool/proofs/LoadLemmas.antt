@@ -6,6 +6,7 @@ use Rattle.made_load.specs.Relays.{load_plan}
 use Rattle.made_load.proofs.Counting.{add_up}
 use Rattle.made_load.proofs.Narrow.{narrow}
 use Rattle.made_load.proofs.Safe.{safe}
+use Rattle.plan_model.specs.Limits.{most_classes}
 use Rattle.plan_verify.specs.Lawful.{IsLawful}
 use Rattle.plan_verify.specs.declared.verdict.Verdict.{Verdict}
 use Rattle.plan_verify.specs.declared.verdict.Verdict.TheVariants as verdicts
@@ -29,6 +30,7 @@ record Counted (number size : ℕ) (s : Status) (text : List ℕ) : Type 0 where
 -- since a lawful verdict on the plan of a number is that it is accepted
 counted : (contents : Option Contents) (number size : ℕ) (s : Status) (text : List ℕ) → Ends contents (load_work number size) s text
     → Counted number size s text
+unfolding load_plan
 counted contents number size s text h = by h.0 h.1.1 h.2 where
   by : (verdict : Verdict) → IsLawful (load_plan number) verdict
       → Ends contents (accepted_on [] (λ accepted. answered (Done, counts_text (load_counts number size)))
@@ -39,7 +41,7 @@ counted contents number size s text h = by h.0 h.1.1 h.2 where
       record { status = told.0; told = told.1 }
   by (verdicts.Refused same witness) lawful e =
       absurd (safe_or_bad (load_plan number) (6, record { some = omega arith; few = omega arith; safe = safe number }) witness lawful)
-  by (verdicts.TooWide same) lawful e = absurd (narrow number 262144 (omega arith) lawful)
+  by (verdicts.TooWide same) lawful e = absurd (narrow number most_classes (omega arith) lawful)
 
 always : (t s : Status) → LoadCause t → s ≡ Done → s ≡ t
 always Done s cause is = is
