@@ -35,9 +35,11 @@ _sccp_look() {
   [ $# -gt 1 ] && [ "$1" = --json ] && shift
   [ $# -gt 1 ] && [ "$1" = wide ] && wide=1 && shift
   [ $# -gt 1 ] || return
+  kind=''
   while read -r line; do
     read -ra use <<<"$line"
-    [ "${use[0]-}" = "$1" ] || continue
+    # Of a command's lines, the first that has so many words.
+    [ "${use[0]-}" = "$1" ] && [ ${#use[@]} -ge $# ] || continue
     _sccp_may_follow "$line" || break
     for ((place = 1; place < $#; place++)); do
       kind=${use[place]-}
@@ -47,7 +49,6 @@ _sccp_look() {
     done
     return
   done <<<"$_sccp_uses"
-  kind=''
 }
 
 # Whether a command may follow the words before it: after wide, if it reads a plan.
@@ -104,6 +105,8 @@ _sccp() {
     SSN) mapfile -t COMPREPLY < <(compgen -W "0 $(_sccp_values 'ssn|subsystems')" -- "$current") ;;
     FROM | ORIGIN) mapfile -t COMPREPLY < <(compgen -W "$(_sccp_values 'final|concerned')" -- "$current") ;;
     WORKERS) mapfile -t COMPREPLY < <(compgen -W "$(seq 16)" -- "$current") ;;
+    # A word in small letters is the word itself.
+    [a-z]*) mapfile -t COMPREPLY < <(compgen -W "$kind" -- "$current") ;;
   esac
   # For bash a colon ends a word, so all up to the last one is there already.
   if [[ $current == *:* && $COMP_WORDBREAKS == *:* ]]; then
