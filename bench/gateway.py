@@ -28,14 +28,13 @@ sys.dont_write_bytecode = True
 TOP = os.path.dirname(os.path.dirname(os.path.abspath(__file__)))
 sys.path.insert(0, os.path.join(TOP, "tools"))
 import gateway_plan  # noqa: E402
+from check_gateway import REASONS, codes_of, country_of, covers_of  # noqa: E402
 
 Sizes = collections.namedtuple("Sizes", "rows covers relays seed")
 SIZES = [Sizes(4000, 240, 6, 1), Sizes(50_000, 2000, 8, 1), Sizes(400_000, 4000, 8, 1), Sizes(1_048_576, 10_000, 8, 1)]
 FOR_MISTAKES = Sizes(20_000, 1000, 8, 2)
 SMALL = 50_000
 TURNED = 20
-# How the refusal begins for a mistake of each kind.
-REASONS = {"back": "loop ", "place": "forbidden ", "gap": "no row ", "put": "no row ", "own": "no row "}
 CHILD = ("import resource, subprocess, sys, time; out = open('out', 'wb'); start = time.monotonic(); "
          "done = subprocess.run(sys.argv[1:], stdout=out); seconds = time.monotonic() - start; "
          "used = resource.getrusage(resource.RUSAGE_CHILDREN); "
@@ -108,21 +107,6 @@ def measure(folder, sizes):
         used, clock, peak = min(run[1] for run in runs), min(run[2] for run in runs), max(run[3] for run in runs)
         name = " ".join(word for word in words[:2 if words[0] == "wide" else 1])
         print(f"| {plan} | `{name}` | {used:.2f} s | {clock:.2f} s | {peak:.0f} MB | {f'{count:,.0f} million' if count else ''} |", flush=True)
-
-
-def codes_of(mistakes):
-    """The kind and the country of each mistake, as the comments at the top of a plan say them."""
-    return [(kind, country) for kind, country in re.findall(r"^# mistake \d+: (\w+), country (\d+),", mistakes, re.MULTILINE)]
-
-
-def covers_of(text):
-    """The prefix of each cover of a plan."""
-    return [re.search(r'^prefix = "(\d*)"$', cover, re.MULTILINE)[1] for cover in text.split("[[cover]]")[1:]]
-
-
-def country_of(prefix):
-    """The country code that begins a prefix, of which there is one."""
-    return next(code for code in gateway_plan.CODES if prefix.startswith(code))
 
 
 def find_one(folder, number, count):

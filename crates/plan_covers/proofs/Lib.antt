@@ -3,5 +3,8 @@ pub mod Ascending
 pub mod Titles
 pub mod Adding
 pub mod Climbing
+pub mod KeyOrder
+pub mod Groups
+pub mod Fronts
 pub mod Listing
 pub mod Safety

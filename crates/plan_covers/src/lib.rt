@@ -5,6 +5,8 @@
 //! plan without all listed covers is safe for the same bounds.
 #![tactic(auto)]
 
+mod cover_key;
+mod cover_order;
 mod laws;
 mod needless;
 

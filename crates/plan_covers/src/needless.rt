@@ -1,8 +1,12 @@
 //! Covers that add nothing to another cover.
 ghost use Rattle.std.specs.Prelude.{◌≡◌, ◌<◌, ◌≤◌, ◌↔◌, ℕ, IsTrue, IfOk, IfSome, None, Some, length, max, slice_get, Contains};
 ghost use Rattle.std.specs.List.{All};
+ghost use Rattle.plan_covers.specs.Keys.{key_of, IsOrder};
+ghost use Rattle.plan_covers.specs.Firsts.{IsFirstOf, earlier};
 ghost use Rattle.plan_covers.specs.Needless.{fewest, IsWithin, AddsNothing, IsNeedlessBy, IsFirstNeedlessBy, AreNeedless};
 
+use crate::cover_key::CoverKey;
+use crate::cover_order::{PlacedKey, count_below, order_of};
 use plan_model::{Cover, Plan};
 use sccp_base::{List, OutOfMemory, PointCode};
 use std::alloc::Global;
@@ -82,18 +86,57 @@ fn is_needless_by(covers: &[Cover], place: usize, other: usize) -> bool
     !adds_nothing(&covers[other], &covers[place])
 }
 
-/// The first place of a cover to which the one at a place adds nothing.
-fn first_within(covers: &[Cover], place: usize) -> Option<usize>
-    requires { place < length covers.now }
-    ensures found { IfSome result (IsFirstNeedlessBy covers.now place) }
-    ensures none { result ≡ None → (i : ℕ) → IsNeedlessBy covers.now place i → ⊥ }
+/// The first place of a cover with this key to which the one at a place adds nothing. The covers with one key follow each other in
+/// the order, and so do their places.
+fn first_with_key(
+    covers: &[Cover],
+    order: &[PlacedKey],
+    place: usize,
+    key: &CoverKey,
+) -> Option<usize>
+    requires order { IsOrder covers.now order.now }
+    requires place { place < length covers.now }
+    ensures { IsFirstOf (λ other. key_of other ≡ key.now) covers.now place result }
 {
-    for other in 0..covers.len() {
-        if is_needless_by(covers, place, other) {
-            return Some(other);
+    let below = count_below(order, key);
+    for next in below..order.len() {
+        let placed = &order[next];
+        if key.is_below(&placed.key) {
+            return None;
+        }
+        if is_needless_by(covers, place, placed.place) {
+            return Some(placed.place);
         }
     }
     None
+}
+
+/// The earlier of two places.
+fn earlier(a: Option<usize>, b: Option<usize>) -> Option<usize>
+    ensures { result ≡ earlier a b }
+{
+    match (a, b) {
+        (Some(a), Some(b)) => Some(a.min(b)),
+        (Some(a), None) => Some(a),
+        (None, b) => b,
+    }
+}
+
+/// The first place of a cover to which the one at a place adds nothing. Such a cover has the same key but for the prefix, which
+/// begins that of the one at the place. So it is looked up under each of those beginnings.
+fn first_within(covers: &[Cover], order: &[PlacedKey], place: usize) -> Option<usize>
+    requires order { IsOrder covers.now order.now }
+    requires place { place < length covers.now }
+    ensures found { IfSome result (IsFirstNeedlessBy covers.now place) }
+    ensures none { result ≡ None → (i : ℕ) → IsNeedlessBy covers.now place i → ⊥ }
+{
+    let cover = &covers[place];
+    let mut first = None;
+    for count in 0..cover.prefix.len() + 1 {
+        let key = CoverKey::of_front(cover, count);
+        first = earlier(first, first_with_key(covers, order, place, &key));
+    }
+    first
 }
 
 /// The covers of a plan that add nothing to another cover, in the order of the plan, each with the first such other one. Of covers
@@ -108,9 +151,11 @@ fn list_needless(alloc: Global, covers: &[Cover]) -> Result<List<Needless>, OutO
     requires { length covers.now ≤ 65535 }
     ensures { IfOk result (AreNeedless covers.now) }
 {
+    let order = order_of(alloc, covers)?;
+    let order = order.as_slice();
     let mut found = List::new(alloc);
     for place in 0..covers.len() {
-        if let Some(within) = first_within(covers, place) {
+        if let Some(within) = first_within(covers, order, place) {
             found.push(Needless {
                 cover: place as u16,
                 within: within as u16,
