@@ -8,3 +8,4 @@ pub mod Back
 pub mod Cuts
 pub mod Walked
 pub mod Verdicts
+pub mod Holdings

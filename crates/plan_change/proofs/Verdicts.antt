@@ -26,19 +26,22 @@ use Rattle.plan_mixed.specs.declared.which.Which.{Which}
 use Rattle.plan_mixed.specs.declared.which.Which.TheVariants.{Old, New}
 use Rattle.plan_model.specs.SameNodes.{SameNodes, without_rows}
 use Rattle.plan_mixed.specs.Pairs.{place_range, pair, old_of, new_of, shared}
+use Rattle.plan_mixed.specs.declared.holding.Holding.TheVariants.{Old as OnlyOld, New as OnlyNew, Either}
+use Rattle.plan_mixed.specs.Holdings.{chosen, may_hold, MayHold}
 use Rattle.plan_mixed.specs.Mixed.{held}
 use Rattle.plan_mixed.proofs.Meeting.{meets, shared_exact}
 use Rattle.plan_mixed.proofs.Pairing.{old_of_pair, new_of_pair}
+use Rattle.plan_mixed.specs.declared.holding.Holding.{Holding}
 use Rattle.plan_change.specs.declared.turn.Turn.{Turn}
 use Rattle.plan_change.specs.declared.stop.Stop.{Stop}
 use Rattle.plan_change.specs.declared.way.Way.{Way}
-use Rattle.plan_change.specs.Mixture.{made, mixed, BothAllow, BothSafe, BothTight}
+use Rattle.plan_change.specs.Mixture.{made, made_under, mixed_under, BothAllow, SafeUnder, TightUnder}
 use Rattle.plan_change.specs.Changes.{NoneCovered}
 use Rattle.plan_change.specs.Ways.{PairAllows, IsBadStep, IsBadHere, IsOneTurn, IsBehind, IsBadWay}
 use Rattle.plan_change.specs.Stops.{IsAmong, GoesWell, LeadsInto, IsFromStart}
 use Rattle.plan_change.specs.Walks.{stops_at, AreLayers, HasStop, HasFirst, IsOfPair, EndsWalk}
 use Rattle.plan_change.proofs.Growing.{inside_has}
-use Rattle.plan_change.proofs.Back.{of_all}
+use Rattle.plan_change.proofs.Back.{of_all, as_held}
 
 pub same_length : (old new : Network) → SameNodes old new → length old.nodes ≡ length new.nodes
 same_length old new same = sym (length-map old.nodes without_rows) ∙ ap length same ∙ length-map new.nodes without_rows
@@ -58,56 +61,69 @@ beyond layers bound hop through le =
     (λ (ge : hop ≤ bound). ap (stops_at layers) (let e : hop ≡ bound = omega (arith, le, ge) in e) ∙ through.1)
     (cases_lt bound hop)
 
+-- a relay may hold what it holds
+pub settled : (holding : Holding) (which : Which) → chosen holding (chosen holding which) ≡ chosen holding which
+settled OnlyOld which = refl
+settled OnlyNew which = refl
+settled Either which = refl
+
 -- what the titles of a stop do in a turn
-in_turn : (old new : Network) (c : Titles) (stops : List Stop) (spot : Spot) (turn : Turn) → LeadsInto old new c stops → HasTitle c spot
-    → GoesWell old new c.cover stops (made old new turn spot)
-in_turn old new c stops spot turn into has = by turn.which
+in_turn : (may : List Holding) (old new : Network) (c : Titles) (stops : List Stop) (spot : Spot) (turn : Turn)
+    → LeadsInto may old new c stops → HasTitle c spot
+    → GoesWell old new c.cover stops (made_under may old new turn spot)
+in_turn may old new c stops spot turn into has =
+    by (chosen (may_hold may spot.node) turn.which) (settled (may_hold may spot.node) turn.which)
   where
-    by : (which : Which) → GoesWell old new c.cover stops (step (held old new which) spot turn.marking)
-    by Old = into.0 spot turn.marking has
-    by New = into.1 spot turn.marking has
+    at : spot.node ≡ c.node
+    at = ap (λ (s : Spot). s.node) has.2
+
+    by : (which : Which) → MayHold may spot.node which → GoesWell old new c.cover stops (step (held old new which) spot turn.marking)
+    by Old lets = into.0 (subst (λ (n : ℕ). MayHold may n Old) at lets) spot turn.marking has
+    by New lets = into.1 (subst (λ (n : ℕ). MayHold may n New) at lets) spot turn.marking has
 
 -- the mixed route of a spot of a hop ends well within the hops that are left
-ends_well : (old new : Network) (layers : List (List Stop)) (bound number : ℕ) → AreLayers old new layers → IsThrough layers bound
+ends_well : (may : List Holding) (old new : Network) (layers : List (List Stop)) (bound number : ℕ) → AreLayers may old new layers
+    → IsThrough layers bound
     → (turns : List Turn) (hop : ℕ) (spot : Spot) → IsAmong (stops_at layers hop) number spot → bound ≤ hop + length turns
-    → IsSomeAnd (last (mixed old new spot turns)) (MayEnd (PairAllows old new number))
-ends_well old new layers bound number are through [] hop spot among le =
+    → IsSomeAnd (last (mixed_under may old new spot turns)) (MayEnd (PairAllows old new number))
+ends_well may old new layers bound number are through [] hop spot among le =
     absurd (among_none (stops_at layers hop) number spot (beyond layers bound hop through (omega (arith, le))) among)
-ends_well old new layers bound number are through (turn ∷ turns) hop spot among le =
+ends_well may old new layers bound number are through (turn ∷ turns) hop spot among le =
     ⊎_elim
     (λ (lt : hop < bound).
     let stop : Stop = among.1 in
-    let into : LeadsInto old new stop.class (stops_at layers (hop + 1)) =
-    subst (λ (s : Stop). LeadsInto old new s.class (stops_at layers (hop + 1))) among.3
+    let into : LeadsInto may old new stop.class (stops_at layers (hop + 1)) =
+    subst (λ (s : Stop). LeadsInto may old new s.class (stops_at layers (hop + 1))) among.3
     (are.onward hop (omega (arith, lt, through.0)) among.0 stop among.2) in
-    let well : GoesWell old new number (stops_at layers (hop + 1)) (made old new turn spot) =
-    subst (λ (n : ℕ). GoesWell old new n (stops_at layers (hop + 1)) (made old new turn spot)) among.4.0
-    (in_turn old new stop.class (stops_at layers (hop + 1)) spot turn into among.4.1) in
-    by_step (λ next among. ends_well old new layers bound number are through turns (hop + 1) next among (omega (arith, le)))
-    (made old new turn spot) refl well)
+    let well : GoesWell old new number (stops_at layers (hop + 1)) (made_under may old new turn spot) =
+    subst (λ (n : ℕ). GoesWell old new n (stops_at layers (hop + 1)) (made_under may old new turn spot)) among.4.0
+    (in_turn may old new stop.class (stops_at layers (hop + 1)) spot turn into among.4.1) in
+    by_step (λ next among. ends_well may old new layers bound number are through turns (hop + 1) next among (omega (arith, le)))
+    (made_under may old new turn spot) refl well)
     (λ (ge : bound ≤ hop). absurd (among_none (stops_at layers hop) number spot (beyond layers bound hop through ge) among))
     (cases_lt hop bound)
   where
     hop_here : Hop
-    hop_here = record { spot = spot; step = made old new turn spot }
+    hop_here = record { spot = spot; step = made_under may old new turn spot }
 
-    stopped : (x : Step) → made old new turn spot ≡ x → next_of x ≡ None → MayEnd (PairAllows old new number) x
-        → IsSomeAnd (last (mixed old new spot (turn ∷ turns))) (MayEnd (PairAllows old new number))
+    stopped : (x : Step) → made_under may old new turn spot ≡ x → next_of x ≡ None → MayEnd (PairAllows old new number) x
+        → IsSomeAnd (last (mixed_under may old new spot (turn ∷ turns))) (MayEnd (PairAllows old new number))
     stopped x e ends good =
-        subst (λ (o : Option Spot). IsSomeAnd (last (hop_here ∷ onward o (λ next. mixed old new next turns)))
+        subst (λ (o : Option Spot). IsSomeAnd (last (hop_here ∷ onward o (λ next. mixed_under may old new next turns)))
         (MayEnd (PairAllows old new number)))
         (sym (ap next_of e ∙ ends))
         (subst (MayEnd (PairAllows old new number)) (sym e) good)
 
     by_step : ((next : Spot) → IsAmong (stops_at layers (hop + 1)) number next
-        → IsSomeAnd (last (mixed old new next turns)) (MayEnd (PairAllows old new number))) → (x : Step) → made old new turn spot ≡ x
+        → IsSomeAnd (last (mixed_under may old new next turns)) (MayEnd (PairAllows old new number))) → (x : Step)
+        → made_under may old new turn spot ≡ x
         → GoesWell old new number (stops_at layers (hop + 1)) x
-        → IsSomeAnd (last (mixed old new spot (turn ∷ turns))) (MayEnd (PairAllows old new number))
+        → IsSomeAnd (last (mixed_under may old new spot (turn ∷ turns))) (MayEnd (PairAllows old new number))
     by_step rest (Sent next target) e well =
-        subst (λ (o : Option Spot). IsSomeAnd (last (hop_here ∷ onward o (λ next. mixed old new next turns)))
+        subst (λ (o : Option Spot). IsSomeAnd (last (hop_here ∷ onward o (λ next. mixed_under may old new next turns)))
         (MayEnd (PairAllows old new number)))
         (sym (ap next_of e))
-        (last-onward hop_here (mixed old new next turns) (MayEnd (PairAllows old new number)) (rest next well))
+        (last-onward hop_here (mixed_under may old new next turns) (MayEnd (PairAllows old new number)) (rest next well))
     by_step rest (Ended pc ssn target) e well = stopped (Ended pc ssn target) e refl well
     by_step rest (Blocked cause marks) e well = stopped (Blocked cause marks) e refl tt
     by_step rest (NoRow cause) e well = absurd well
@@ -124,9 +140,9 @@ covering : (plan : Network) (spot : Spot) → Covered plan spot → HasCover pla
 covering plan spot h = record { number = h.0; cover = h.1; at = slice_get-get_or plan.covers h.0 h.1 h.2 ∙ ap Some h.3; has = h.4 }
 
 -- a spot that both plans cover is among those of the first hop
-started : (old new : Network) (layers : List (List Stop)) (spot : Spot) → AreLayers old new layers
+started : (may : List Holding) (old new : Network) (layers : List (List Stop)) (spot : Spot) → AreLayers may old new layers
     → (a : HasCover old spot) (b : HasCover new spot) → IsPlan old → IsPlan new → IsAmong (stops_at layers 0) (pair a.number b.number) spot
-started old new layers spot are a b is also =
+started may old new layers spot are a b is also =
     are.started a.number b.number a.cover b.cover a.at b.at (meets a.cover b.cover spot a.has b.has) spot
     ((shared_exact old.nodes new.nodes (pair a.number b.number) a.cover b.cover (shared (pair a.number b.number) a.cover b.cover)
     (cover_at old a.number a.cover is a.at) (cover_at new b.number b.cover also b.at)
@@ -159,28 +175,30 @@ suits_all old new spot (Ended pc ssn target) also a b each = (
     few d = omega (arith, slice_get_within new.covers d.number d.cover d.at, also.cover_places)
 
 -- a walk that ended without a bad title shows that the mixture is safe for its hops
-pub through_safe : (old new : Network) (layers : List (List Stop)) (bound : ℕ) → IsPlan old → IsPlan new → AreLayers old new layers
-    → IsThrough layers bound → BothSafe old new bound
-through_safe old new layers bound is also are through spot turns old_covered new_covered size =
+pub through_safe : (may : List Holding) (old new : Network) (layers : List (List Stop)) (bound : ℕ) → IsPlan old → IsPlan new
+    → AreLayers may old new layers
+    → IsThrough layers bound → SafeUnder may old new bound
+through_safe may old new layers bound is also are through spot turns old_covered new_covered size =
     let a = covering old spot old_covered in
     let b = covering new spot new_covered in
-    let one = some_of (last (mixed old new spot turns)) (MayEnd (PairAllows old new (pair a.number b.number))) (each a b) in
+    let one = some_of (last (mixed_under may old new spot turns)) (MayEnd (PairAllows old new (pair a.number b.number))) (each a b) in
     subst (λ (o : Option Step). IsSomeAnd o (MayEnd (BothAllow old new spot))) (sym one.1)
     (suits_all old new spot one.0 also a b (λ c d. subst
     (λ (o : Option Step). IsSomeAnd o (MayEnd (PairAllows old new (pair c.number d.number)))) one.1 (each c d)))
   where
     each : (a : HasCover old spot) (b : HasCover new spot)
-        → IsSomeAnd (last (mixed old new spot turns)) (MayEnd (PairAllows old new (pair a.number b.number)))
-    each a b = ends_well old new layers bound (pair a.number b.number) are through turns 0 spot
-        (started old new layers spot are a b is also) (omega (arith, size))
+        → IsSomeAnd (last (mixed_under may old new spot turns)) (MayEnd (PairAllows old new (pair a.number b.number)))
+    each a b = ends_well may old new layers bound (pair a.number b.number) are through turns 0 spot
+        (started may old new layers spot are a b is also) (omega (arith, size))
 
 -- without a stop at the first hop no spot is covered by both
-pub none_covered : (old new : Network) (layers : List (List Stop)) → IsPlan old → IsPlan new → AreLayers old new layers → IsThrough layers 0
+pub none_covered : (may : List Holding) (old new : Network) (layers : List (List Stop)) → IsPlan old → IsPlan new
+    → AreLayers may old new layers → IsThrough layers 0
     → NoneCovered old new
-none_covered old new layers is also are through spot old_covered new_covered =
+none_covered may old new layers is also are through spot old_covered new_covered =
     let a = covering old spot old_covered in
     let b = covering new spot new_covered in
-    among_none (stops_at layers 0) (pair a.number b.number) spot through.1 (started old new layers spot are a b is also)
+    among_none (stops_at layers 0) (pair a.number b.number) spot through.1 (started may old new layers spot are a b is also)
 
 -- the covers of a spot of the first hop
 pub record HasBoth (old new : Network) (number : ℕ) (spot : Spot) : Type 0 where
@@ -190,9 +208,10 @@ pub record HasBoth (old new : Network) (number : ℕ) (spot : Spot) : Type 0 whe
   pub new_covered : Covered new spot
   pub node : spot.node < length old.nodes
 
-pub first_covered : (old new : Network) (layers : List (List Stop)) (number : ℕ) (spot : Spot) → IsPlan old → IsPlan new
-    → AreLayers old new layers → HasFirst layers number spot → HasBoth old new number spot
-first_covered old new layers number spot is also are h =
+pub first_covered : (may : List Holding) (old new : Network) (layers : List (List Stop)) (number : ℕ) (spot : Spot) → IsPlan old
+    → IsPlan new
+    → AreLayers may old new layers → HasFirst layers number spot → HasBoth old new number spot
+first_covered may old new layers number spot is also are h =
     record {
       old_has = subst (λ (n : ℕ). HasSpot old n spot) (sym (old_of_pair start.i start.j few) ∙ ap old_of number_is)
           (subst (λ (o : Option Cover). IsSomeAnd o (λ c. Covers c spot)) (sym start.old_at) both.0);
@@ -233,12 +252,12 @@ first_covered old new layers number spot is also are h =
         (inside_has (shared (pair start.i start.j) start.a start.b) stop.0.class spot start.inside stop.2.1)
 
 -- one turn makes one hop
-one_hop : (old new : Network) (spot : Spot) (turn : Turn)
-    → mixed old new spot (turn ∷ []) ≡ record { spot = spot; step = made old new turn spot } ∷ []
-one_hop old new spot turn = by (next_of (made old new turn spot))
+one_hop : (may : List Holding) (old new : Network) (spot : Spot) (turn : Turn)
+    → mixed_under may old new spot (turn ∷ []) ≡ record { spot = spot; step = made_under may old new turn spot } ∷ []
+one_hop may old new spot turn = by (next_of (made_under may old new turn spot))
   where
-    by : (o : Option Spot) → (let h : Hop = record { spot = spot; step = made old new turn spot } in h
-        ∷ onward o (λ next. mixed old new next [])) ≡ record { spot = spot; step = made old new turn spot } ∷ []
+    by : (o : Option Spot) → (let h : Hop = record { spot = spot; step = made_under may old new turn spot } in h
+        ∷ onward o (λ next. mixed_under may old new next [])) ≡ record { spot = spot; step = made_under may old new turn spot } ∷ []
     by None = refl
     by (Some s) = refl
 
@@ -248,41 +267,46 @@ last-append (x ∷ []) h = refl
 last-append (x ∷ y ∷ ys) h = last-append (y ∷ ys) h
 
 -- the whole route of a way that follows this number of hops and has one turn of its own
-behind_one : (old new : Network) (hops : ℕ) (way before : Way) (turn : Turn) → way.turns ≡ turn ∷ []
-    → (b : IsBehind old new hops way before) → mixed old new before.spot before.turns ≡ b.front
-    ++ record { spot = way.spot; step = made old new turn way.spot } ∷ []
-behind_one old new hops way before turn one b = b.route ∙ ap (λ (hs : List Hop). b.front ++ hs) (ap (mixed old new way.spot) one
-    ∙ one_hop old new way.spot turn)
+behind_one : (may : List Holding) (old new : Network) (hops : ℕ) (way before : Way) (turn : Turn) → way.turns ≡ turn ∷ []
+    → (b : IsBehind may old new hops way before) → mixed_under may old new before.spot before.turns ≡ b.front
+    ++ record { spot = way.spot; step = made_under may old new turn way.spot } ∷ []
+behind_one may old new hops way before turn one b = b.route
+    ∙ ap (λ (hs : List Hop). b.front ++ hs) (ap (mixed_under may old new way.spot) one
+    ∙ one_hop may old new way.spot turn)
 
-pub tight_from : (old new : Network) (layers : List (List Stop)) (bound number : ℕ) (c : Titles) (way before : Way) → IsPlan old
-    → IsPlan new → AreLayers old new layers → 1 ≤ bound → IsOneTurn c way → IsBehind old new (bound - 1) way before
-    → HasFirst layers number before.spot → BothTight old new bound before.spot before.turns
-tight_from old new layers bound number c way before is also are some one behind first =
-    let both = first_covered old new layers number before.spot is also are first in
+pub tight_from : (may : List Holding) (old new : Network) (layers : List (List Stop)) (bound number : ℕ) (c : Titles) (way before : Way)
+    → IsPlan old
+    → IsPlan new → AreLayers may old new layers → 1 ≤ bound → IsOneTurn c way → IsBehind may old new (bound - 1) way before
+    → HasFirst layers number before.spot → TightUnder may old new bound before.spot before.turns
+tight_from may old new layers bound number c way before is also are some one behind first =
+    let both = first_covered may old new layers number before.spot is also are first in
     record {
       some = some;
       old_covered = both.old_covered;
       new_covered = both.new_covered;
       count = omega (arith, behind.more, ap length one.one, some);
-      hops = ap length (behind_one old new (bound - 1) way before one.turn one.one behind) ∙ length-append behind.front _
+      hops = ap length (behind_one may old new (bound - 1) way before one.turn one.one behind) ∙ length-append behind.front _
           ∙ omega (arith, behind.count, some);
     }
 
 -- a bad way, carried back
-pub bad_from : (old new : Network) (layers : List (List Stop)) (hop number : ℕ) (c : Titles) (way before : Way) → hop < 15
-    → c.cover ≡ number → IsBehind old new hop way before → IsBadHere old new c way ⊎ ((hop ≡ 14) × IsOneTurn c way)
-    → IsBadWay old new number before.spot before.turns
-bad_from old new layers hop number c way before lt cover behind (inl bad) =
-    let whole = behind_one old new hop way before bad.turn bad.one behind in
+pub bad_from : (may : List Holding) (old new : Network) (layers : List (List Stop)) (hop number : ℕ) (c : Titles) (way before : Way)
+    → hop < 15
+    → c.cover ≡ number → IsBehind may old new hop way before → IsBadHere may old new c way ⊎ ((hop ≡ 14) × IsOneTurn c way)
+    → IsBadWay may old new number before.spot before.turns
+bad_from may old new layers hop number c way before lt cover behind (inl bad) =
+    let whole = behind_one may old new hop way before bad.turn bad.one behind in
     record {
       each = ap length whole ∙ length-append behind.front _ ∙ omega (arith, behind.count, behind.more, ap length bad.one);
       some = omega (arith, behind.more, ap length bad.one);
       few = omega (arith, behind.more, ap length bad.one, lt);
       ends = inl (subst (λ (o : Option Step). IsSomeAnd o (IsBadStep old new number)) (sym (ap last whole ∙ last-append behind.front _))
-          (subst (λ (n : ℕ). IsBadStep old new n (made old new bad.turn way.spot)) cover bad.bad));
+          (subst (IsBadStep old new number)
+          (sym (as_held may old new c.node bad.turn way.spot (ap (λ (s : Spot). s.node) bad.has.2) bad.lets))
+          (subst (λ (n : ℕ). IsBadStep old new n (made old new bad.turn way.spot)) cover bad.bad)));
     }
-bad_from old new layers hop number c way before lt cover behind (inr long) =
-    let whole = behind_one old new hop way before long.1.turn long.1.one behind in
+bad_from may old new layers hop number c way before lt cover behind (inr long) =
+    let whole = behind_one may old new hop way before long.1.turn long.1.one behind in
     record {
       each = ap length whole ∙ length-append behind.front _ ∙ omega (arith, behind.count, behind.more, ap length long.1.one);
       some = omega (arith, behind.more, ap length long.1.one);
@@ -291,24 +315,24 @@ bad_from old new layers hop number c way before lt cover behind (inr long) =
     }
 
 -- the stop of a walk that shows a bad title
-pub record ShowsBad (old new : Network) (layers : List (List Stop)) (hop place : ℕ) (way : Way) : Type 0 where
+pub record ShowsBad (may : List Holding) (old new : Network) (layers : List (List Stop)) (hop place : ℕ) (way : Way) : Type 0 where
   pub stop : Stop
   pub at : slice_get (stops_at layers hop) place ≡ Some stop
-  pub bad : IsBadHere old new stop.class way ⊎ ((hop ≡ 14) × IsOneTurn stop.class way)
+  pub bad : IsBadHere may old new stop.class way ⊎ ((hop ≡ 14) × IsOneTurn stop.class way)
   pub has : HasTitle stop.class way.spot
 
-pub shows_bad : (old new : Network) (layers : List (List Stop)) (hop place : ℕ) (way : Way) → length layers ≡ hop + 1
-    → EndsWalk old new layers place way → ShowsBad old new layers hop place way
-shows_bad old new layers hop place way size ends = by ends.2
+pub shows_bad : (may : List Holding) (old new : Network) (layers : List (List Stop)) (hop place : ℕ) (way : Way) → length layers ≡ hop + 1
+    → EndsWalk may old new layers place way → ShowsBad may old new layers hop place way
+shows_bad may old new layers hop place way size ends = by ends.2
   where
     same : ends.0 ≡ hop
     same = omega (arith, size, ends.1)
 
-    by : IsSomeAnd (slice_get (stops_at layers ends.0) place) (λ stop. IsBadHere old new stop.class way)
+    by : IsSomeAnd (slice_get (stops_at layers ends.0) place) (λ stop. IsBadHere may old new stop.class way)
         ⊎ ((ends.0 ≡ 14) × IsSomeAnd (slice_get (stops_at layers ends.0) place) (λ stop. IsOneTurn stop.class way))
-        → ShowsBad old new layers hop place way
+        → ShowsBad may old new layers hop place way
     by (inl h) =
-        let s = some_of (slice_get (stops_at layers ends.0) place) (λ stop. IsBadHere old new stop.class way) h in
+        let s = some_of (slice_get (stops_at layers ends.0) place) (λ stop. IsBadHere may old new stop.class way) h in
         record { stop = s.0; at = ap (λ (n : ℕ). slice_get (stops_at layers n) place) (sym same) ∙ s.1; bad = inl s.2; has = s.2.has }
     by (inr h) =
         let s = some_of (slice_get (stops_at layers ends.0) place) (λ stop. IsOneTurn stop.class way) h.1 in

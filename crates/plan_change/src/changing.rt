@@ -3,7 +3,7 @@ ghost use Rattle.std.specs.Prelude.{◌≡◌, ◌↔◌, ◌+◌, ℕ, [], leng
 ghost use Rattle.plan_model.specs.Network.{IsPlan};
 ghost use Rattle.plan_model.specs.SameNodes.{SameNodes};
 ghost use Rattle.plan_change.specs.declared.change_fault.ChangeFault.TheVariants as faults;
-ghost use Rattle.plan_change.specs.Changes.{IsLawfulChange};
+ghost use Rattle.plan_change.specs.Changes.{IsLawfulChange, IsLawfulUnder};
 ghost use Rattle.plan_change.specs.Walks.{AreLayers, EndsWalk, stops_at};
 
 use crate::answer::Change;
@@ -16,7 +16,8 @@ use crate::walking::{Walk, least_way, walk_on};
 use crate::way::Way;
 use crate::witness::broken;
 use plan_check::Accepted;
-use plan_model::have_same_nodes;
+use plan_mixed::Holding;
+use plan_model::{Plan, have_same_nodes};
 use sccp_base::{List, OutOfMemory};
 use std::alloc::Global;
 
@@ -30,22 +31,45 @@ pub fn change(alloc: Global, old: &Accepted, new: &Accepted) -> Result<Change, C
     ensures same { IfOk result (λ _. SameNodes old.now.plan new.now.plan) }
     ensures other { (result ≡ Err faults.OtherNodes) ↔ (SameNodes old.now.plan new.now.plan → ⊥) }
 {
-    let plans = Plans {
-        old: old.plan(),
-        new: new.plan(),
-    };
-    if !have_same_nodes(plans.old, plans.new) {
+    let old = old.plan();
+    let new = new.plan();
+    if !have_same_nodes(old, new) {
         return Err(ChangeFault::OtherNodes);
     }
-    Ok(mixture(alloc, &plans)?)
+    Ok(mixture(alloc, old, new, &[])?)
 }
 
-/// The answer on two plans of the same nodes.
-fn mixture(alloc: Global, plans: &Plans<'_>) -> Result<Change, OutOfMemory>
+/// The answer on two plans of the same nodes while each relay holds one of the plans that it may hold: either, if nothing is said
+/// of it. `TooWide` is given only if the two plans reach at least as many classes as the limit of the old plan says.
+pub fn mixture(
+    alloc: Global,
+    old: &Plan,
+    new: &Plan,
+    may: &[Holding],
+) -> Result<Change, OutOfMemory>
+    requires same { SameNodes old.now new.now }
+    ensures { IfOk result (IsLawfulUnder may.now old.now new.now) }
+{
+    let old = sound(old);
+    let new = sound(new);
+    by_walk(alloc, &Plans { old, new, may })
+}
+
+/// The plan itself, which is one by its nodes.
+fn sound(plan: &Plan) -> &Plan
+    ensures value { result.now ≡ plan.now }
+    ensures sound { IsPlan plan.now }
+{
+    plan.nodes();
+    plan
+}
+
+/// The answer on two plans of as many nodes.
+fn by_walk(alloc: Global, plans: &Plans<'_>) -> Result<Change, OutOfMemory>
     requires same { length plans.now.old.now.nodes ≡ length plans.now.new.now.nodes }
     requires old { IsPlan plans.now.old.now }
     requires new { IsPlan plans.now.new.now }
-    ensures { IfOk result (IsLawfulChange plans.now.old.now plans.now.new.now) }
+    ensures { IfOk result (IsLawfulUnder plans.now.may.now plans.now.old.now plans.now.new.now) }
 {
     match walk_on(alloc, plans) {
         Ok(Walk::Through(layers)) => kept(alloc, plans, layers.as_slice()),
@@ -62,9 +86,9 @@ fn kept(alloc: Global, plans: &Plans<'_>, layers: &[List<Stop>]) -> Result<Chang
     requires same { length plans.now.old.now.nodes ≡ length plans.now.new.now.nodes }
     requires old { IsPlan plans.now.old.now }
     requires new { IsPlan plans.now.new.now }
-    requires layers { AreLayers plans.now.old.now plans.now.new.now layers.now }
+    requires layers { AreLayers plans.now.may.now plans.now.old.now plans.now.new.now layers.now }
     requires last { (hop : ℕ) → length layers.now ≡ hop + 1 → stops_at layers.now hop ≡ [] }
-    ensures { IfOk result (IsLawfulChange plans.now.old.now plans.now.new.now) }
+    ensures { IfOk result (IsLawfulUnder plans.now.may.now plans.now.old.now plans.now.new.now) }
 {
     let bound = layers.len() - 1;
     if bound == 0 {
@@ -94,9 +118,9 @@ fn break_by(
     requires same { length plans.now.old.now.nodes ≡ length plans.now.new.now.nodes }
     requires old { IsPlan plans.now.old.now }
     requires new { IsPlan plans.now.new.now }
-    requires layers { AreLayers plans.now.old.now plans.now.new.now layers.now }
-    requires ends { EndsWalk plans.now.old.now plans.now.new.now layers.now place way }
-    ensures { IfOk result (IsLawfulChange plans.now.old.now plans.now.new.now) }
+    requires layers { AreLayers plans.now.may.now plans.now.old.now plans.now.new.now layers.now }
+    requires ends { EndsWalk plans.now.may.now plans.now.old.now plans.now.new.now layers.now place way }
+    ensures { IfOk result (IsLawfulUnder plans.now.may.now plans.now.old.now plans.now.new.now) }
 {
     let hop = layers.len() - 1;
     let number = stop_at(layers, hop, place).class.cover();

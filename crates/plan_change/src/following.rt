@@ -6,6 +6,7 @@ ghost use Rattle.plan_classes.specs.Titles.{IsClass, IsMember, IsLongest};
 ghost use Rattle.plan_classes.specs.Classes.{class_row, Reaches};
 ghost use Rattle.plan_classes.specs.Leading.{ImageIsExact, brought};
 ghost use Rattle.plan_mixed.specs.Pairs.{old_of, new_of};
+ghost use Rattle.plan_mixed.specs.Holdings.{MayHold};
 ghost use Rattle.plan_mixed.specs.Mixed.{held, MixedReachAtLeast};
 ghost use Rattle.plan_change.specs.declared.halt.Halt.TheVariants as halts;
 ghost use Rattle.plan_change.specs.Stops.{Grows, IsMet, IsPair, MayGoOn, TargetGoesWell, LeadsUnder, LeadsInto, ComesFrom};
@@ -36,19 +37,21 @@ pub(crate) fn follow(
     requires may { MayGoOn plans.now.old.now plans.now.new.now class.now }
     requires met { IsMet plans.now.old.now plans.now.new.now hop.old.met hop.old.stops }
     ensures met { OnOk result (IsMet plans.now.old.now plans.now.new.now hop.new.met hop.new.stops) }
-    ensures grows { OnOk result (Grows hop.old.stops hop.new.stops (ComesFrom plans.now.old.now plans.now.new.now class.now place)) }
-    ensures well { IfOk result (λ way. way ≡ None → LeadsInto plans.now.old.now plans.now.new.now class.now hop.new.stops) }
-    ensures bad { IfOk result (λ way. IfSome way (IsBadHere plans.now.old.now plans.now.new.now class.now)) }
+    ensures grows { OnOk result (Grows hop.old.stops hop.new.stops
+        (ComesFrom plans.now.may.now plans.now.old.now plans.now.new.now class.now place)) }
+    ensures well { IfOk result (λ way. way ≡ None
+        → LeadsInto plans.now.may.now plans.now.old.now plans.now.new.now class.now hop.new.stops) }
+    ensures bad { IfOk result (λ way. IfSome way (IsBadHere plans.now.may.now plans.now.old.now plans.now.new.now class.now)) }
     ensures wide { result ≡ Err halts.Wide → MixedReachAtLeast plans.now.old.now plans.now.new.now plans.now.old.now.limits.classes }
 {
-    match follow_plan(alloc, plans, Which::Old, class, place, hop)? {
+    match follow_if_held(alloc, plans, Which::Old, class, place, hop)? {
         Some(way) => Ok(Some(way)),
-        None => follow_plan(alloc, plans, Which::New, class, place, hop),
+        None => follow_if_held(alloc, plans, Which::New, class, place, hop),
     }
 }
 
-/// As `follow`, under one plan.
-fn follow_plan(
+/// As `follow`, under one plan, if the relay may hold it.
+fn follow_if_held(
     alloc: Global,
     plans: &Plans<'_>,
     which: Which,
@@ -59,10 +62,37 @@ fn follow_plan(
     requires may { MayGoOn plans.now.old.now plans.now.new.now class.now }
     requires met { IsMet plans.now.old.now plans.now.new.now hop.old.met hop.old.stops }
     ensures met { OnOk result (IsMet plans.now.old.now plans.now.new.now hop.new.met hop.new.stops) }
-    ensures grows { OnOk result (Grows hop.old.stops hop.new.stops (ComesFrom plans.now.old.now plans.now.new.now class.now place)) }
+    ensures grows { OnOk result (Grows hop.old.stops hop.new.stops
+        (ComesFrom plans.now.may.now plans.now.old.now plans.now.new.now class.now place)) }
+    ensures well { IfOk result (λ way. way ≡ None → MayHold plans.now.may.now class.now.node which → LeadsUnder plans.now.old.now
+        plans.now.new.now (held plans.now.old.now plans.now.new.now which) class.now hop.new.stops) }
+    ensures bad { IfOk result (λ way. IfSome way (IsBadHere plans.now.may.now plans.now.old.now plans.now.new.now class.now)) }
+    ensures wide { result ≡ Err halts.Wide → MixedReachAtLeast plans.now.old.now plans.now.new.now plans.now.old.now.limits.classes }
+{
+    if !plans.lets(class.node(), which) {
+        return Ok(None);
+    }
+    follow_plan(alloc, plans, which, class, place, hop)
+}
+
+/// As `follow`, under a plan that the relay may hold.
+fn follow_plan(
+    alloc: Global,
+    plans: &Plans<'_>,
+    which: Which,
+    class: &Class,
+    place: usize,
+    hop: &mut OpenHop,
+) -> Result<Option<Way>, Halt>
+    requires lets { MayHold plans.now.may.now class.now.node which }
+    requires may { MayGoOn plans.now.old.now plans.now.new.now class.now }
+    requires met { IsMet plans.now.old.now plans.now.new.now hop.old.met hop.old.stops }
+    ensures met { OnOk result (IsMet plans.now.old.now plans.now.new.now hop.new.met hop.new.stops) }
+    ensures grows { OnOk result (Grows hop.old.stops hop.new.stops
+        (ComesFrom plans.now.may.now plans.now.old.now plans.now.new.now class.now place)) }
     ensures well { IfOk result (λ way. way ≡ None → LeadsUnder plans.now.old.now plans.now.new.now
         (held plans.now.old.now plans.now.new.now which) class.now hop.new.stops) }
-    ensures bad { IfOk result (λ way. IfSome way (IsBadHere plans.now.old.now plans.now.new.now class.now)) }
+    ensures bad { IfOk result (λ way. IfSome way (IsBadHere plans.now.may.now plans.now.old.now plans.now.new.now class.now)) }
     ensures wide { result ≡ Err halts.Wide → MixedReachAtLeast plans.now.old.now plans.now.new.now plans.now.old.now.limits.classes }
 {
     match class_row(plans.held(which), class) {
@@ -83,14 +113,16 @@ fn follow_row(
 ) -> Result<Option<Way>, Halt>
     requires sound { IsPlan (held plans.now.old.now plans.now.new.now which) }
     requires class { IsClass class.now }
+    requires lets { MayHold plans.now.may.now class.now.node which }
     requires may { MayGoOn plans.now.old.now plans.now.new.now class.now }
     requires row { class_row (held plans.now.old.now plans.now.new.now which) class.now ≡ Some row.now }
     requires met { IsMet plans.now.old.now plans.now.new.now hop.old.met hop.old.stops }
     ensures met { OnOk result (IsMet plans.now.old.now plans.now.new.now hop.new.met hop.new.stops) }
-    ensures grows { OnOk result (Grows hop.old.stops hop.new.stops (ComesFrom plans.now.old.now plans.now.new.now class.now place)) }
+    ensures grows { OnOk result (Grows hop.old.stops hop.new.stops
+        (ComesFrom plans.now.may.now plans.now.old.now plans.now.new.now class.now place)) }
     ensures well { IfOk result (λ way. way ≡ None → LeadsUnder plans.now.old.now plans.now.new.now
         (held plans.now.old.now plans.now.new.now which) class.now hop.new.stops) }
-    ensures bad { IfOk result (λ way. IfSome way (IsBadHere plans.now.old.now plans.now.new.now class.now)) }
+    ensures bad { IfOk result (λ way. IfSome way (IsBadHere plans.now.may.now plans.now.old.now plans.now.new.now class.now)) }
     ensures wide { result ≡ Err halts.Wide → MixedReachAtLeast plans.now.old.now plans.now.new.now plans.now.old.now.limits.classes }
 {
     for target in 0..row.target_count() {
@@ -116,15 +148,17 @@ fn follow_target(
     origin: Origin,
     hop: &mut OpenHop,
 ) -> Result<Option<Way>, Halt>
+    requires lets { MayHold plans.now.may.now class.now.node origin.which }
     requires may { MayGoOn plans.now.old.now plans.now.new.now class.now }
     requires row { class_row (held plans.now.old.now plans.now.new.now origin.which) class.now ≡ Some row.now }
     requires target { origin.target < length row.now.targets }
     requires met { IsMet plans.now.old.now plans.now.new.now hop.old.met hop.old.stops }
     ensures met { OnOk result (IsMet plans.now.old.now plans.now.new.now hop.new.met hop.new.stops) }
-    ensures grows { OnOk result (Grows hop.old.stops hop.new.stops (ComesFrom plans.now.old.now plans.now.new.now class.now origin.place)) }
+    ensures grows { OnOk result (Grows hop.old.stops hop.new.stops
+        (ComesFrom plans.now.may.now plans.now.old.now plans.now.new.now class.now origin.place)) }
     ensures well { IfOk result (λ way. way ≡ None → TargetGoesWell plans.now.old.now plans.now.new.now
         (held plans.now.old.now plans.now.new.now origin.which) class.now origin.target hop.new.stops) }
-    ensures bad { IfOk result (λ way. IfSome way (IsBadHere plans.now.old.now plans.now.new.now class.now)) }
+    ensures bad { IfOk result (λ way. IfSome way (IsBadHere plans.now.may.now plans.now.old.now plans.now.new.now class.now)) }
     ensures wide { result ≡ Err halts.Wide → MixedReachAtLeast plans.now.old.now plans.now.new.now plans.now.old.now.limits.classes }
 {
     let plan = plans.held(origin.which);
@@ -151,11 +185,12 @@ fn ended(
     pc: PointCode,
     ssn: u8,
 ) -> Result<Option<Way>, OutOfMemory>
+    requires lets { MayHold plans.now.may.now class.now.node origin.which }
     requires may { MayGoOn plans.now.old.now plans.now.new.now class.now }
     requires reached { Reaches (held plans.now.old.now plans.now.new.now origin.which) class.now origin.target }
     requires exact { ImageIsExact (held plans.now.old.now plans.now.new.now origin.which) class.now origin.target (Ends pc ssn) }
     ensures well { IfOk result (λ way. way ≡ None → PairAllows plans.now.old.now plans.now.new.now class.now.cover pc ssn) }
-    ensures bad { IfOk result (λ way. IfSome way (IsBadHere plans.now.old.now plans.now.new.now class.now)) }
+    ensures bad { IfOk result (λ way. IfSome way (IsBadHere plans.now.may.now plans.now.old.now plans.now.new.now class.now)) }
 {
     if both_allow(plans, class.cover(), pc, ssn) {
         return Ok(None);
@@ -185,8 +220,9 @@ fn without_row(
     which: Which,
     class: &Class,
 ) -> Result<Way, OutOfMemory>
+    requires lets { MayHold plans.now.may.now class.now.node which }
     requires row { class_row (held plans.now.old.now plans.now.new.now which) class.now ≡ None }
-    ensures { IfOk result (IsBadHere plans.now.old.now plans.now.new.now class.now) }
+    ensures { IfOk result (IsBadHere plans.now.may.now plans.now.old.now plans.now.new.now class.now) }
 {
     one_turn(
         alloc,
@@ -204,12 +240,13 @@ fn bad_way(
     origin: Origin,
     digits: Digits,
 ) -> Result<Way, OutOfMemory>
+    requires lets { MayHold plans.now.may.now class.now.node origin.which }
     requires may { MayGoOn plans.now.old.now plans.now.new.now class.now }
     requires reached { Reaches (held plans.now.old.now plans.now.new.now origin.which) class.now origin.target }
     requires member { IsMember class.now digits }
     requires bad { IsSomeAnd (brought (held plans.now.old.now plans.now.new.now origin.which) class.now origin.target digits)
         (IsBadStep plans.now.old.now plans.now.new.now class.now.cover) }
-    ensures { IfOk result (IsBadHere plans.now.old.now plans.now.new.now class.now) }
+    ensures { IfOk result (IsBadHere plans.now.may.now plans.now.old.now plans.now.new.now class.now) }
 {
     let Origin { which, target, .. } = origin;
     let marking = opening(alloc, plans.held(which), class, target)?;

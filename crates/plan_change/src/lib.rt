@@ -4,6 +4,9 @@
 //! in, whichever plan each relay held and whatever it had prohibited. If no class is left, the mixture is safe for that number
 //! of hops. If a title of a class has a bad end, or a fifteenth hop, it is carried back, relay by relay. The result is a title
 //! that both plans cover. The crates above may rely on each answer being true of the two plans.
+//!
+//! `mixture` also takes what each relay may hold meanwhile, one of the plans or either. If nothing is said of a relay, it may hold
+//! either.
 #![tactic(auto)]
 
 mod answer;
@@ -28,9 +31,9 @@ mod witness;
 
 pub use answer::Change;
 pub use change_fault::ChangeFault;
-pub use changing::change;
-pub use laws::changes_are_exact;
+pub use changing::{change, mixture};
+pub use laws::{bad_routes_refuse_what_they_fit, changes_are_exact, fewer_holdings_stay_safe};
 pub use mixed_hop::MixedHop;
 pub use mixing::mixed_hops;
-pub use plan_mixed::Which;
+pub use plan_mixed::{Holding, Which};
 pub use turn::Turn;

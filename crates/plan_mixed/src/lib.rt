@@ -7,9 +7,11 @@
 #![tactic(auto)]
 
 mod deciding;
+mod holding;
 mod sharing;
 mod which;
 
 pub use deciding::{decided_by_both, held};
+pub use holding::{Holding, chosen, may_hold};
 pub use sharing::{new_of, old_of, pair, shared};
 pub use which::Which;

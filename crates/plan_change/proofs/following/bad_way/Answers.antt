@@ -11,6 +11,6 @@ opening-requires-clause-decided c = held_decided _ _ c.held.result.now c.args.or
 pub returns : goal.returns
 returns c =
     ok_both c.one_turn.result _ _ _
-    (λ way at one. bad_here _ _ c.held.result.now c.args.origin.which c.args.class.now c.args.origin.target c.args.digits _ way
-    c.held.ensures (at ∙ c.spot_of.ensures) one c.requires.member c.in_ok-marking.ensures.takes c.requires.bad)
+    (λ way at one. bad_here _ _ _ c.held.result.now c.args.origin.which c.args.class.now c.args.origin.target c.args.digits _ way
+    c.held.ensures (at ∙ c.spot_of.ensures) one c.requires.lets c.requires.member c.in_ok-marking.ensures.takes c.requires.bad)
     c.one_turn.ensures.spot c.one_turn.ensures.turns

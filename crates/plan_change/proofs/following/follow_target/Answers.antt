@@ -27,10 +27,10 @@ pub returns-in_ok-enter-in-Next-clause-grows : goal.returns-in_ok-enter-in-Next-
 returns-in_ok-enter-in-Next-clause-grows c =
     grows_weaker c.args.hop.now.stops c.enter.new.hop.stops
     (IsPutFor c.args.plans.now.old.now c.args.plans.now.new.now c.in-Next.next c.args.origin)
-    (ComesFrom c.args.plans.now.old.now c.args.plans.now.new.now c.args.class.now c.args.origin.place)
-    (λ stop put. put_comes _ _ c.held-plan.result.now c.args.class.now c.in-Next.next c.args.origin stop c.held-plan.ensures
+    (ComesFrom c.args.plans.now.may.now c.args.plans.now.old.now c.args.plans.now.new.now c.args.class.now c.args.origin.place)
+    (λ stop put. put_comes _ _ _ c.held-plan.result.now c.args.class.now c.in-Next.next c.args.origin stop c.held-plan.ensures
     c.requires.may.decided (c.reaches_by.ensures.0 c.if-not-reaches_by.false) c.in-Next.ensures.image c.in-Next.ensures.stays.0
-    c.in-Next.ensures.stays.1 put)
+    c.in-Next.ensures.stays.1 c.requires.lets put)
     c.in_ok-enter-in-Next.ensures.grows
 
 pub returns-in_ok-enter-in-Next-clause-well : goal.returns-in_ok-enter-in-Next-clause-well
