@@ -8,7 +8,7 @@ use Rattle.std.proofs.lemmas.Bool.{cases_order}
 use Rattle.sccp_base.proofs.Among.{Among, Among-slice_get}
 use Rattle.sccp_message.specs.Reading.{reading}
 use Rattle.plan_model.specs.Network.{Network}
-use Rattle.relay_ways.specs.declared.way.Way.{Way}
+use Rattle.relay_ways.specs.declared.explanation.Explanation.{Explanation}
 use Rattle.relay_watch.specs.Arrivals.{begins, most_waiting, left_at, joined, kept}
 use Rattle.relay_watch.specs.Judging.{IsJudged, place_of}
 use Rattle.relay_watch.specs.Runs.{AreJudged, HasVerdict, HasReason, NumbersDiffer}
@@ -134,7 +134,7 @@ event_there plan (d ∷ events) [] old left i line run at = absurd run
 event_there plan (d ∷ events) (x ∷ lines) old left zero line run at = (d, refl)
 event_there plan (d ∷ events) (x ∷ lines) old left (suc i) line run at = event_there plan events lines run.0 left i line run.2 at
 
-line_there : (lines : List Line) (i by : ℕ) (ways : List Way) → HasVerdict lines i (Explained by ways)
+line_there : (lines : List Line) (i by : ℕ) (ways : List Explanation) → HasVerdict lines i (Explained by ways)
     → (line : Line) × (slice_get lines i ≡ Some line)
 line_there lines i by ways has = by_option (slice_get lines i) has where
   by_option : (o : Option Line) → IsSomeAnd o (λ (l : Line). l.verdict ≡ Explained by ways) → (line : Line) × (o ≡ Some line)
@@ -142,7 +142,7 @@ line_there lines i by ways has = by_option (slice_get lines i) has where
   by_option (Some l) h = (l, refl)
 
 -- no line is explained by a number that no arrival and no event has
-pub none_by : (plan : Network) (events : List Event) (lines : List Line) (old left : List Waiting) (i by : ℕ) (ways : List Way)
+pub none_by : (plan : Network) (events : List Event) (lines : List Line) (old left : List Waiting) (i by : ℕ) (ways : List Explanation)
     → AreJudged plan old events lines left → Fresh by old → Absent by events → HasVerdict lines i (Explained by ways) → ⊥
 none_by plan events lines old left i by ways run fresh absent has =
     let l = line_there lines i by ways has in
@@ -184,7 +184,7 @@ pub record Used (plan : Network) (old : List Waiting) (d : Event) (events : List
   pub coming : Absent by events
 
 pub used : (plan : Network) (old : List Waiting) (d : Event) (events : List Event) (line : Line) (next : List Waiting) (by : ℕ)
-    (ways : List Way) → (h : IsJudged plan old d line next) → Numbered old (d ∷ events) → line.verdict ≡ Explained by ways
+    (ways : List Explanation) → (h : IsJudged plan old d line next) → Numbered old (d ∷ events) → line.verdict ≡ Explained by ways
     → Used plan old d events next h.found by
 used plan old d events line next by ways h n v =
     let k = line_names plan old d line next by ways h v in
@@ -202,7 +202,7 @@ used plan old d events line next by ways h n v =
           n.ahead (suc i) e at first.arrival (Among-slice_get old k.found.place first.arrival first.at) (number ∙ sym same);
     }
 
-once_from : (plan : Network) (events : List Event) (lines : List Line) (old left : List Waiting) (i j by : ℕ) (ways others : List Way)
+once_from : (plan : Network) (events : List Event) (lines : List Line) (old left : List Waiting) (i j by : ℕ) (ways others : List Explanation)
     → AreJudged plan old events lines left → Numbered old events → i < j → HasVerdict lines i (Explained by ways)
     → HasVerdict lines j (Explained by others) → ⊥
 once_from plan events lines old left i zero by ways others run n lt has also = omega (arith, lt)
@@ -220,7 +220,7 @@ once_from plan (d ∷ events) (line ∷ lines) old left (suc i) (suc j) by ways 
 pub from_nothing : (events : List Event) → NumbersDiffer events → Numbered [] events
 from_nothing events differ = record { apart = tt; ahead = λ k e at w among. absurd among; differ = differ }
 
-pub once : (plan : Network) (events : List Event) (lines : List Line) (left : List Waiting) (i j by : ℕ) (ways others : List Way)
+pub once : (plan : Network) (events : List Event) (lines : List Line) (left : List Waiting) (i j by : ℕ) (ways others : List Explanation)
     → AreJudged plan [] events lines left → NumbersDiffer events → HasVerdict lines i (Explained by ways)
     → HasVerdict lines j (Explained by others) → i ≡ j
 once plan events lines left i j by ways others run differ has also =

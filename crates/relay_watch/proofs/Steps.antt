@@ -14,7 +14,7 @@ use Rattle.sccp_message.specs.Unitdata.{called_of}
 use Rattle.plan_model.specs.Network.{Network}
 use Rattle.relay_ways.specs.Alike.{calling_of}
 use Rattle.relay_ways.specs.Sends.{sends}
-use Rattle.relay_ways.specs.declared.way.Way.{Way}
+use Rattle.relay_ways.specs.declared.explanation.Explanation.{Explanation}
 use Rattle.relay_watch.specs.Arrivals.{source, target, is_management, may_be_answered, waits, begins, begins_by, begins_at, most_waiting}
 use Rattle.relay_watch.specs.Arrivals.{left_at, joined, kept, given_up}
 use Rattle.relay_watch.specs.Judging.{IsFoundAt, IsFoundBy, IsFound, IsJudged, place_of}
@@ -42,7 +42,7 @@ number_in verdicts.Management = None
 number_in (verdicts.Own ssn) = None
 number_in verdicts.Unexplained = None
 
-abbrev pub ways_in : Verdict → List Way
+abbrev pub ways_in : Verdict → List Explanation
 ways_in (verdicts.Undecodable fault) = []
 ways_in verdicts.Connection = []
 ways_in verdicts.Other = []
@@ -117,14 +117,14 @@ not_some : (n : ℕ) (o : Option ℕ) → o ≡ None → o ≡ Some n → ⊥
 not_some n o p q = cc
 
 -- a line that explains its message names what was found
-pub record Names (plan : Network) (old : List Waiting) (e : Event) (by : ℕ) (ways : List Way) (o : Option Found) : Type 0 where
+pub record Names (plan : Network) (old : List Waiting) (e : Event) (by : ℕ) (ways : List Explanation) (o : Option Found) : Type 0 where
   pub found : Found
   pub is : o ≡ Some found
   pub numbered : found.by ≡ by
   pub ways_are : found.ways ≡ ways
   pub explaining : Explaining plan old e found
 
-pub line_names : (plan : Network) (old : List Waiting) (e : Event) (line : Line) (next : List Waiting) (by : ℕ) (ways : List Way)
+pub line_names : (plan : Network) (old : List Waiting) (e : Event) (line : Line) (next : List Waiting) (by : ℕ) (ways : List Explanation)
     → (h : IsJudged plan old e line next) → line.verdict ≡ verdicts.Explained by ways → Names plan old e by ways h.found
 line_names plan old e line next by ways h v =
     cases h.found (found_says plan old e h.found (reading e.octets) refl h.search) (sym h.verdict_is ∙ v)

@@ -8,7 +8,7 @@ use Rattle.sccp_base.proofs.Among.{Among, All-among, Among-slice_get}
 use Rattle.sccp_message.specs.declared.message.Message.{Message}
 use Rattle.sccp_message.specs.Reading.{reading}
 use Rattle.plan_model.specs.Network.{Network}
-use Rattle.relay_ways.specs.declared.way.Way.{Way}
+use Rattle.relay_ways.specs.declared.explanation.Explanation.{Explanation}
 use Rattle.relay_watch.specs.Arrivals.{source, target, begins}
 use Rattle.relay_watch.specs.Judging.{IsJudged}
 use Rattle.relay_watch.specs.Reasons.{NeverSends, SendsUnder, IsNoReason}
@@ -22,7 +22,7 @@ use Rattle.relay_watch.proofs.Steps.{line_names, nothing_found, Begun, begun, am
 use Rattle.relay_watch.proofs.Unanswered.{never}
 
 -- one that waited before the first event explains the message of this one
-pub record FromWaiting (plan : Network) (old : List Waiting) (e : Event) (by : ℕ) (ways : List Way) : Type 0 where
+pub record FromWaiting (plan : Network) (old : List Waiting) (e : Event) (by : ℕ) (ways : List Explanation) : Type 0 where
   pub arrival : Waiting
   pub among : Among arrival old
   pub numbered : arrival.number ≡ by
@@ -31,7 +31,7 @@ pub record FromWaiting (plan : Network) (old : List Waiting) (e : Event) (by : �
   pub reads : reading e.octets ≡ Ok message
   pub under : SendsUnder plan arrival.node arrival.origin arrival.octets e.destination message ways
 
-first_from : (plan : Network) (old : List Waiting) (e : Event) (line : Line) (next : List Waiting) (by : ℕ) (ways : List Way)
+first_from : (plan : Network) (old : List Waiting) (e : Event) (line : Line) (next : List Waiting) (by : ℕ) (ways : List Explanation)
     → IsJudged plan old e line next → line.verdict ≡ Explained by ways → FromWaiting plan old e by ways
 first_from plan old e line next by ways h v =
     let n = line_names plan old e line next by ways h v in
@@ -49,7 +49,7 @@ first_from plan old e line next by ways h v =
     }
 
 -- the reason is an arrival that waited, or an event
-later_reason : (plan : Network) (events : List Event) (i : ℕ) (d e : Event) (by : ℕ) (ways : List Way) → HasReason plan events i e by ways
+later_reason : (plan : Network) (events : List Event) (i : ℕ) (d e : Event) (by : ℕ) (ways : List Explanation) → HasReason plan events i e by ways
     → HasReason plan (d ∷ events) (suc i) e by ways
 later_reason plan events i d e by ways h = record {
   place = suc h.place;
@@ -65,7 +65,7 @@ later_reason plan events i d e by ways h = record {
   under = h.under;
 }
 
-begun_reason : (plan : Network) (events : List Event) (i : ℕ) (d e : Event) (by : ℕ) (ways : List Way) (w : Waiting) → Begun plan d w
+begun_reason : (plan : Network) (events : List Event) (i : ℕ) (d e : Event) (by : ℕ) (ways : List Explanation) (w : Waiting) → Begun plan d w
     → w.number ≡ by → (m : Message) → source plan e ≡ Some w.node → reading e.octets ≡ Ok m
     → SendsUnder plan w.node w.origin w.octets e.destination m ways → HasReason plan (d ∷ events) (suc i) e by ways
 begun_reason plan events i d e by ways w b numbered m sent reads under = record {
@@ -84,7 +84,7 @@ begun_reason plan events i d e by ways w b numbered m sent reads under = record 
 }
 
 pub explained_from : (plan : Network) (events : List Event) (lines : List Line) (old left : List Waiting) (i by : ℕ) (e : Event)
-    (ways : List Way) → AreJudged plan old events lines left → slice_get events i ≡ Some e → HasVerdict lines i (Explained by ways)
+    (ways : List Explanation) → AreJudged plan old events lines left → slice_get events i ≡ Some e → HasVerdict lines i (Explained by ways)
     → FromWaiting plan old e by ways ⊎ HasReason plan events i e by ways
 explained_from plan [] lines old left zero by e ways run at has = absurd cc
 explained_from plan [] lines old left (suc i) by e ways run at has = absurd cc
@@ -113,7 +113,7 @@ explained_from plan (d ∷ events) (line ∷ lines) old left (suc i) by e ways r
     (λ (r : HasReason plan events i e by ways). inr (later_reason plan events i d e by ways r))
     (explained_from plan events lines run.0 left i by e ways run.2 at has)
 
-pub explained : (plan : Network) (events : List Event) (lines : List Line) (left : List Waiting) (i by : ℕ) (e : Event) (ways : List Way)
+pub explained : (plan : Network) (events : List Event) (lines : List Line) (left : List Waiting) (i by : ℕ) (e : Event) (ways : List Explanation)
     → AreJudged plan [] events lines left → slice_get events i ≡ Some e → HasVerdict lines i (Explained by ways)
     → HasReason plan events i e by ways
 explained plan events lines left i by e ways run at has =

@@ -4,8 +4,8 @@ use Rattle.std.specs.List.{All}
 use Rattle.sccp_base.specs.declared.mark.Mark.{Mark}
 use Rattle.sccp_message.specs.declared.message.Message.{Message}
 use Rattle.plan_model.specs.Network.{Network}
-use Rattle.relay_ways.specs.Explained.{AreConditions, SendsLike}
-use Rattle.relay_ways.specs.declared.way.Way.{Way}
+use Rattle.relay_ways.specs.Explained.{AreConditions, SendsLike, IsHandled}
+use Rattle.relay_ways.specs.declared.explanation.Explanation.{Explanation}
 use Rattle.relay_watch.specs.declared.found.Found.{Found}
 use Rattle.relay_watch.specs.declared.waiting.Waiting.{Waiting}
 
@@ -13,22 +13,24 @@ use Rattle.relay_watch.specs.declared.waiting.Waiting.{Waiting}
 abbrev pub NeverSends : Network → ℕ → ℕ → List ℕ → ℕ → Message → Type 0
 NeverSends plan node origin b to sent = (marking : List Mark) → SendsLike plan node origin b to sent marking → ⊥
 
--- it does exactly under the markings that meet a condition of these ways, and there is such a marking
-pub record SendsUnder (plan : Network) (node origin : ℕ) (b : List ℕ) (to : ℕ) (sent : Message) (ways : List Way) : Type 0 where
+-- It does exactly under the markings that meet a condition of these ways, and there is such a marking. Under each that meets the
+-- condition of one way, it handles the octets as that way says.
+pub record SendsUnder (plan : Network) (node origin : ℕ) (b : List ℕ) (to : ℕ) (sent : Message) (ways : List Explanation) : Type 0 where
   pub conditions : AreConditions plan node origin b to sent (map (λ w. w.condition) ways)
   pub some : 0 < length ways
+  pub handled : All (IsHandled plan node origin b) ways
 
 -- the waiting arrival is none because of which the relay at this place sends the message
 abbrev pub IsNoReason : Network → ℕ → ℕ → Message → Waiting → Type 0
 IsNoReason plan node to sent w = w.node ≡ node → NeverSends plan node w.origin w.octets to sent
 
 -- the relay at this place sends the message because of the waiting arrival, in these ways
-pub record IsReason (plan : Network) (node to : ℕ) (sent : Message) (w : Waiting) (ways : List Way) : Type 0 where
+pub record IsReason (plan : Network) (node to : ℕ) (sent : Message) (w : Waiting) (ways : List Explanation) : Type 0 where
   pub here : w.node ≡ node
   pub under : SendsUnder plan node w.origin w.octets to sent ways
 
 -- the ways that a look at one waiting arrival gives; none if it is no reason
-abbrev pub AreReasons : Network → ℕ → ℕ → Message → Waiting → List Way → Type 0
+abbrev pub AreReasons : Network → ℕ → ℕ → Message → Waiting → List Explanation → Type 0
 AreReasons plan node to sent w [] = IsNoReason plan node to sent w
 AreReasons plan node to sent w (x ∷ xs) = IsReason plan node to sent w (x ∷ xs)
 

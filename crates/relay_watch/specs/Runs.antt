@@ -7,7 +7,7 @@ use Rattle.sccp_message.specs.declared.message.Message.{Message}
 use Rattle.sccp_message.specs.Reading.{reading}
 use Rattle.plan_model.specs.Network.{Network}
 use Rattle.relay_ways.specs.Sends.{sends}
-use Rattle.relay_ways.specs.declared.way.Way.{Way}
+use Rattle.relay_ways.specs.declared.explanation.Explanation.{Explanation}
 use Rattle.relay_watch.specs.Arrivals.{source, target}
 use Rattle.relay_watch.specs.Judging.{IsJudged}
 use Rattle.relay_watch.specs.Reasons.{SendsUnder}
@@ -36,7 +36,7 @@ NumbersDiffer events = AllPairs (λ a b. a.number ≢ b.number) events
 
 -- The event with that number is an earlier one. It arrived at the relay that sent this event's message, which the plan has it send
 -- because of that one exactly under the markings that meet a condition of the ways; and there is such a marking.
-pub record HasReason (plan : Network) (events : List Event) (i : ℕ) (e : Event) (by : ℕ) (ways : List Way) : Type 0 where
+pub record HasReason (plan : Network) (events : List Event) (i : ℕ) (e : Event) (by : ℕ) (ways : List Explanation) : Type 0 where
   pub place : ℕ
   pub earlier : place < i
   pub arrival : Event
@@ -65,7 +65,7 @@ GivesUp lines i w = IsSomeAnd (slice_get lines i) (λ line. line.given_up ≡ So
 
 -- no line explains its message by the arrival with that number
 abbrev pub IsUnused : ℕ → List Line → Type 0
-IsUnused n lines = (i : ℕ) (ways : List Way) → HasVerdict lines i (Explained n ways) → ⊥
+IsUnused n lines = (i : ℕ) (ways : List Explanation) → HasVerdict lines i (Explained n ways) → ⊥
 
 -- a relay sent the message, and no arrival explains it
 abbrev pub lacks_reason : Verdict → Bool

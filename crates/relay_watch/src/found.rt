@@ -1,5 +1,5 @@
 //! What a search among the arrivals that wait finds.
-use relay_ways::Way;
+use relay_ways::Explanation;
 use sccp_base::List;
 
 /// An arrival that explains a message: its place among those that wait, its number, and the ways in which it does.
@@ -7,5 +7,5 @@ use sccp_base::List;
 pub(crate) struct Found {
     pub place: usize,
     pub by: u64,
-    pub ways: List<Way>,
+    pub ways: List<Explanation>,
 }

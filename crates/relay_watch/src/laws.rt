@@ -3,7 +3,7 @@ ghost use Rattle.std.specs.Prelude.{◌≡◌, ◌<◌, ℕ, true, List, [], Som
 ghost use Rattle.sccp_message.specs.declared.message.Message.{Message};
 ghost use Rattle.sccp_message.specs.Reading.{reading};
 ghost use Rattle.plan_model.specs.Network.{Network};
-ghost use Rattle.relay_ways.specs.declared.way.Way.{Way};
+ghost use Rattle.relay_ways.specs.declared.explanation.Explanation.{Explanation};
 ghost use Rattle.relay_watch.specs.Arrivals.{source, target};
 ghost use Rattle.relay_watch.specs.Reasons.{NeverSends};
 ghost use Rattle.relay_watch.specs.Runs.{AreJudged, HasVerdict, HasReason, HasArrived, GivesUp, IsUnnamed, IsUnused, NumbersDiffer};
@@ -16,16 +16,16 @@ ghost use Rattle.relay_watch.specs.declared.waiting.Waiting.{Waiting};
 
 /// If a line explains its message, the arrival with that number came before, at the relay that sent the message. The plan has the
 /// relay send the message because of that arrival exactly under the markings that meet a condition of the line's ways, and there is
-/// such a marking.
+/// such a marking. Under each that meets the condition of one way, the relay handles the arrival as that way says.
 pub fn explained_truly()
-    ensures { (plan : Network) (events : List Event) (lines : List Line) (left : List Waiting) (i by : ℕ) (e : Event) (ways : List Way)
+    ensures { (plan : Network) (events : List Event) (lines : List Line) (left : List Waiting) (i by : ℕ) (e : Event) (ways : List Explanation)
         → AreJudged plan [] events lines left → slice_get events i ≡ Some e → HasVerdict lines i (Explained by ways)
         → HasReason plan events i e by ways }
 {}
 
 /// If no two events have the same number, no two lines explain their messages by the same arrival.
 pub fn explained_once()
-    ensures { (plan : Network) (events : List Event) (lines : List Line) (left : List Waiting) (i j by : ℕ) (ways others : List Way)
+    ensures { (plan : Network) (events : List Event) (lines : List Line) (left : List Waiting) (i j by : ℕ) (ways others : List Explanation)
         → AreJudged plan [] events lines left → NumbersDiffer events
         → HasVerdict lines i (Explained by ways) → HasVerdict lines j (Explained by others) → i ≡ j }
 {}

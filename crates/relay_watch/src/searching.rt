@@ -9,7 +9,7 @@ use crate::arriving::data_of;
 use crate::found::Found;
 use crate::waiting::Waiting;
 use plan_model::Plan;
-use relay_ways::{Way, explain};
+use relay_ways::{Explanation, explain};
 use sccp_base::{List, OutOfMemory, PointCode};
 use sccp_message::Message;
 use std::alloc::Global;
@@ -30,7 +30,7 @@ fn reasons(
     to: PointCode,
     sent: &Message,
     arrival: &Waiting,
-) -> Result<List<Way>, OutOfMemory>
+) -> Result<List<Explanation>, OutOfMemory>
     requires node { node < length plan.now.nodes }
     requires waits { IsWaiting arrival.now }
     ensures { IfOk result (AreReasons plan.now node to sent.now arrival.now) }

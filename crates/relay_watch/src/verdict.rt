@@ -1,5 +1,5 @@
 //! The verdicts on captured messages.
-use relay_ways::Way;
+use relay_ways::Explanation;
 use sccp_base::List;
 use sccp_message::DecodeFault;
 
@@ -14,8 +14,9 @@ pub enum Verdict {
     Other,
     /// It arrives at a relay, and no relay of the plan sent it.
     Arrived,
-    /// The relay sent it because of the arrival with this number. The conditions of the ways are those under which it does.
-    Explained { by: u64, ways: List<Way> },
+    /// The relay sent it because of the arrival with this number. The conditions of the ways are those under which it does, and
+    /// each way says how it then handles the arrival.
+    Explained { by: u64, ways: List<Explanation> },
     /// It routes on subsystem number 1, and no arrival explains it: SCCP management sent it (Q.714 section 5).
     Management,
     /// No arrival explains it, and its calling address is this subsystem of the relay: a user of the relay sent it.

@@ -3,7 +3,9 @@ use Rattle.std.proofs.Common.{◌≡◌, ℕ, ◌+◌, ◌<◌, zero, suc, Bool,
 use Rattle.std.specs.Prelude.{◌≤◌, IsTrue, IsSome, IsSomeAnd, Result, Ok, Err}
 use Rattle.std.specs.List.{All, AllByRecursion, list_any}
 use Rattle.std.proofs.Math.Seq.{take-suc}
-use Rattle.std.proofs.lemmas.List.Elements.{All-from_recursion, All-map}
+use Rattle.std.proofs.lemmas.List.{map-append, take_more}
+use Rattle.std.proofs.lemmas.List.Elements.{All-append, All-from_recursion, All-map, All-nil}
+use Rattle.std.proofs.lemmas.List.Folds.{list_any-append}
 use Rattle.sccp_base.specs.declared.mark.Mark.{Mark}
 use Rattle.sccp_base.proofs.Among.{Among, All-among}
 use Rattle.sccp_message.specs.declared.message.Message.{Message}
@@ -12,10 +14,13 @@ use Rattle.sccp_message.specs.Reading.{reading}
 use Rattle.plan_model.specs.Network.{Network}
 use Rattle.relay_ways.specs.Alike.{IsAlike}
 use Rattle.relay_ways.specs.Conditions.{meets, IsPossible}
-use Rattle.relay_ways.specs.Explained.{IsSendingOf, SendsLike, AreConditions, Keeps}
+use Rattle.relay_ways.specs.Explained.{IsSendingOf, SendsLike, AreConditions, Keeps, Tells, IsHandled, AddsTold}
 use Rattle.relay_ways.specs.Sends.{sends}
-use Rattle.relay_ways.specs.Ways.{AreWays}
+use Rattle.relay_ways.specs.Ways.{AreWays, ways}
 use Rattle.relay_ways.specs.declared.way.Sending.{Sending}
+use Rattle.relay_ways.specs.Handling.{Handles, HasCondition}
+use Rattle.relay_ways.specs.declared.condition.Condition.{Condition}
+use Rattle.relay_ways.specs.declared.explanation.Explanation.{Explanation}
 use Rattle.relay_ways.specs.declared.way.Way.{Way}
 use Rattle.relay_ways.proofs.Adding.{one_more}
 
@@ -164,3 +169,86 @@ take_past [] zero e = refl
 take_past [] (suc i) e = refl
 take_past (x ∷ xs) zero e = absurd (omega (arith, e))
 take_past (x ∷ xs) (suc i) e = ap (λ ys. x ∷ ys) (take_past xs i (omega (arith, e)))
+
+-- each of those that are kept has the condition of one of the ways
+
+has_among : (w : Way) (found : List Way) → Among w found → HasCondition w.condition found
+has_among w [] at = absurd at
+has_among w (v ∷ vs) at =
+    ⊎_elim (λ (e : v ≡ w). inl (ap (λ (x : Way). x.condition) e)) (λ (r : Among w vs). inr (has_among w vs r)) at
+
+pub kept_among : (to : ℕ) (sent : Message) (found kept : List Way) → AreKept to sent found kept
+    → All (λ w. HasCondition w.condition found) kept
+kept_among to sent found kept are =
+    All-from_recursion (λ (w : Way). HasCondition w.condition found) kept
+    (each_among (λ (w : Way). HasCondition w.condition found) kept (λ w at. has_among w found (are.each w at).0))
+
+pub kept_possible : (to : ℕ) (sent : Message) (found kept : List Way) → All (λ w. IsPossible w.condition) found → AreKept to sent found kept
+    → All (λ w. IsPossible w.condition) kept
+kept_possible to sent found kept all are =
+    All-from_recursion (λ (w : Way). IsPossible w.condition) kept
+    (each_among (λ (w : Way). IsPossible w.condition) kept
+    (λ w at. All-among (λ (v : Way). IsPossible v.condition) w found all (are.each w at).0))
+
+-- What is told of ways, one after the other.
+pub record AreTold (plan : Network) (node origin : ℕ) (b : List ℕ) (kept : List Way) (found : List Explanation) : Type 0 where
+  pub same : (M : List Mark) → list_any (meets M) (map (λ x. x.condition) found) ≡ list_any (meets M) (map (λ w. w.condition) kept)
+  pub handled : All (IsHandled plan node origin b) found
+  pub possible : All IsPossible (map (λ x. x.condition) found)
+
+pub nothing_told : (plan : Network) (node origin : ℕ) (b : List ℕ) → AreTold plan node origin b [] []
+nothing_told plan node origin b = record {
+  same = λ M. refl;
+  handled = All-nil (IsHandled plan node origin b);
+  possible = All-nil IsPossible;
+}
+
+told_one : (plan : Network) (node origin : ℕ) (b : List ℕ) (kept : List Way) (found : List Explanation) (w : Way) (x : Explanation)
+    → HasCondition w.condition (ways plan node origin b) → IsPossible w.condition → Tells plan node origin b w x
+    → AreTold plan node origin b kept found → AreTold plan node origin b (kept ++ w ∷ []) (found ++ x ∷ [])
+told_one plan node origin b kept found w x has can tells are = record {
+  same = λ M.
+      ap (list_any (meets M)) (map-append (λ (y : Explanation). y.condition) found (x ∷ []))
+      ∙ list_any-append (meets M) (map (λ (y : Explanation). y.condition) found) (x.condition ∷ [])
+      ∙ ap (λ e. e || (meets M x.condition || false)) (are.same M)
+      ∙ ap (λ e. list_any (meets M) (map (λ (v : Way). v.condition) kept) || (e || false)) (tells.same M)
+      ∙ sym (list_any-append (meets M) (map (λ (v : Way). v.condition) kept) (w.condition ∷ []))
+      ∙ sym (ap (list_any (meets M)) (map-append (λ (v : Way). v.condition) kept (w ∷ [])));
+  handled = All-append (IsHandled plan node origin b) found (x ∷ []) are.handled
+      (All-from_recursion (IsHandled plan node origin b) (x ∷ []) (tells.handled has, tt));
+  possible = subst (λ (cs : List Condition). All IsPossible cs) (sym (map-append (λ (y : Explanation). y.condition) found (x ∷ [])))
+      (All-append IsPossible (map (λ (y : Explanation). y.condition) found) (x.condition ∷ []) are.possible
+      (All-from_recursion IsPossible (x.condition ∷ []) ((can.0, can.1, tells.same can.0 ∙ can.2), tt)));
+}
+
+pub told_more : (plan : Network) (node origin : ℕ) (b : List ℕ) (kept : List Way) (found new : List Explanation) (i : ℕ) (w : Way)
+    → i < length kept → w ≡ get_or kept i w → All (λ w. HasCondition w.condition (ways plan node origin b)) kept
+    → All (λ w. IsPossible w.condition) kept → AddsTold plan node origin b w found new → AreTold plan node origin b (take i kept) found
+    → AreTold plan node origin b (take (i + 1) kept) new
+told_more plan node origin b kept found new i w inside is has can adds are =
+    let x : Explanation = adds.explanation in
+    subst (λ (ys : List Explanation). AreTold plan node origin b (take (i + 1) kept) ys) (sym adds.added)
+    (subst (λ (ws : List Way). AreTold plan node origin b ws (found ++ x ∷ []))
+    (sym (take_more kept i w inside ∙ ap (λ (v : Way). take i kept ++ v ∷ []) (sym is)))
+    (told_one plan node origin b (take i kept) found w x
+    (subst (λ (v : Way). HasCondition v.condition (ways plan node origin b)) (sym is) (has i w inside))
+    (subst (λ (v : Way). IsPossible v.condition) (sym is) (can i w inside)) adds.tells are))
+
+pub told_all : (plan : Network) (node origin : ℕ) (b : List ℕ) (kept items : List Way) (found : List Explanation) (i : ℕ) → length items ≤ i
+    → items ≡ kept → AreTold plan node origin b (take i items) found → AreTold plan node origin b kept found
+told_all plan node origin b kept items found i past same told =
+    subst (λ (ws : List Way). AreTold plan node origin b ws found) (take_past items i past ∙ same) told
+
+pub told_conditions : (plan : Network) (node origin : ℕ) (b : List ℕ) (to : ℕ) (sent : Message) (kept : List Way) (found : List Explanation)
+    → AreConditions plan node origin b to sent (map (λ w. w.condition) kept) → AreTold plan node origin b kept found
+    → AreConditions plan node origin b to sent (map (λ x. x.condition) found)
+told_conditions plan node origin b to sent kept found are told = record {
+  exact = λ M. (λ h. (are.exact M).0 (sym (told.same M) ∙ h), λ like. told.same M ∙ (are.exact M).1 like);
+  possible = told.possible;
+}
+
+pub tells_way : (plan : Network) (node origin : ℕ) (b : List ℕ) (w : Way) (x : Explanation)
+    → ((M : List Mark) → meets M x.condition ≡ meets M w.condition)
+    → (HasCondition w.condition (ways plan node origin b) → (M : List Mark) → meets M w.condition ≡ true
+    → Handles plan node M origin b x.handling) → Tells plan node origin b w x
+tells_way plan node origin b w x same handles = record { same = same; handled = λ has M met. handles has M (sym (same M) ∙ met) }

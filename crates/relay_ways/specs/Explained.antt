@@ -1,5 +1,5 @@
 -- Under which markings a relay sends a message because of another one.
-use Rattle.std.specs.Prelude.{◌≡◌, ◌⊎◌, ◌++◌, ◌∷◌, [], ℕ, List, IsTrue, ◌↔◌, IsSomeAnd, Ok}
+use Rattle.std.specs.Prelude.{◌≡◌, ◌⊎◌, ◌++◌, ◌∷◌, [], true, ℕ, List, IsTrue, ◌↔◌, IsSomeAnd, Ok}
 use Rattle.std.specs.List.{All, list_any}
 use Rattle.sccp_base.specs.declared.mark.Mark.{Mark}
 use Rattle.sccp_message.specs.declared.message.Message.{Message}
@@ -7,8 +7,11 @@ use Rattle.sccp_message.specs.Reading.{reading}
 use Rattle.plan_model.specs.Network.{Network}
 use Rattle.relay_ways.specs.Alike.{IsAlike}
 use Rattle.relay_ways.specs.Conditions.{meets, IsPossible}
+use Rattle.relay_ways.specs.Handling.{Handles, HasCondition}
 use Rattle.relay_ways.specs.Sends.{sends}
+use Rattle.relay_ways.specs.Ways.{ways}
 use Rattle.relay_ways.specs.declared.condition.Condition.{Condition}
+use Rattle.relay_ways.specs.declared.explanation.Explanation.{Explanation}
 use Rattle.relay_ways.specs.declared.way.Sending.{Sending}
 use Rattle.relay_ways.specs.declared.way.Way.{Way}
 
@@ -29,3 +32,18 @@ pub record AreConditions (plan : Network) (node origin : ℕ) (b : List ℕ) (to
 -- a way is put at the end if it sends a message like this one to that point
 abbrev pub Keeps : ℕ → Message → List Way → Way → List Way → Type 0
 Keeps to sent old w new = (IsSendingOf to sent w.sending × (new ≡ old ++ w ∷ [])) ⊎ ((IsSendingOf to sent w.sending → ⊥) × (new ≡ old))
+
+-- Under each marking that meets the explanation's condition, the node handles the octets as it says.
+abbrev pub IsHandled : Network → ℕ → ℕ → List ℕ → Explanation → Type 0
+IsHandled plan node origin b x = (marking : List Mark) → meets marking x.condition ≡ true → Handles plan node marking origin b x.handling
+
+-- what is told of a way: exactly the same markings meet the condition, and if the way is one of the octets it is so handled
+pub record Tells (plan : Network) (node origin : ℕ) (b : List ℕ) (w : Way) (x : Explanation) : Type 0 where
+  pub same : (marking : List Mark) → meets marking x.condition ≡ meets marking w.condition
+  pub handled : HasCondition w.condition (ways plan node origin b) → IsHandled plan node origin b x
+
+-- what is told of a way is put at the end
+pub record AddsTold (plan : Network) (node origin : ℕ) (b : List ℕ) (w : Way) (old new : List Explanation) : Type 0 where
+  pub explanation : Explanation
+  pub tells : Tells plan node origin b w explanation
+  pub added : new ≡ old ++ explanation ∷ []

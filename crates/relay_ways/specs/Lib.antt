@@ -5,4 +5,7 @@ pub mod Sends
 pub mod Outcomes
 pub mod Ways
 pub mod Alike
+pub mod Handling
 pub mod Explained
+pub mod Settled
+pub mod Markings

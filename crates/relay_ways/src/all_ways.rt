@@ -116,7 +116,7 @@ fn reaches(alloc: Global, to: PointCode) -> Result<Condition, OutOfMemory>
 }
 
 /// Whether some marking meets the condition.
-fn is_possible(alloc: Global, condition: &Condition) -> Result<bool, OutOfMemory>
+pub(crate) fn is_possible(alloc: Global, condition: &Condition) -> Result<bool, OutOfMemory>
     ensures value { IfOk result (λ answer. answer ≡ is_possible condition.now) }
     ensures shown { IfOk result (λ answer. answer ≡ true → IsPossible condition.now) }
 {

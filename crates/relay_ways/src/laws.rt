@@ -1,12 +1,14 @@
 //! Laws on the definitions. Each call does nothing; its contract is the law.
-ghost use Rattle.std.specs.Prelude.{◌≡◌, List, true};
-ghost use Rattle.std.specs.List.{AllByRecursion, list_any};
+ghost use Rattle.std.specs.Prelude.{◌≡◌, ◌≤◌, List, length, true};
+ghost use Rattle.std.specs.List.{All, AllByRecursion, list_any};
 ghost use Rattle.sccp_base.specs.declared.mark.Mark.{Mark};
 ghost use Rattle.plan_model.specs.declared.spot.Spot.{Spot};
 ghost use Rattle.plan_model.specs.Network.{Network};
 ghost use Rattle.plan_model.specs.Steps.{step};
-ghost use Rattle.relay_ways.specs.Conditions.{meets};
+ghost use Rattle.relay_ways.specs.Conditions.{meets, is_possible};
+ghost use Rattle.relay_ways.specs.Markings.{markings, AreParts};
 ghost use Rattle.relay_ways.specs.Turns.{turns_of, Makes, HasRow};
+ghost use Rattle.relay_ways.specs.declared.condition.Condition.{Condition};
 
 /// The turns of a spot are its steps over all markings: under a marking that meets the condition of one its step is made, and
 /// each marking meets the condition of one. `HasRow` holds for each spot at a node of a plan.
@@ -15,4 +17,14 @@ pub fn turns_are_steps()
         → AllByRecursion (Makes (step plan spot marking) marking) (turns_of plan spot) }
     ensures one { (plan : Network) (spot : Spot) (marking : List Mark) → HasRow plan spot
         → list_any (λ t. meets marking t.condition) (turns_of plan spot) ≡ true }
+{}
+
+/// The markings that begin one after the other (`begins`) are the least number that meets conditions in their order. Whoever cuts
+/// the conditions into parts, each of which one marking meets, has no fewer parts. If some marking meets each condition, such a cut
+/// has as many parts.
+pub fn markings_are_least()
+    ensures least { (conditions : List Condition) (parts : List (List Condition)) → AreParts conditions parts
+        → markings conditions ≤ length parts }
+    ensures enough { (conditions : List Condition) → All (λ c. is_possible c ≡ true) conditions
+        → (parts : List (List Condition)) × AreParts conditions parts × (length parts ≡ markings conditions) }
 {}

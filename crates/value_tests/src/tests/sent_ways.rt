@@ -1,7 +1,7 @@
 //! What a relay can send because of an arrival, over all markings.
 use super::plans::plan_of;
 use plan_model::Plan;
-use relay_ways::{Way, explain, is_alike, ways};
+use relay_ways::{Explanation, explain, is_alike, ways};
 use sample_plans::BACKED;
 use sccp_base::{List, PointCode};
 use sccp_message::{Message, decode};
@@ -47,11 +47,11 @@ fn a_row_of_two_targets_has_two_ways_and_three_returns(rt: HostRuntime) -> Resul
 }
 
 /// How many lists and how many free marks the only way has; `None` if there is none, or another number.
-fn sizes_of_only(found: &List<Way>) -> Option<(usize, usize)> {
+fn sizes_of_only(found: &List<Explanation>) -> Option<(usize, usize)> {
     match found.as_slice() {
-        [way] => Some((
-            way.condition.one_of.as_slice().len(),
-            way.condition.none_of.as_slice().len(),
+        [only] => Some((
+            only.condition.one_of.as_slice().len(),
+            only.condition.none_of.as_slice().len(),
         )),
         _ => None,
     }

@@ -1,7 +1,7 @@
 use Rattle.std.proofs.Common.{take}
-use Rattle.relay_ways.proofs.ExplainLemmas.{AreKept}
+use Rattle.relay_ways.proofs.ExplainLemmas.{AreTold}
 use Rattle.relay_ways.proofs.explaining.explain.Given as goal
 
--- the ways so far that send such a message are kept
+-- what is told of the ways so far
 abbrev pub invariant-loop-way : goal.invariant-loop-way
-invariant-loop-way l = AreKept l.to l.sent (take l.way-index l.way-items) l.kept
+invariant-loop-way l = AreTold l.plan l.node l.origin l.octets (take l.way-index l.way-items) l.found
