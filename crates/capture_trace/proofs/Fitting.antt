@@ -1,5 +1,5 @@
 -- Each line of a capture is short, and one line.
-use Rattle.std.proofs.Common.{◌≡◌, ℕ, ◌+◌, ◌*◌, ◌^◌, ◌<◌, ◌≤◌, Bool, true, false, cond, eqb, ltb, leb, not, ◌&&◌, ◌||◌, List, [], ◌∷◌}
+use Rattle.std.proofs.Common.{◌≡◌, ℕ, ◌+◌, ◌^◌, ◌<◌, ◌≤◌, Bool, true, false, cond, ltb, not, ◌&&◌, ◌||◌, List, [], ◌∷◌}
 use Rattle.std.proofs.Common.{◌++◌, length, Option, Some, None, Result, Ok, Err, refl, ◌∙◌, ap, arith, subst, IfSome, length-append}
 use Rattle.std.specs.Prelude.{◌==◌, codes, decimal, find, option_and_then, slice_index, slice_range, nat_lt, nat_le}
 use Rattle.std.specs.List.{All, list_all}
@@ -61,7 +61,8 @@ use Rattle.capture_trace.proofs.Numerals.{plain_number, short_number, plain_hex}
 chunk_plain : (k : Option ℕ) → IsPlain (chunk_head k)
 unfolding chunk_head
 chunk_plain None = refl
-chunk_plain (Some k) = plain-append (codes "chunk ") (decimal k ++ codes " ") refl (plain-append (decimal k) (codes " ") (plain_number k) refl)
+chunk_plain (Some k) = plain-append (codes "chunk ") (decimal k ++ codes " ") refl
+    (plain-append (decimal k) (codes " ") (plain_number k) refl)
 
 chunk_short : (k : Option ℕ) → length (chunk_head k) ≤ 71
 unfolding chunk_head
@@ -87,8 +88,12 @@ head_short s = omega (arith, length-append (decimal s.packet) (codes " " ++ chun
 small_head : (s : Subject) → s.packet < 2 ^ 64 → length (head s) ≤ 30 + length (chunk_head s.chunk)
 unfolding head
 small_head s lt =
-    omega
-    (arith, length-append (decimal s.packet) (codes " " ++ chunk_head s.chunk), length-decimal-le 20 s.packet (omega arith) (omega arith) lt)
+    omega (
+      arith,
+      length-append (decimal s.packet) (codes " " ++ chunk_head s.chunk),
+      length-decimal-le 20 s.packet (omega arith)
+          (omega arith) lt,
+    )
 
 -- ---- lines that a trace skips
 
@@ -412,7 +417,8 @@ with_line_fits : (line : Option (List ℕ)) (lines : List (List ℕ)) → IfSome
 with_line_fits None lines h hs = hs
 with_line_fits (Some line) lines h hs = All-cons FitsTrace line lines h hs
 
-found_fit : (plan : Network) (found : List Carried) (s : Standing) → s.counts.packets < 2 ^ 64 → All FitsTrace (all_found plan found s).lines
+found_fit : (plan : Network) (found : List Carried) (s : Standing) → s.counts.packets < 2 ^ 64
+    → All FitsTrace (all_found plan found s).lines
 unfolding all_found
 found_fit plan [] s lt = All-nil FitsTrace
 found_fit plan (x ∷ xs) s lt =
@@ -420,7 +426,8 @@ found_fit plan (x ∷ xs) s lt =
     with_line_fits step.item.line (all_found plan xs (after_step s.counts step)).lines (step_fits plan s.counts.packets s.gathered x lt)
     (found_fit plan xs (after_step s.counts step) (omega (arith, same_packets step.item.kind s.counts, lt)))
 
-packet_fits : (plan : Network) (s : Standing) (packet : Captured) → s.counts.packets < 2 ^ 64 → All FitsTrace (of_packet plan s packet).lines
+packet_fits : (plan : Network) (s : Standing) (packet : Captured) → s.counts.packets < 2 ^ 64
+    → All FitsTrace (of_packet plan s packet).lines
 unfolding of_packet
 packet_fits plan s (Packet link original octets) lt = found_fit plan (or_other (found_in link original octets)) s lt
 packet_fits plan s (Bad why) lt =
