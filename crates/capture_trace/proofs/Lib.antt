@@ -3,3 +3,5 @@ mod Worked
 mod Turns
 mod LastLines
 mod Forms
+mod Numerals
+mod Fitting

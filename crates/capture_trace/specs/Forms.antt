@@ -1,5 +1,6 @@
 -- The forms of the lines of a capture.
-use Rattle.std.specs.Prelude.{◌≡◌, ℕ, ◌<◌, ◌≤◌, ◌⊎◌, List, length, Some}
+use Rattle.std.specs.Prelude.{◌≡◌, ℕ, ◌<◌, ◌≤◌, ◌⊎◌, ◌&&◌, ◌==◌, Bool, true, not, List, length, Some}
+use Rattle.std.specs.List.{list_all}
 use Rattle.plan_model.specs.Network.{Network}
 use Rattle.trace_text.specs.Forms.{line_of}
 use Rattle.trace_text.specs.declared.line.Line.TheVariants.{Skip}
@@ -20,3 +21,12 @@ pub record IsMessage (plan : Network) (line : List ℕ) : Type 0 where
 -- a line that a trace skips, or a message
 abbrev pub IsLine : Network → List ℕ → Type 0
 IsLine plan line = (line_of line ≡ Some Skip) ⊎ IsMessage plan line
+
+-- neither a line feed nor a carriage return
+abbrev pub is_plain : ℕ → Bool
+is_plain octet = not (octet == 10) && not (octet == 13)
+
+-- a line within the limits of a trace, which its reader takes as it is
+pub record FitsTrace (line : List ℕ) : Type 0 where
+  pub short : length line ≤ 8192
+  pub plain : list_all is_plain line ≡ true

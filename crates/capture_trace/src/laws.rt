@@ -1,11 +1,17 @@
-// The main property of the definitions, over any capture. The function has a law as its contract, and does nothing.
-ghost use Rattle.std.specs.Prelude.{All};
+// The main properties of the definitions, over any capture. Each function has a law as its contract, and does nothing.
+ghost use Rattle.std.specs.Prelude.{All, ◌<◌, ◌^◌, length};
 ghost use Rattle.capture_file.specs.Packets.{Told};
 ghost use Rattle.plan_model.specs.Network.{Network};
-ghost use Rattle.capture_trace.specs.Forms.{IsLine};
+ghost use Rattle.capture_trace.specs.Forms.{FitsTrace, IsLine};
 ghost use Rattle.capture_trace.specs.Traced.{lines_of};
 
 /// Each line of a capture is a message for a relay of the plan, of at most 4,072 octets for SCCP, or a line that a trace skips.
 pub fn lines_have_forms()
     ensures { (plan : Network) (told : Told) → All (IsLine plan) (lines_of plan told) }
+{}
+
+/// Each line of a capture of fewer than 2^64 packets has at most 8,192 octets, and no line feed or carriage return is among
+/// them. So the reader of a trace refuses none for its length, and takes each for one line.
+pub fn lines_fit_a_trace()
+    ensures { (plan : Network) (told : Told) → length told.packets < 2 ^ 64 → All FitsTrace (lines_of plan told) }
 {}
