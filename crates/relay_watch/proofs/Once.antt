@@ -202,7 +202,8 @@ used plan old d events line next by ways h n v =
           n.ahead (suc i) e at first.arrival (Among-slice_get old k.found.place first.arrival first.at) (number ∙ sym same);
     }
 
-once_from : (plan : Network) (events : List Event) (lines : List Line) (old left : List Waiting) (i j by : ℕ) (ways others : List Explanation)
+once_from : (plan : Network) (events : List Event) (lines : List Line) (old left : List Waiting) (i j by : ℕ)
+    (ways others : List Explanation)
     → AreJudged plan old events lines left → Numbered old events → i < j → HasVerdict lines i (Explained by ways)
     → HasVerdict lines j (Explained by others) → ⊥
 once_from plan events lines old left i zero by ways others run n lt has also = omega (arith, lt)

@@ -72,7 +72,8 @@ at_place [] i x inside is = absurd (omega (arith, inside))
 at_place (y ∷ ys) zero x inside is = ap Some (sym is)
 at_place (y ∷ ys) (suc i) x inside is = at_place ys i x (omega (arith, inside)) is
 
-pub first_found : (plan : Network) (waiting : List Waiting) (node to : ℕ) (sent : Message) (place by : ℕ) (ways : List Explanation) (w : Waiting)
+pub first_found : (plan : Network) (waiting : List Waiting) (node to : ℕ) (sent : Message) (place by : ℕ) (ways : List Explanation)
+    (w : Waiting)
     → place < length waiting → w ≡ get_or waiting place w → w.number ≡ by → All (IsNoReason plan node to sent) (take place waiting)
     → (length ways ≡ 0 → ⊥) → AreReasons plan node to sent w ways
     → IsFirst plan waiting node to sent (record { place = place; by = by; ways = ways })
@@ -84,7 +85,8 @@ first_found plan waiting node to sent place by ways w inside is numbered before 
   first = before;
 }
 
-pub one_passed : (plan : Network) (waiting : List Waiting) (node to : ℕ) (sent : Message) (place : ℕ) (ways : List Explanation) (w : Waiting)
+pub one_passed : (plan : Network) (waiting : List Waiting) (node to : ℕ) (sent : Message) (place : ℕ) (ways : List Explanation)
+    (w : Waiting)
     → place < length waiting → w ≡ get_or waiting place w → All (IsNoReason plan node to sent) (take place waiting)
     → length ways ≡ 0 → AreReasons plan node to sent w ways → All (IsNoReason plan node to sent) (take (place + 1) waiting)
 one_passed plan waiting node to sent place ways w inside is before none are =

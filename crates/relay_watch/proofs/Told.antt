@@ -49,7 +49,8 @@ first_from plan old e line next by ways h v =
     }
 
 -- the reason is an arrival that waited, or an event
-later_reason : (plan : Network) (events : List Event) (i : ℕ) (d e : Event) (by : ℕ) (ways : List Explanation) → HasReason plan events i e by ways
+later_reason : (plan : Network) (events : List Event) (i : ℕ) (d e : Event) (by : ℕ) (ways : List Explanation)
+    → HasReason plan events i e by ways
     → HasReason plan (d ∷ events) (suc i) e by ways
 later_reason plan events i d e by ways h = record {
   place = suc h.place;
@@ -65,7 +66,8 @@ later_reason plan events i d e by ways h = record {
   under = h.under;
 }
 
-begun_reason : (plan : Network) (events : List Event) (i : ℕ) (d e : Event) (by : ℕ) (ways : List Explanation) (w : Waiting) → Begun plan d w
+begun_reason : (plan : Network) (events : List Event) (i : ℕ) (d e : Event) (by : ℕ) (ways : List Explanation) (w : Waiting)
+    → Begun plan d w
     → w.number ≡ by → (m : Message) → source plan e ≡ Some w.node → reading e.octets ≡ Ok m
     → SendsUnder plan w.node w.origin w.octets e.destination m ways → HasReason plan (d ∷ events) (suc i) e by ways
 begun_reason plan events i d e by ways w b numbered m sent reads under = record {
@@ -113,7 +115,8 @@ explained_from plan (d ∷ events) (line ∷ lines) old left (suc i) by e ways r
     (λ (r : HasReason plan events i e by ways). inr (later_reason plan events i d e by ways r))
     (explained_from plan events lines run.0 left i by e ways run.2 at has)
 
-pub explained : (plan : Network) (events : List Event) (lines : List Line) (left : List Waiting) (i by : ℕ) (e : Event) (ways : List Explanation)
+pub explained : (plan : Network) (events : List Event) (lines : List Line) (left : List Waiting) (i by : ℕ) (e : Event)
+    (ways : List Explanation)
     → AreJudged plan [] events lines left → slice_get events i ≡ Some e → HasVerdict lines i (Explained by ways)
     → HasReason plan events i e by ways
 explained plan events lines left i by e ways run at has =

@@ -18,7 +18,8 @@ ghost use Rattle.relay_watch.specs.declared.waiting.Waiting.{Waiting};
 /// relay send the message because of that arrival exactly under the markings that meet a condition of the line's ways, and there is
 /// such a marking. Under each that meets the condition of one way, the relay handles the arrival as that way says.
 pub fn explained_truly()
-    ensures { (plan : Network) (events : List Event) (lines : List Line) (left : List Waiting) (i by : ℕ) (e : Event) (ways : List Explanation)
+    ensures { (plan : Network) (events : List Event) (lines : List Line) (left : List Waiting) (i by : ℕ) (e : Event)
+        (ways : List Explanation)
         → AreJudged plan [] events lines left → slice_get events i ≡ Some e → HasVerdict lines i (Explained by ways)
         → HasReason plan events i e by ways }
 {}

@@ -1,5 +1,6 @@
 -- Ways that are put at the end of a list, outcome by outcome.
-use Rattle.std.proofs.Common.{◌≡◌, ℕ, ◌+◌, ◌<◌, zero, suc, Bool, true, false, List, [], ◌∷◌, ◌++◌, length, take, Option, Some, None, refl, sym, ◌∙◌, ap, subst, get_or, inl, inr, append_assoc, arith}
+use Rattle.std.proofs.Common.{◌≡◌, ℕ, ◌+◌, ◌<◌, zero, suc, Bool, true, false, List, [], ◌∷◌, ◌++◌, length, take, Option, Some, None, refl}
+use Rattle.std.proofs.Common.{sym, ◌∙◌, ap, subst, get_or, inl, inr, append_assoc, arith}
 use Rattle.std.specs.Bool.{MatchBool}
 use Rattle.std.specs.List.{flat_map}
 use Rattle.std.proofs.lemmas.Bool.{and_parts}
@@ -112,7 +113,8 @@ forwarded_is plan node b c d o s same becomes is =
     subst (λ (x : Condition). way_if (both c d) s ≡ possible (way_if (both c x) (forwarded o.arrival))) (sym same)
     (by (is_possible (both c d)) refl is) where
       by : (p : Bool) → is_possible (both c d) ≡ p
-          → MatchBool p ((M : List Mark) × IsMarking M × (meets M (both c d) ≡ true) × (s ≡ forwarded (arrival plan node M (point_of plan node) b))) (s ≡ None)
+          → MatchBool p ((M : List Mark) × IsMarking M × (meets M (both c d) ≡ true)
+          × (s ≡ forwarded (arrival plan node M (point_of plan node) b))) (s ≡ None)
           → way_if (both c d) s ≡ possible (way_if (both c d) (forwarded o.arrival))
       by false e none = ap (way_if (both c d)) none ∙ sym (shut_way (both c d) (forwarded o.arrival) e)
       by true e h =
@@ -143,14 +145,16 @@ pub possible_of : (plan : Network) (node : ℕ) (b : List ℕ) (c : Condition) (
     → s ≡ Some x → IsPossible c
 possible_of plan node b c s x is at = by (is_possible c) is where
   by : (p : Bool)
-      → MatchBool p ((M : List Mark) × IsMarking M × (meets M c ≡ true) × (s ≡ forwarded (arrival plan node M (point_of plan node) b))) (s ≡ None)
+      → MatchBool p ((M : List Mark) × IsMarking M × (meets M c ≡ true) × (s ≡ forwarded (arrival plan node M (point_of plan node) b)))
+      (s ≡ None)
       → IsPossible c
   by true h = (h.0, h.1, h.2)
   by false none = absurd (off none at) where
     off : s ≡ None → s ≡ Some x → ⊥
     off e f = let g : None ≡ Some x = sym e ∙ f in cc
 
-pub forwarded_as : (plan : Network) (node : ℕ) (b : List ℕ) (c d combined : Condition) (o : Outcome) (s t : Option Sending) → o.condition ≡ d
+pub forwarded_as : (plan : Network) (node : ℕ) (b : List ℕ) (c d combined : Condition) (o : Outcome) (s t : Option Sending)
+    → o.condition ≡ d
     → ((M : List Mark) → Becomes plan node (point_of plan node) b M o) → combined ≡ both c d → IsForwarded plan node b combined s → s ≡ t
     → way_if combined t ≡ possible (forwarded_way c o)
 forwarded_as plan node b c d combined o s t same becomes joined is at =

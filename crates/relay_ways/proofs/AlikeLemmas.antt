@@ -1,5 +1,6 @@
 -- The test of what counts as the expected message says what it tests.
-use Rattle.std.proofs.Common.{◌≡◌, ℕ, Bool, true, false, List, [], Option, Some, None, refl, sym, ◌∙◌, ap, subst, ◌&&◌, ◌⊎◌, inl, inr, ⊎_elim, ◌↔◌}
+use Rattle.std.proofs.Common.{◌≡◌, ℕ, Bool, true, false, List, [], Option, Some, None, refl, sym, ◌∙◌, ap, subst, ◌&&◌, ◌⊎◌, inl, inr}
+use Rattle.std.proofs.Common.{⊎_elim, ◌↔◌}
 use Rattle.std.specs.Prelude.{◌==◌, nat_eq, if◌then◌else◌, unwrap_or, IsSomeAnd, IsTrue}
 use Rattle.std.specs.Cmp.Lexicographic.{pointwise, nat_list_eq_equiv, same_text}
 use Rattle.std.proofs.lemmas.Bool.{and_parts, eqb-true, eq-eqb}
@@ -308,7 +309,12 @@ alike_fields to e s is = record {
 pub numbers_own : (to : ℕ) (e s : Message) → HaveSameFields to e s
     → (code_of e == code_of s && (number_of e == number_of s && same_optional (hops_of e) (hops_of s))) ≡ true
 numbers_own to e s f =
-    rw (eq-eqb (code_of e) (code_of s) f.code, eq-eqb (number_of e) (number_of s) f.number, optional_own (hops_of e) (hops_of s) f.hops) refl
+    rw (
+      eq-eqb (code_of e) (code_of s) f.code,
+      eq-eqb (number_of e) (number_of s) f.number,
+      optional_own (hops_of e)
+          (hops_of s) f.hops,
+    ) refl
 
 -- both have a calling address, and it is the same
 same_both : (o p : Option Address) → IsSomeAnd o (λ x. IsSomeAnd p (λ y. x ≡ y)) → o ≡ p

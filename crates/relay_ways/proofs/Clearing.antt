@@ -32,7 +32,8 @@ cleared_to M pc = by (holds M (PointCode pc)) (holds M (Sccp pc)) where
 
 cleared_back : (M : List Mark) (origin : ℕ) (a : Address) → cleared_way (way_back M origin a) ≡ way_back [] origin a
 cleared_back M origin a = by (not a.by_ssn && is_some (spot_of 0 a)) where
-  by : (b : Bool) → cleared_way (if b then ByTitle else way_to M (unwrap_or a.pc origin)) ≡ (if b then ByTitle else way_to [] (unwrap_or a.pc origin))
+  by : (b : Bool) → cleared_way (if b then ByTitle else way_to M (unwrap_or a.pc origin))
+      ≡ (if b then ByTitle else way_to [] (unwrap_or a.pc origin))
   by true = refl
   by false = cleared_to M (unwrap_or a.pc origin)
 

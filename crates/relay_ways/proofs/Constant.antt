@@ -1,5 +1,6 @@
 -- Under each marking that meets the condition of one of its ways, a node handles octets in the same way.
-use Rattle.std.proofs.Common.{◌≡◌, ℕ, Bool, true, false, cond, List, [], ◌∷◌, ◌++◌, map, Option, Some, None, refl, sym, ◌∙◌, ap, subst, not, ⊎_elim, inl, inr, ◌⊎◌}
+use Rattle.std.proofs.Common.{◌≡◌, ℕ, Bool, true, false, cond, List, [], ◌∷◌, ◌++◌, map, Option, Some, None, refl, sym, ◌∙◌, ap, subst, not}
+use Rattle.std.proofs.Common.{⊎_elim, inl, inr, ◌⊎◌}
 use Rattle.std.specs.Prelude.{◌==◌, if◌then◌else◌, Result, Ok, Err, IfOk}
 use Rattle.std.specs.List.{AllByRecursion, filter, flat_map, list_any}
 use Rattle.std.specs.Option.{option_and_then}
@@ -28,7 +29,8 @@ use Rattle.sccp_scrc.specs.declared.way.Way.TheVariants.{Direct, Shut, ByTitle}
 use Rattle.relay_ways.specs.Conditions.{meets, both, is_possible, always}
 use Rattle.relay_ways.specs.Turns.{Turn, turns_of, without_marks, Makes}
 use Rattle.relay_ways.specs.Sends.{sending, forwarded}
-use Rattle.relay_ways.specs.Outcomes.{Outcome, outcome, at_user, outcomes, outcomes_of, by_address, on_subsystem, is_user, titled, after_turn, cleared, cleared_way, Becomes}
+use Rattle.relay_ways.specs.Outcomes.{Outcome, outcome, at_user, outcomes, outcomes_of, by_address, on_subsystem, is_user, titled}
+use Rattle.relay_ways.specs.Outcomes.{after_turn, cleared, cleared_way, Becomes}
 use Rattle.relay_ways.specs.Ways.{forwarded_way, service_ways, ways_of, way_if, possible, possible_ways, ways, reaches}
 use Rattle.relay_ways.specs.Handling.{target_of, IsTakenBy, spot_read, IsTakenBack, HandlesAs, Handles, HandlesIf, HasCondition}
 use Rattle.relay_ways.specs.declared.condition.Condition.{Condition}
@@ -46,7 +48,8 @@ has_either : (c : Condition) (xs ys : List Way) → HasCondition c (xs ++ ys) �
 has_either c [] ys has = inr has
 has_either c (x ∷ xs) ys has =
     ⊎_elim (λ (e : x.condition ≡ c). inl (inl e))
-    (λ (r : HasCondition c (xs ++ ys)). ⊎_elim (λ (a : HasCondition c xs). inl (inr a)) (λ (b : HasCondition c ys). inr b) (has_either c xs ys r)) has
+    (λ (r : HasCondition c (xs ++ ys)). ⊎_elim (λ (a : HasCondition c xs). inl (inr a)) (λ (b : HasCondition c ys). inr b)
+    (has_either c xs ys r)) has
 
 has_unfiltered : (p : Way → Bool) (c : Condition) (xs : List Way) → HasCondition c (filter p xs) → HasCondition c xs
 has_unfiltered p c [] has = absurd has
@@ -158,7 +161,8 @@ stays_read : (plan : Network) (node origin : ℕ) (r : Result Message DecodeFaul
 stays_read plan node origin (Err fault) L M o s at e l k = λ found is. is
 stays_read plan node origin (Ok m) L M o s at e l k = stays_addressed plan node origin m (called_of m) L M o s at e l k
 
-stays : (plan : Network) (node origin : ℕ) (b : List ℕ) (L M : List Mark) (o : Outcome) (s : Sending) → Among o (outcomes plan node origin b)
+stays : (plan : Network) (node origin : ℕ) (b : List ℕ) (L M : List Mark) (o : Outcome) (s : Sending)
+    → Among o (outcomes plan node origin b)
     → forwarded o.arrival ≡ Some s → meets L o.condition ≡ true → meets M o.condition ≡ true → Stays plan L M (spot_read node (reading b))
 stays plan node origin b L M o s at e l k = stays_read plan node origin (reading b) L M o s at e l k
 
@@ -214,12 +218,14 @@ handled_on : (plan : Network) (node origin : ℕ) (b : List ℕ) (o : Outcome) (
 handled_on plan node origin b o c (Relayed pc octets) L M h at e has l k is = (
   is.0,
   stays plan node origin b L M o (sending pc octets) at (ap forwarded e)
-      (outcome_met plan node o.condition c (Relayed pc octets) L has l) (outcome_met plan node o.condition c (Relayed pc octets) M has k) h.taken is.1,
+      (outcome_met plan node o.condition c (Relayed pc octets) L has l)
+      (outcome_met plan node o.condition c (Relayed pc octets) M has k) h.taken is.1,
 )
 handled_on plan node origin b o c (Ended pc ssn octets) L M h at e has l k is = (
   is.0,
   stays plan node origin b L M o (sending pc octets) at (ap forwarded e)
-      (outcome_met plan node o.condition c (Ended pc ssn octets) L has l) (outcome_met plan node o.condition c (Ended pc ssn octets) M has k) h.taken is.1,
+      (outcome_met plan node o.condition c (Ended pc ssn octets) L has l)
+      (outcome_met plan node o.condition c (Ended pc ssn octets) M has k) h.taken is.1,
 )
 handled_on plan node origin b o c (Local ssn m) L M h at e has l k is = is
 handled_on plan node origin b o c (Returned cause marks None) L M h at e has l k is = is

@@ -1,5 +1,6 @@
 -- The markings that begin one after the other are enough, and fewer are not.
-use Rattle.std.proofs.Common.{◌≡◌, ◌+◌, suc, Bool, true, false, cond, List, [], ◌∷◌, ◌++◌, length, Some, refl, sym, ◌∙◌, ap, subst, not, ◌||◌, arith}
+use Rattle.std.proofs.Common.{◌≡◌, ◌+◌, suc, Bool, true, false, cond, List, [], ◌∷◌, ◌++◌, length, Some, refl, sym, ◌∙◌, ap, subst, not}
+use Rattle.std.proofs.Common.{◌||◌, arith}
 use Rattle.std.specs.Prelude.{◌≤◌, if◌then◌else◌}
 use Rattle.std.specs.List.{All, AllByRecursion, flat_map, list_all, list_any}
 use Rattle.std.proofs.lemmas.Bool.{and_parts, and_from}
@@ -44,7 +45,8 @@ free_allowed free (x ∷ xs) m at = by (holds free x) refl (free_allowed free xs
       off g = cc
     next false f = rest
 
-none_free : (free marks some : List Mark) → ((m : Mark) → holds some m ≡ true → holds free m ≡ true) → held (allowed free marks) some ≡ false
+none_free : (free marks some : List Mark) → ((m : Mark) → holds some m ≡ true → holds free m ≡ true)
+    → held (allowed free marks) some ≡ false
 none_free free marks [] f = refl
 none_free free marks (x ∷ xs) f =
     rw (free_allowed free marks x (f x (or_left (same_mark x x) (holds xs x) (same_mark_equiv.refl x))))

@@ -1,5 +1,6 @@
 -- Of the ways of octets, those that send a message like a given one have the conditions under which the node does.
-use Rattle.std.proofs.Common.{◌≡◌, ℕ, ◌+◌, ◌<◌, zero, suc, Bool, true, false, List, [], ◌∷◌, ◌++◌, length, take, map, Option, Some, None, refl, sym, ◌∙◌, ap, subst, get_or, ◌⊎◌, inl, inr, ⊎_elim, ◌↔◌, ◌||◌, arith}
+use Rattle.std.proofs.Common.{◌≡◌, ℕ, ◌+◌, ◌<◌, zero, suc, Bool, true, false, List, [], ◌∷◌, ◌++◌, length, take, map, Option, Some, None}
+use Rattle.std.proofs.Common.{refl, sym, ◌∙◌, ap, subst, get_or, ◌⊎◌, inl, inr, ⊎_elim, ◌↔◌, ◌||◌, arith}
 use Rattle.std.specs.Prelude.{◌≤◌, IsTrue, IsSome, IsSomeAnd, Result, Ok, Err}
 use Rattle.std.specs.List.{All, AllByRecursion, list_any}
 use Rattle.std.proofs.Math.Seq.{take-suc}

@@ -1,5 +1,6 @@
 -- The outcomes of octets are what becomes of them over all markings.
-use Rattle.std.proofs.Common.{◌≡◌, ℕ, ◌<◌, Bool, true, false, List, [], ◌∷◌, length, map, Option, Some, None, refl, sym, ◌∙◌, ap, subst, not, ◌&&◌, ◌||◌, ⊎_elim, arith}
+use Rattle.std.proofs.Common.{◌≡◌, ℕ, ◌<◌, Bool, true, false, List, [], ◌∷◌, length, map, Option, Some, None, refl, sym, ◌∙◌, ap, subst}
+use Rattle.std.proofs.Common.{not, ◌&&◌, ◌||◌, ⊎_elim, arith}
 use Rattle.std.specs.Prelude.{◌==◌, ◌≤◌, slice_get, get_or, unwrap_or, if◌then◌else◌, Result, Ok, Err, IsSomeAnd}
 use Rattle.std.specs.List.{AllByRecursion, list_any}
 use Rattle.std.proofs.lemmas.Option.{slice_get_cases}
@@ -22,13 +23,15 @@ use Rattle.plan_model.specs.declared.hop.Step.{Step}
 use Rattle.plan_model.specs.Network.{Network, IsPlan}
 use Rattle.plan_model.specs.Steps.{row_for, step}
 use Rattle.plan_model.proofs.Leading.{counting_row}
-use Rattle.sccp_scrc.specs.Arriving.{after_step, at_subsystem, at_title, translated, by_called, of_message, is_last_hop, point_of, subsystems_of}
+use Rattle.sccp_scrc.specs.Arriving.{after_step, at_subsystem, at_title, translated, by_called, of_message, is_last_hop, point_of}
+use Rattle.sccp_scrc.specs.Arriving.{subsystems_of}
 use Rattle.sccp_scrc.specs.Returning.{returned}
 use Rattle.sccp_scrc.specs.Rewriting.{spot_of, title_spot}
 use Rattle.sccp_scrc.specs.declared.arrival.Arrival.{Arrival}
 use Rattle.sccp_scrc.specs.declared.arrival.Arrival.TheVariants.{Local, Management}
 use Rattle.relay_ways.specs.Conditions.{always, meets}
-use Rattle.relay_ways.specs.Outcomes.{Outcome, outcome, after_turn, titled, is_user, at_user, on_subsystem, by_address, outcomes_of, outcomes, cleared, Becomes}
+use Rattle.relay_ways.specs.Outcomes.{Outcome, outcome, after_turn, titled, is_user, at_user, on_subsystem, by_address, outcomes_of}
+use Rattle.relay_ways.specs.Outcomes.{outcomes, cleared, Becomes}
 use Rattle.relay_ways.specs.Turns.{Turn, turns_of, Makes, HasTarget, HasRow}
 use Rattle.relay_ways.proofs.Clearing.{cleared_returned, cleared_step}
 use Rattle.relay_ways.proofs.Stepping.{each_of, one_of}
@@ -131,7 +134,8 @@ row_has node spot (Some r) is e = (All-among IsRule r node.table is.rules (count
 pub has_row : (plan : Network) (spot : Spot) → IsPlan plan → spot.node < length plan.nodes → HasRow plan spot
 has_row plan spot is inside =
     ⊎_elim
-    (λ (at : (x : Node) × (spot.node < length plan.nodes) × (slice_get plan.nodes spot.node ≡ Some x) × (get_or plan.nodes spot.node x ≡ x)).
+    (λ (at : (x : Node) × (spot.node < length plan.nodes) × (slice_get plan.nodes spot.node ≡ Some x)
+    × (get_or plan.nodes spot.node x ≡ x)).
     let found : slice_get plan.nodes spot.node ≡ Some at.0 = at.2 in
     let table : IsTable at.0.table =
     All-among (λ (n : Node). IsTable n.table) at.0 plan.nodes is.tables (Among-slice_get plan.nodes spot.node at.0 found) in
@@ -160,7 +164,8 @@ one_titled plan node origin m a M (Some spot) is inside e =
     any_turned plan node origin m a M (turns_of plan spot)
     ∙ one_of plan spot M (has_row plan spot is (subst (λ n. n < length plan.nodes) (sym at) inside))
 
-one_user : (plan : Network) (node origin : ℕ) (m : Message) (M : List Mark) (ssn : ℕ) → any_outcome M (at_user plan node origin m ssn) ≡ true
+one_user : (plan : Network) (node origin : ℕ) (m : Message) (M : List Mark) (ssn : ℕ)
+    → any_outcome M (at_user plan node origin m ssn) ≡ true
 one_user plan node origin m M ssn = by (holds M (Subsystem (point_of plan node) ssn)) where
   by : (h : Bool) → ((true && not (h || false)) || ((((h || false) && true) && not false) || false)) ≡ true
   by true = refl

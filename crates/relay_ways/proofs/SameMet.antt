@@ -115,7 +115,8 @@ all_withs : (M free : List Mark) (found lists : List (List Mark)) → held M fre
 all_withs M free found [] none = sym (and_all (list_all (held M) found))
 all_withs M free found (l ∷ ls) none =
     all_withs M free (with_list found (allowed free l)) ls none
-    ∙ ap (λ b. b && list_all (held M) ls) (all_with M found (allowed free l) ∙ ap (λ b. list_all (held M) found && b) (held_allowed M free l none))
+    ∙ ap (λ b. b && list_all (held M) ls) (all_with M found (allowed free l)
+    ∙ ap (λ b. list_all (held M) found && b) (held_allowed M free l none))
     ∙ and_assoc (list_all (held M) found) (held M l) (list_all (held M) ls)
 
 pub settled_met : (M : List Mark) (c : Condition) → meets M (settled c) ≡ meets M c

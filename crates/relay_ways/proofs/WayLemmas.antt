@@ -1,5 +1,6 @@
 -- The ways of octets are what the node sends because of them over all markings.
-use Rattle.std.proofs.Common.{◌≡◌, ℕ, ◌<◌, Bool, true, false, cond, List, [], ◌∷◌, ◌++◌, length, Option, Some, None, refl, sym, ◌∙◌, ap, subst, not, ◌&&◌, ◌||◌}
+use Rattle.std.proofs.Common.{◌≡◌, ℕ, ◌<◌, Bool, true, false, cond, List, [], ◌∷◌, ◌++◌, length, Option, Some, None, refl, sym, ◌∙◌, ap}
+use Rattle.std.proofs.Common.{subst, not, ◌&&◌, ◌||◌}
 use Rattle.std.specs.Prelude.{◌==◌, is_some, option_map, if◌then◌else◌, unwrap_or, Result, Ok, Err, IsSome}
 use Rattle.std.specs.List.{AllByRecursion, filter, flat_map, list_any}
 use Rattle.std.specs.Option.{option_map_or, option_and_then}
@@ -20,7 +21,8 @@ use Rattle.plan_model.specs.declared.hop.Step.{Step}
 use Rattle.plan_model.specs.declared.hop.Step.TheVariants as steps
 use Rattle.plan_model.specs.Network.{Network, IsPlan}
 use Rattle.plan_model.specs.Steps.{step}
-use Rattle.sccp_scrc.specs.Arriving.{arrival, after_step, leaving, at_subsystem, translated, by_called, of_message, is_last_hop, point_of, subsystems_of}
+use Rattle.sccp_scrc.specs.Arriving.{arrival, after_step, leaving, at_subsystem, translated, by_called, of_message, is_last_hop, point_of}
+use Rattle.sccp_scrc.specs.Arriving.{subsystems_of}
 use Rattle.sccp_scrc.specs.Returning.{way_to, way_back, asks_for_return, service_message, service_by, returned}
 use Rattle.sccp_scrc.specs.Rewriting.{rewritten, spot_of}
 use Rattle.sccp_scrc.specs.Unitdata.{octets_of}
@@ -135,7 +137,8 @@ fits_leaving plan node M origin m as_octets None same = fits_returned plan node 
 fits_step : (plan : Network) (node : ℕ) (M : List Mark) (origin : ℕ) (m : Message) (a : Address) (s : Step)
     → Fits plan node M (after_step plan node M origin m a s)
 fits_step plan node M origin m a (steps.Sent next target) =
-    fits_leaving plan node M origin m (Relayed (point_of plan next.node)) (octets_of (rewritten a (steps.Sent next target) m)) (λ octets. refl)
+    fits_leaving plan node M origin m (Relayed (point_of plan next.node)) (octets_of (rewritten a (steps.Sent next target) m))
+    (λ octets. refl)
 fits_step plan node M origin m a (steps.Ended pc ssn target) = by (pc == point_of plan node) where
   by : (own : Bool) → Fits plan node M (if own then Local ssn (rewritten a (steps.Ended pc ssn target) m)
       else leaving M origin m (Ended pc ssn) (octets_of (rewritten a (steps.Ended pc ssn target) m)))

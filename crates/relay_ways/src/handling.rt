@@ -6,7 +6,8 @@ ghost use Rattle.plan_model.specs.Steps.{step};
 ghost use Rattle.sccp_message.specs.Unitdata.{called_of};
 ghost use Rattle.sccp_scrc.specs.Rewriting.{spot_of};
 ghost use Rattle.relay_ways.specs.Conditions.{meets};
-ghost use Rattle.relay_ways.specs.Handling.{at_target, target_of, row_at, IsTakenAt, IsTakenBy, IsTaken, IsTakenBack, IsServed, HandlesAs, Handles, HandlesIf};
+ghost use Rattle.relay_ways.specs.Handling.{at_target, target_of, row_at, IsTakenAt, IsTakenBy, IsTaken, IsTakenBack, IsServed, HandlesAs};
+ghost use Rattle.relay_ways.specs.Handling.{Handles, HandlesIf};
 
 use crate::condition::{Condition, least_marking};
 use plan_model::{Plan, Spot, Step, step};

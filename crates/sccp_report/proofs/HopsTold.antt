@@ -150,24 +150,32 @@ line_more plan hop marking r =
     ∙ append_assoc (spot ++ codes " held ") marks (does ++ 10 ∷ r)
     ∙ append_assoc spot (codes " held ") (marks ++ (does ++ 10 ∷ r))
 
-line_parted : (plan : Network) (hop other : Hop) (m n : List Mark) (r s : List ℕ) → IsPlan plan → All (λ node. IsName node.name) plan.nodes
-    → IsHopUnder plan hop m → IsHopUnder plan other n
-    → hop_line plan hop m ++ r ≡ hop_line plan other n ++ s → (hop ≡ other) × (m ≡ n) × (r ≡ s)
-line_parted plan hop other m n r s is names h k e =
-    let a = step_begins plan hop.step names h.stays in
-    let b = step_begins plan other.step names k.stays in
-    let spot = spot_parted plan hop.spot other.spot _ _ names is.names h.spot k.spot (sym (line_more plan hop m r) ∙ e
+-- two lines that are the same have the same title and marks, and go on alike
+pub line_parts : (plan : Network) (hop other : Hop) (m n : List Mark) (r s : List ℕ) → IsPlan plan → All (λ node. IsName node.name) plan.nodes
+    → IsSpotOf plan hop.spot → IsSpotOf plan other.spot → All IsMark m → All IsMark n → StaysIn plan hop.step → StaysIn plan other.step
+    → hop_line plan hop m ++ r ≡ hop_line plan other n ++ s → (hop.spot ≡ other.spot) × (m ≡ n) × (r ≡ s)
+line_parts plan hop other m n r s is names at there marked also stays goes e =
+    let a = step_begins plan hop.step names stays in
+    let b = step_begins plan other.step names goes in
+    let spot = spot_parted plan hop.spot other.spot _ _ names is.names at there (sym (line_more plan hop m r) ∙ e
     ∙ line_more plan other n s) in
     let held = rest_same 32 32 _ _ (rest_same 100 100 _ _ (rest_same 108 108 _ _ (rest_same 101 101 _ _ (rest_same 104 104 _ _ spot.1)))) in
     let begun = sym (ap (λ (w : List ℕ). marks_text m ++ (w ++ 10 ∷ r)) a.1) ∙ held
     ∙ ap (λ (w : List ℕ). marks_text n ++ (w ++ 10 ∷ s)) b.1 in
-    let marks = marks_parted m n (a.0 ++ 10 ∷ r) (b.0 ++ 10 ∷ s) h.marks k.marks begun in
+    let marks = marks_parted m n (a.0 ++ 10 ∷ r) (b.0 ++ 10 ∷ s) marked also begun in
     let ends = parted InLine a.0 b.0 (10 ∷ r) (10 ∷ s) a.2 b.2 (feed_ends r) (feed_ends s) marks.1 in
-    let does : hop.step ≡ other.step = h.does ∙ (λ i. step plan (spot.0 i) (marks.0 i)) ∙ sym k.does in
-    ((λ i. record { spot = spot.0 i; step = does i }), marks.0, rest_same 10 10 r s ends.1)
+    (spot.0, marks.0, rest_same 10 10 r s ends.1)
+
+line_parted : (plan : Network) (hop other : Hop) (m n : List Mark) (r s : List ℕ) → IsPlan plan → All (λ node. IsName node.name) plan.nodes
+    → IsHopUnder plan hop m → IsHopUnder plan other n
+    → hop_line plan hop m ++ r ≡ hop_line plan other n ++ s → (hop ≡ other) × (m ≡ n) × (r ≡ s)
+line_parted plan hop other m n r s is names h k e =
+    let parts = line_parts plan hop other m n r s is names h.spot k.spot h.marks k.marks h.stays k.stays e in
+    let does : hop.step ≡ other.step = h.does ∙ (λ i. step plan (parts.0 i) (parts.1 i)) ∙ sym k.does in
+    ((λ i. record { spot = parts.0 i; step = does i }), parts.1, parts.2)
 
 -- no line is empty
-some_line : (plan : Network) (hop : Hop) (m : List Mark) (r : List ℕ) → hop_line plan hop m ++ r ≡ [] → ⊥
+pub some_line : (plan : Network) (hop : Hop) (m : List Mark) (r : List ℕ) → hop_line plan hop m ++ r ≡ [] → ⊥
 unfolding hop_line spot_text
 some_line plan hop m r e = omega (arith, ap length e)
 

@@ -9,7 +9,6 @@ use Rattle.plan_model.specs.SameNodes.{SameNodes}
 use Rattle.plan_model.specs.declared.kind.Kind.{Kind}
 use Rattle.plan_model.specs.declared.spot.Spot.{Spot}
 use Rattle.plan_model.specs.declared.hop.Hop.{Hop}
-use Rattle.plan_model.specs.declared.hop.Step.{Step}
 use Rattle.plan_model.specs.Network.{Network, IsPlan}
 use Rattle.plan_model.specs.Next.{next_of}
 use Rattle.plan_model.specs.Routes.{StaysIn}
@@ -29,7 +28,7 @@ use Rattle.sccp_report.specs.Changes.{IsMixedHopIn}
 use Rattle.sccp_report.proofs.InPlan.{step_in, route_by_in}
 
 -- a step under either plan stays in the first
-stays_in : (old new : Network) (s : Spot) (turn : Turn) → IsPlan old → IsPlan new → length old.nodes ≡ length new.nodes
+pub stays_in : (old new : Network) (s : Spot) (turn : Turn) → IsPlan old → IsPlan new → length old.nodes ≡ length new.nodes
     → StaysIn old (made old new turn s)
 stays_in old new s turn is also same = by turn.which
   where

@@ -11,4 +11,5 @@ pub mod Parted
 pub mod MarkTexts
 pub mod SpotTexts
 pub mod HopsTold
+pub mod MixedTold
 pub mod Named

@@ -1,14 +1,22 @@
--- What a printed text determines: a point code's text its number, and a route's text its hops and prohibited marks.
+-- What a printed text determines: a point code's text its number, and a route's text its hops and prohibited marks. That of a mixed
+-- route also gives the plan that each relay held.
 use Rattle.std.specs.Prelude.{ℕ, ◌≡◌, ◌<◌, ◌^◌, List, length, take}
 use Rattle.std.specs.List.{All}
 use Rattle.sccp_base.specs.declared.mark.Mark.{Mark}
 use Rattle.sccp_base.specs.Names.{IsName}
+use Rattle.sccp_base.specs.Marks.{IsMarking}
 use Rattle.plan_model.specs.declared.spot.Spot.{Spot}
+use Rattle.plan_model.specs.Covered.{Covered}
 use Rattle.plan_model.specs.Network.{Network, IsPlan}
 use Rattle.plan_model.specs.Routes.{route}
-use Rattle.plan_model.specs.Spots.{IsInRange}
+use Rattle.plan_model.specs.SameNodes.{SameNodes}
+use Rattle.plan_model.specs.Spots.{IsInRange, IsSpotOf}
+use Rattle.plan_change.specs.declared.mixed_hop.MixedHop.{MixedHop}
+use Rattle.plan_change.specs.declared.turn.Turn.{Turn}
+use Rattle.plan_change.specs.Mixture.{mixed, tagged}
 use Rattle.sccp_report.specs.Values.{point_code_text}
 use Rattle.sccp_report.specs.Hops.{hops_text}
+use Rattle.sccp_report.specs.Changes.{mixed_hops_text}
 
 -- no two numbers of up to 64 bits have the same text as point codes, not even numbers that are none
 abbrev pub TextTellsPointCode : Type 0
@@ -22,3 +30,31 @@ TextTellsRoute =
     → IsInRange plan t ns
     → hops_text plan (route plan s ms) ms ≡ hops_text plan (route plan t ns) ns
     → (route plan s ms ≡ route plan t ns) × (take (length (route plan s ms)) ms ≡ take (length (route plan t ns)) ns)
+
+-- each turn has an ascending list of marks of real points, as each value of its type has
+abbrev pub HaveMarkings : List Turn → Type 0
+HaveMarkings = All (λ turn. IsMarking turn.marking)
+
+-- a mixed route whose numbers are in range, as those of a route in `IsInRange`
+pub record IsMixedInRange (old new : Network) (s : Spot) (turns : List Turn) : Type 0 where
+  pub markings : HaveMarkings turns
+  pub spots : All (λ hop. IsSpotOf old hop.spot) (mixed old new s turns)
+
+-- the mixed route of a title that the old plan covers
+abbrev pub MixedRoutesAreInRange : Type 0
+MixedRoutesAreInRange = (old new : Network) (s : Spot) (turns : List Turn) → IsPlan old → IsPlan new → SameNodes old new → Covered old s
+    → HaveMarkings turns → IsMixedInRange old new s turns
+
+-- the hops of the mixed route of a spot, each with the plan that its relay held
+abbrev pub hops_of : Network → Network → Spot → List Turn → List MixedHop
+hops_of old new s turns = tagged (mixed old new s turns) turns
+
+-- Two mixed routes of two plans of the same nodes that are printed alike, with numbers in range, are the same hops under the same
+-- turns.
+abbrev pub TextTellsMixedRoute : Type 0
+TextTellsMixedRoute =
+    (old new : Network) (s t : Spot) (us vs : List Turn) → IsPlan old → IsPlan new → SameNodes old new
+    → All (λ node. IsName node.name) old.nodes → IsMixedInRange old new s us → IsMixedInRange old new t vs
+    → mixed_hops_text old (hops_of old new s us) us ≡ mixed_hops_text old (hops_of old new t vs) vs
+    → (hops_of old new s us ≡ hops_of old new t vs)
+    × (take (length (hops_of old new s us)) us ≡ take (length (hops_of old new t vs)) vs)

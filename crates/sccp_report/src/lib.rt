@@ -13,7 +13,8 @@
 //! before a title of a cover is stopped, and shows a stopped title. These texts are exactly those of `specs/Hops`,
 //! `specs/PlanFaults`, `specs/Verdicts`, `specs/Covers`, `specs/Surveys` and `specs/Margins`. The text of a route's hops determines
 //! the hops (`text_tells_route`), and that of a point code the number (`text_tells_point_code`). `change_text` says whether relays
-//! may hold either of two plans, and shows the mixed route, exactly as in `specs/Changes`.
+//! may hold either of two plans, and shows the mixed route, exactly as in `specs/Changes`. The text of that route determines it too
+//! (`text_tells_mixed_route`).
 //!
 //! `role_of` says what a line of a trace is to a replay (`specs/Roles`). `served_text` gives the text of a message that
 //! was routed (`specs/Served`), and `event_text` that of any other line but a later plan (`specs/Events`). `put_served`
@@ -53,7 +54,7 @@ pub use cuts::cuts_text;
 pub use event::{event_text, put_event};
 pub use fields::put_cause;
 pub use hop::hops_text;
-pub use laws::{text_tells_point_code, text_tells_route};
+pub use laws::{text_tells_mixed_route, text_tells_point_code, text_tells_route};
 pub use limits::too_long_text;
 pub use margin::{margin_text, points_lost};
 pub use plan_fault::plan_fault_text;

@@ -13,4 +13,5 @@ pub returns-in_ok-target-in-Some : goal.returns-in_ok-target-in-Some
 returns-in_ok-target-in-Some c =
     subst (IsTakenAt c.args.plan.now c.args.spot.now c.args.marking.now) (sym c.taken_of.ensures)
     (taken_some c.args.plan.now c.args.spot.now c.args.marking.now c.in-Some.row c.in_ok-target-in-Some.target
-    (sym (ap (option_and_then (row_at c.args.plan.now c.args.spot.now.node)) c.in-Some.is) ∙ c.row_place.ensures) c.in_ok-target-in-Some.ensures)
+    (sym (ap (option_and_then (row_at c.args.plan.now c.args.spot.now.node)) c.in-Some.is)
+    ∙ c.row_place.ensures) c.in_ok-target-in-Some.ensures)
