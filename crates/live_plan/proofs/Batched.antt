@@ -5,17 +5,13 @@ use Rattle.std.specs.Prelude.{IfSome, IsSomeAnd, IfOk}
 use Rattle.std.proofs.Math.Nat.{mod-lt, div-mul-le_self}
 use Rattle.std.proofs.lemmas.Nat.{div-add-mod', le-div}
 use Rattle.std.proofs.lemmas.Option.{slice_get_within}
-use mathlib.Core.List.{IsPrefix}
 use Rattle.plan_check.specs.Verified.{Verified}
 use Rattle.relay_net.specs.declared.job.Job.{Job}
 use Rattle.relay_net.specs.States.{State}
 use Rattle.relay_net.specs.declared.served.Served.{Served}
 use Rattle.live_plan.specs.declared.place.Place.{Ghosts}
 use Rattle.live_plan.specs.declared.worker.Worker.{Worker}
-use Rattle.live_plan.specs.Batches.{AllPairs, AreServed, Follows, Lasts, Counted, KeepsAll, HasServed, IsByEvents}
-use Rattle.live_plan.specs.Entries.{entry_plan}
-use Rattle.live_plan.proofs.Machines.{number_at, batch_leads}
-use Rattle.live_plan.proofs.Passed.{has_within}
+use Rattle.live_plan.specs.Batches.{AreServed, Follows, Lasts, Counted, KeepsAll, HasServed}
 use Rattle.live_plan.proofs.Shares.{rose_less, goes_same, lasts_trans, counted_same}
 
 pub first_item : {A : Type 0} (xs : List A) → 0 < length xs → A
@@ -100,20 +96,6 @@ module _ {P : Type 0} {g : Ghosts P} where
 
     pub follows_through : (plans : List Verified) → Follows plans v → Follows plans x
     follows_through plans f = (goes_same v w x h.goes_on k).follows plans f
-
-  -- what workers keep after a batch is what they learned in it
-  pub by_events : (before after : List Verified) (ws ws' : List (Worker P g)) → IsPrefix before after
-      → AllPairs (Lasts (length before)) ws ws' → ((i : ℕ) (d : Worker P g) → i < length ws → Follows after (get_or ws' i d))
-      → IsByEvents before after ws ws'
-  by_events before after ws ws' begins lasts follows valid =
-      batch_leads (λ (w : Worker P g). w.kept.number) before after ws ws' begins lasts.long
-      (λ i d lt.
-      let low : (get_or ws i d).kept.number ≤ length before =
-      subst (λ n. n ≤ length before) (number_at (λ (w : Worker P g). w.kept.number) ws i d lt) (valid i) in (
-        (lasts.each i d lt).number low,
-        has_within after (get_or ws' i d).kept.number (entry_plan (get_or ws' i d).kept)
-            (follows i d lt).has,
-      ))
 
 pub both_ok : {A E : Type 0} (P Q : A → Type 0) (r : Result A E) → IfOk r P → IfOk r Q → IfOk r (λ x. P x × Q x)
 both_ok P Q (Ok x) p q = (p, q)

@@ -30,11 +30,13 @@ follows_at (Some l) plans n n' seen p p' m same told has = subst (λ x. HasPlan 
 module _ {P : Type 0} {g : Ghosts P} where
   pub goes_on : (w w' : Worker P g) → w'.index ≡ w.index → g.nodes w'.place ≡ g.nodes w.place → g.plans w'.place ≡ g.plans w.place
       → (g.entries w.place ≤ g.entries w'.place) × (g.refusals w.place ≤ g.refusals w'.place)
-      → w.kept.number ≤ w'.kept.number → IfSome (g.plans w'.place) (λ l. (w'.kept.number ≡ g.seen w'.place)
+      → w.kept.number ≤ w'.kept.number → g.seen w.place ≤ g.seen w'.place
+      → IfSome (g.plans w'.place) (λ l. (w'.kept.number ≡ g.seen w'.place)
       × HasPlan l w'.kept.number (entry_plan w'.kept)) → (g.plans w.place ≡ None → w'.kept ≡ w.kept) → GoesOn w w'
-  goes_on w w' index nodes plans counts rises told untold = record {
+  goes_on w w' index nodes plans counts rises seen told untold = record {
     lasts = λ n. record { index = index; nodes = nodes; entries = counts.0; refusals = counts.1; number = λ le. rises };
     rises = rises;
+    seen = seen;
     follows = λ l f. record {
       told = subst (λ o. ForSome o (λ x. x ≡ l)) (sym plans) f.told;
       has = follows_at (g.plans w'.place) l w.kept.number w'.kept.number (g.seen w'.place) (entry_plan w.kept) (entry_plan w'.kept) told
@@ -57,6 +59,7 @@ module _ {P : Type 0} {g : Ghosts P} where
   goes_trans u v w p q = record {
     lasts = λ n. lasts_trans n u v w (p.lasts n) q;
     rises = le_trans p.rises q.rises;
+    seen = le_trans p.seen q.seen;
     follows = λ l f. q.follows l (p.follows l f);
   }
 
@@ -113,6 +116,7 @@ module _ {P : Type 0} {g : Ghosts P} where
           number = λ le. rw (k.kept) (l.number le);
         };
     rises = rw (k.kept) p.rises;
+    seen = rw (k.place) p.seen;
     follows = λ l f.
         let b = p.follows l f in record {
           told = rw (k.place) b.told;

@@ -1,6 +1,8 @@
 -- What a batch of jobs leads to.
-use Rattle.std.specs.Prelude.{◌≡◌, ◌⊎◌, ℕ, ◌+◌, ◌*◌, ◌%◌, ◌<◌, ◌≤◌, List, length, map, slice_get, slice_index_or, Some, IfSome}
+use Rattle.std.specs.Prelude.{◌≡◌, ◌⊎◌, ℕ, ◌+◌, ◌*◌, ◌%◌, ◌<◌, ◌≤◌, List, length, map, slice_get, slice_index_or, Option, Some, None}
+use Rattle.std.specs.Prelude.{IfSome}
 use Rattle.std.specs.Option.{ForSome}
+use mathlib.Core.List.{IsPrefix}
 use Rattle.plan_check.specs.Verified.{Verified}
 use Rattle.relay_net.specs.declared.job.Job.{Job}
 use Rattle.relay_net.specs.States.{State}
@@ -9,7 +11,7 @@ use Rattle.live_plan.specs.declared.place.Place.{Ghosts}
 use Rattle.live_plan.specs.declared.worker.Worker.{Worker}
 use Rattle.live_plan.specs.Entries.{entry_plan}
 use Rattle.live_plan.specs.Machine.{Machine, IsValid, LeadsTo}
-use Rattle.live_plan.specs.Plans.{Rose, HasPlan}
+use Rattle.live_plan.specs.Plans.{Rose, HasPlan, pass_of}
 use Rattle.live_plan.specs.Routed.{journey_under}
 
 -- the job's journey under the plan of the number, in this list
@@ -55,10 +57,32 @@ module _ {P : Type 0} {g : Ghosts P} where
     pub refusals : g.refusals w.place ≤ g.refusals w'.place
     pub number : w.kept.number ≤ n → w.kept.number ≤ w'.kept.number
 
+  -- what the worker has seen of the plans, if its place reports them
+  abbrev pub pass_at : Worker P g → Option (List Verified)
+  pass_at w = pass_of (g.plans w.place) (g.seen w.place)
+
+  -- A worker that saw no more than the plans before sees no more than those after, and begins with what it had seen. The same is said
+  -- of its number: it has not fallen, and is that of a plan that is published.
+  pub record SeesMore (before after : List Verified) (w w' : Worker P g) : Type 0 where
+    pub within : ForSome (pass_at w) (λ seen. IsPrefix seen before) → ForSome (pass_at w') (λ seen. IsPrefix seen after)
+    pub begins : ForSome (pass_at w) (λ seen. IsPrefix seen before → ForSome (pass_at w') (λ more. IsPrefix seen more))
+    pub rises : w.kept.number ≤ length before → w.kept.number ≤ w'.kept.number
+    pub most : w.kept.number ≤ length before → w'.kept.number ≤ length after
+
+  -- a worker keeps the plan of this number, and its place reports no plans
+  pub record Rests (n : ℕ) (w w' : Worker P g) : Type 0 where
+    pub index : w'.index ≡ w.index
+    pub nodes : g.nodes w'.place ≡ g.nodes w.place
+    pub entries : g.entries w.place ≤ g.entries w'.place
+    pub refusals : g.refusals w.place ≤ g.refusals w'.place
+    pub number : w'.kept.number ≡ n
+    pub untold : g.plans w'.place ≡ None
+
   -- what a worker is after one job
   pub record GoesOn (w w' : Worker P g) : Type 0 where
     pub lasts : (n : ℕ) → Lasts n w w'
     pub rises : w.kept.number ≤ w'.kept.number
+    pub seen : g.seen w.place ≤ g.seen w'.place
     pub follows : (plans : List Verified) → Follows plans w → Follows plans w'
 
   -- its place counted an entry or a refusal
@@ -91,7 +115,7 @@ module _ {P : Type 0} {g : Ghosts P} where
   machine_of plans workers = record { plans = plans; numbers = map (λ w. w.kept.number) workers }
 
   -- If no worker kept a plan with a higher number than the last one's, the batch is a list of events. Publications, and
-  -- workers that learn of them, lead from the plans and numbers before to those after.
+  -- workers that learn of them, lead from the plans and numbers before to those after. So none has one afterwards either.
   abbrev pub IsByEvents : List Verified → List Verified → List (Worker P g) → List (Worker P g) → Type 0
   IsByEvents before after workers workers' = IsValid (machine_of before workers)
       → LeadsTo (machine_of before workers) (machine_of after workers')

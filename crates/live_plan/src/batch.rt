@@ -1,9 +1,10 @@
 //! A batch of jobs, during which plans are published.
-ghost use Rattle.std.specs.Prelude.{◌≡◌, ℕ, ◌+◌, ◌^◌, ◌<◌, ◌≤◌, ◌++◌, List, All, length, slice_index_or, IfOk, OnOk};
+ghost use Rattle.std.specs.Prelude.{◌≡◌, ℕ, ◌+◌, ◌^◌, ◌<◌, ◌≤◌, ◌++◌, List, All, length, slice_index_or, IfOk, OnOk, OnErr};
 ghost use Rattle.std.specs.Thread.{IsSync};
 ghost use mathlib.Core.List.{IsPrefix};
-ghost use Rattle.live_plan.specs.Plans.{HaveNodes};
-ghost use Rattle.live_plan.specs.Batches.{AllPairs, AreServed, Counted, Follows, HasServed, IsByEvents, Lasts};
+ghost use Rattle.std.specs.Arc.{arc_value};
+ghost use Rattle.live_plan.specs.Plans.{HaveNodes, nodes_of};
+ghost use Rattle.live_plan.specs.Batches.{AllPairs, AreServed, Counted, Follows, HasServed, IsByEvents, Lasts, Rests, SeesMore};
 ghost use Rattle.live_plan.specs.Publishing.{HasPublished};
 ghost use Rattle.live_plan.specs.Tellers.{told_by, plans_of, due_of};
 
@@ -12,6 +13,7 @@ use crate::collecting::collect;
 use crate::gate::Gate;
 use crate::live_place::LivePlace;
 use crate::publishing::publish_all;
+use crate::resting::{rest_all, spare_plans};
 use crate::share::keep_share;
 use crate::side_by_side::for_each_beside;
 use crate::teller::Teller;
@@ -21,7 +23,7 @@ use relay_net::{Job, NodeState, Served};
 use sccp_base::{List, OutOfMemory};
 use std::alloc::Global;
 use std::collections::VecDeque;
-use std::sync::Wait;
+use std::sync::{Arc, Wait};
 use std::thread;
 use std::thread::Threads;
 
@@ -100,6 +102,45 @@ fn serve_beside<R: Threads + Wait + Sync, G: Gate + Sync>(
     published
 }
 
+// The same. If memory was lacking for a plan, each worker rests with the last plan from before the batch: no clause says that what it
+// has seen meanwhile is still published.
+fn serve_or_rest<R: Threads + Wait + Sync, G: Gate + Sync>(
+    rt: &R,
+    alloc: Global,
+    threads: usize,
+    states: &[NodeState],
+    jobs: &[Job],
+    gate: &G,
+    teller: &mut Teller,
+    plans: &mut VecDeque<Accepted>,
+    workers: &mut [Worker<LivePlace>],
+    spares: Vec<Arc<Arc<Accepted>>>,
+) -> Result<(), OutOfMemory>
+    requires threads { 0 < threads }
+    requires due { due_of teller.old ≡ plans_of teller.old ++ plans.old.items }
+    requires count { (0 < length workers.old) × (length workers.old ≤ 16) }
+    requires states { All (λ w. w.place.nodes ≡ length states.now) workers.old }
+    requires entries { All (λ job. job.entry < length states.now) jobs.now }
+    requires enough { length workers.old ≤ length spares.items }
+    requires spares { All (λ plan. nodes_of (arc_value (arc_value plan)) ≡ length states.now) spares.items }
+    ensures published { HasPublished teller.old teller.new result }
+    ensures served { OnOk result ((i : ℕ) (d : _) → i < length workers.old
+        → HasServed states.now jobs.now (length workers.old) i (slice_index_or workers.old i d) (slice_index_or workers.new i d)) }
+    ensures rests { OnErr result ((i : ℕ) (d : _) → i < length workers.old
+        → Rests (length (plans_of teller.old)) (slice_index_or workers.old i d) (slice_index_or workers.new i d)) }
+{
+    let number = teller.number();
+    match serve_beside(
+        rt, alloc, threads, states, jobs, gate, teller, plans, workers,
+    ) {
+        Ok(()) => Ok(()),
+        Err(OutOfMemory) => {
+            rest_all(workers, number, spares);
+            Err(OutOfMemory)
+        }
+    }
+}
+
 // The number of threads that the jobs are worth, and at most that of shares and of processors. Four jobs are worth a second
 // one.
 fn threads_for<R: Threads>(rt: &R, teller: &mut Teller, shares: usize, jobs: usize) -> usize
@@ -142,14 +183,16 @@ fn serve_batch<R: Threads + Wait + Sync, G: Gate + Sync>(
     ensures follows { OnOk result ((i : ℕ) (d : _) → i < length workers.old
         → Follows (plans_of teller.new) (slice_index_or workers.new i d)) }
     ensures lasts { AllPairs (Lasts (length (plans_of teller.old))) workers.old workers.new }
+    ensures sees { AllPairs (SeesMore (plans_of teller.old) (plans_of teller.new)) workers.old workers.new }
     ensures begins { IsPrefix (plans_of teller.old) (plans_of teller.new) }
     ensures within { IsPrefix (plans_of teller.new) (due_of teller.old) }
     ensures nodes { teller.new.nodes ≡ teller.old.nodes }
 {
     brief_all(workers, teller)?;
+    let spares = spare_plans(alloc, teller, workers.len())?;
     let threads = threads_for(rt, teller, workers.len(), jobs.len());
-    serve_beside(
-        rt, alloc, threads, states, jobs, gate, teller, plans, workers,
+    serve_or_rest(
+        rt, alloc, threads, states, jobs, gate, teller, plans, workers, spares,
     )?;
     collect(alloc, jobs.len(), workers)
 }
@@ -161,7 +204,11 @@ fn serve_batch<R: Threads + Wait + Sync, G: Gate + Sync>(
 /// its relays under one plan: the last one from before the batch, or one that is published in it. In a share no earlier plan
 /// follows.
 ///
-/// The only error is lack of memory. Then some of the plans may be published, the first ones, and jobs may have been served.
+/// What a worker sees of the published plans begins with what it saw before, and the number of its plan does not fall. That is so
+/// after an error too.
+///
+/// The only error is lack of memory. Then some of the plans may be published, the first ones, and jobs may have been served. If
+/// not all of them are published, the workers keep the last plan from before the batch.
 pub fn run_batch<R: Threads + Wait + Sync, G: Gate + Sync>(
     rt: &R,
     alloc: Global,
@@ -186,7 +233,8 @@ pub fn run_batch<R: Threads + Wait + Sync, G: Gate + Sync>(
     ensures follows { OnOk result ((i : ℕ) (d : _) → i < length workers.old
         → Follows (plans_of teller.new) (slice_index_or workers.new i d)) }
     ensures lasts { AllPairs (Lasts (length (plans_of teller.old))) workers.old workers.new }
-    ensures events { OnOk result (IsByEvents (plans_of teller.old) (plans_of teller.new) workers.old workers.new) }
+    ensures sees { AllPairs (SeesMore (plans_of teller.old) (plans_of teller.new)) workers.old workers.new }
+    ensures events { IsByEvents (plans_of teller.old) (plans_of teller.new) workers.old workers.new }
     ensures begins { IsPrefix (plans_of teller.old) (plans_of teller.new) }
     ensures within { IsPrefix (plans_of teller.new) (plans_of teller.old ++ plans) }
     ensures nodes { teller.new.nodes ≡ teller.old.nodes }

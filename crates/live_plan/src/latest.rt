@@ -1,7 +1,7 @@
 //! A batch without further plans, under the last plan.
 ghost use Rattle.std.specs.Prelude.{◌≡◌, ◌+◌, ◌^◌, ◌<◌, ◌≤◌, ◌++◌, All, length, IfOk, OnOk};
 ghost use mathlib.Core.List.{IsPrefix};
-ghost use Rattle.live_plan.specs.Batches.{AllPairs, AreServed, IsByEvents, Lasts};
+ghost use Rattle.live_plan.specs.Batches.{AllPairs, AreServed, IsByEvents, Lasts, SeesMore};
 ghost use Rattle.live_plan.specs.Plans.{HaveNodes};
 ghost use Rattle.live_plan.specs.Tellers.{told_by, plans_of};
 
@@ -78,7 +78,8 @@ pub fn serve_jobs<R: Threads + Wait + Sync, G: Gate + Sync>(
     ensures served { IfOk result (λ answers. AreServed (plans_of teller.new) states.now jobs.now (length workers.old)
         (length (plans_of teller.old)) answers) }
     ensures lasts { AllPairs (Lasts (length (plans_of teller.old))) workers.old workers.new }
-    ensures events { OnOk result (IsByEvents (plans_of teller.old) (plans_of teller.new) workers.old workers.new) }
+    ensures sees { AllPairs (SeesMore (plans_of teller.old) (plans_of teller.new)) workers.old workers.new }
+    ensures events { IsByEvents (plans_of teller.old) (plans_of teller.new) workers.old workers.new }
     ensures begins { IsPrefix (plans_of teller.old) (plans_of teller.new) }
     ensures within { IsPrefix (plans_of teller.new) (plans_of teller.old ++ plans) }
     ensures nodes { teller.new.nodes ≡ teller.old.nodes }

@@ -30,6 +30,7 @@ mod nodes;
 mod place;
 mod published;
 mod publishing;
+mod resting;
 mod rule;
 mod setting;
 mod share;

@@ -127,6 +127,16 @@ impl LivePlace {
         self.batch = teller.batch();
         self.reader = teller.reader();
     }
+
+    /// Gives up its reader: it reports no plans until it is briefed again.
+    pub(crate) fn leave(&mut self)
+        ensures plans { self.new.reader ≡ None }
+        ensures nodes { self.new.nodes ≡ self.old.nodes }
+        ensures counts { (self.new.entries ≡ self.old.entries) × (self.new.refusals ≡ self.old.refusals) }
+    {
+        self.reader = None;
+        self.own = None;
+    }
 }
 
 impl Place for LivePlace {

@@ -3,9 +3,11 @@ use Rattle.std.specs.Prelude.{IfOk}
 use mathlib.Core.List.{IsPrefix}
 use Rattle.plan_check.specs.Verified.{Verified}
 use Rattle.relay_net.specs.declared.job.Job.{Job}
-use Rattle.live_plan.specs.Batches.{AllPairs, AreServed, Counted, Follows, Lasts}
+use Rattle.live_plan.specs.Batches.{AllPairs, AreServed, Counted, Follows, Lasts, SeesMore}
 use Rattle.live_plan.specs.Tellers.{plans_of}
-use Rattle.live_plan.proofs.Batched.{by_events, if_ok, whole_back}
+use Rattle.live_plan.proofs.Batched.{if_ok, whole_back}
+use Rattle.live_plan.proofs.Passes.{all_same, by_events}
+use Rattle.live_plan.proofs.Prefixes.{prefix_self}
 use Rattle.live_plan.proofs.batch.run_batch.Goals as goal
 
 pub returns-clause-published : goal.returns-clause-published
@@ -69,9 +71,31 @@ pub returns-clause-within : goal.returns-clause-within
 returns-clause-within g c = subst (λ (l : List Verified). IsPrefix
     (plans_of c.serve_batch.new.teller) l) c.in_ok-begin.ensures.due c.serve_batch.ensures.within
 
+pub returns-clause-sees : goal.returns-clause-sees
+returns-clause-sees g c =
+    let before = c.args.workers.now in
+    let after = c.serve_batch.new.workers in
+    let plans : plans_of c.begin.new.self ≡ plans_of c.args.teller.now = c.begin.ensures.plans in
+    let published = plans_of c.serve_batch.new.teller in
+    let same : c.as_mut_slice.result.now ≡ before = c.as_mut_slice.ensures.value in
+    let back : take (length before) (after ++ drop (length after) before) ≡ after =
+    whole_back before after (c.serve_batch.ensures.lasts.long ∙ ap length same) in
+    let sees = subst (λ (ws : List _). AllPairs (SeesMore (plans_of c.begin.new.self) published) ws after) same c.serve_batch.ensures.sees in
+    subst (λ (ws : List _). AllPairs (SeesMore (plans_of c.args.teller.now) published) before ws) (sym back)
+    (subst (λ (l : List Verified). AllPairs (SeesMore l published) before after) plans sees)
+
 pub returns-clause-events : goal.returns-clause-events
 returns-clause-events g c =
-    if_ok _ _ c.serve_batch.result
-    (λ answers follows. by_events (plans_of c.args.teller.now) (plans_of c.serve_batch.new.teller) c.args.workers.now _
-    (returns-clause-begins g c) (returns-clause-lasts g c) follows)
-    (returns-clause-follows g c)
+    by_events (plans_of c.args.teller.now) (plans_of c.serve_batch.new.teller) c.args.workers.now _
+    (returns-clause-begins g c) (returns-clause-sees g c)
+
+pub returns-in_err-begin-clause-sees : goal.returns-in_err-begin-clause-sees
+returns-in_err-begin-clause-sees g c =
+    subst (λ (l : List Verified). AllPairs (SeesMore (plans_of c.args.teller.now) l) c.args.workers.now c.args.workers.now)
+    (sym c.begin.ensures.plans) (all_same (plans_of c.args.teller.now) c.args.workers.now)
+
+pub returns-in_err-begin-clause-events : goal.returns-in_err-begin-clause-events
+returns-in_err-begin-clause-events g c =
+    by_events (plans_of c.args.teller.now) (plans_of c.begin.new.self) c.args.workers.now c.args.workers.now
+    (subst (IsPrefix (plans_of c.args.teller.now)) (sym c.begin.ensures.plans) (prefix_self (plans_of c.args.teller.now)))
+    (returns-in_err-begin-clause-sees g c)

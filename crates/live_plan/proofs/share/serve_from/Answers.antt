@@ -20,7 +20,7 @@ pub returns-in_err-served-clause-goes_on : goal.returns-in_err-served-clause-goe
 returns-in_err-served-clause-goes_on g c =
     let s = c.serve.ensures in
     goes_trans c.args.worker.now c.loop-at.worker c.serve.new.self c.loop-at.invariant.1
-    (goes_on c.loop-at.worker c.serve.new.self s.index s.nodes s.plans s.counts s.rises s.told s.untold)
+    (goes_on c.loop-at.worker c.serve.new.self s.index s.nodes s.plans s.counts s.rises s.seen s.told s.untold)
 
 pub returns-in_err-served-clause-counted : goal.returns-in_err-served-clause-counted
 returns-in_err-served-clause-counted g c lt =
@@ -30,7 +30,7 @@ pub returns-in_err-push_back-clause-goes_on : goal.returns-in_err-push_back-clau
 returns-in_err-push_back-clause-goes_on g c =
     let s = c.serve.ensures in
     goes_trans c.args.worker.now c.loop-at.worker c.serve.new.self c.loop-at.invariant.1
-    (goes_on c.loop-at.worker c.serve.new.self s.index s.nodes s.plans s.counts s.rises s.told s.untold)
+    (goes_on c.loop-at.worker c.serve.new.self s.index s.nodes s.plans s.counts s.rises s.seen s.told s.untold)
 
 pub returns-in_err-push_back-clause-counted : goal.returns-in_err-push_back-clause-counted
 returns-in_err-push_back-clause-counted g c lt =
@@ -41,7 +41,7 @@ loop-at-preserved g c =
     let s = c.serve.ensures in
     let before = c.loop-at.worker in
     let now = c.serve.new.self in
-    let one : GoesOn before now = goes_on before now s.index s.nodes s.plans s.counts s.rises s.told s.untold in
+    let one : GoesOn before now = goes_on before now s.index s.nodes s.plans s.counts s.rises s.seen s.told s.untold in
     let answers = c.loop-at.answers.items in
     let served : Served = c.in_ok-served.served in
     let longer : c.push_back.new.self.items ≡ answers ++ served ∷ [] = search rules in
