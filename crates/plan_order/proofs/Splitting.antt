@@ -49,6 +49,18 @@ fewer_left left (n ∷ step) among some =
     let more = has_one (filter (is_in (n ∷ step)) left) n one in
     omega (arith, both, more)
 
+-- the same of lists that are known by equations
+pub split_to : (old new : Network) (done left step further rest : List ℕ) → further ≡ done ++ step → rest ≡ without left step
+    → IsSplit old new done left → All (λ node. IsTrue (is_in left node)) step → IsSplit old new further rest
+split_to old new done left step further rest e f split among =
+    subst (λ (d : List ℕ). IsSplit old new d rest) (sym e)
+    (subst (IsSplit old new (done ++ step)) (sym f) (split_after old new done left step split among))
+
+pub fewer_to : (left step rest : List ℕ) → rest ≡ without left step → All (λ node. IsTrue (is_in left node)) step → 0 < length step
+    → length rest < length left
+fewer_to left step rest e among some =
+    subst (λ (s : List ℕ). length s < length left) (sym e) (fewer_left left step among some)
+
 -- the relays of all steps are left
 pub all_left : (left : List ℕ) (sets : List (List ℕ)) → AreAmong left sets → (n : ℕ) → is_in (concat sets) n ≡ true → is_in left n ≡ true
 all_left left [] among n h = absurd (false≢true h)

@@ -1,5 +1,5 @@
 //! Where the steps end, if there is no order.
-ghost use Rattle.std.specs.Prelude.{ℕ, ◌≡◌, ◌∷◌, [], ⊥, List, IfOk, IfNone, IfSome};
+ghost use Rattle.std.specs.Prelude.{ℕ, ◌≡◌, ◌∷◌, [], List, IfOk, IfNone, IfSome};
 ghost use Rattle.std.specs.List.{All, concat};
 ghost use Rattle.plan_model.specs.SameNodes.{SameNodes};
 ghost use Rattle.plan_mixed.specs.Mixed.{MixedReachAtLeast};
