@@ -4,8 +4,8 @@ use Rattle.plan_model.specs.Network.{Network}
 use Rattle.plan_model.specs.SameNodes.{SameNodes}
 use Rattle.plan_order.specs.Orders.{IsLawfulOrder}
 use Rattle.plan_order.specs.Steps.{sets_of}
-use Rattle.plan_order.specs.declared.order.Order.{Order}
-use Rattle.plan_order.specs.declared.order.Order.TheVariants.{Steps, NoOrder, Undecided}
+use Rattle.plan_order.specs.declared.answer.Order.{Order}
+use Rattle.plan_order.specs.declared.answer.Order.TheVariants.{Steps, NoOrder, Undecided}
 use Rattle.sccp_io.specs.Files.{Contents}
 use Rattle.order_report.specs.Orders.{order_text}
 use Rattle.sccp_tool.specs.Order.{order_status, ordered_work, IsOrderGiven, HasOrder, HasNoOrder, IsUndecided}

@@ -8,7 +8,7 @@ use Rattle.plan_margin.specs.declared.margin.Margin.{Margin}
 use Rattle.plan_model.specs.Network.{Network, IsPlan}
 use Rattle.plan_model.specs.SameNodes.{SameNodes}
 use Rattle.plan_order.specs.Orders.{IsLawfulOrder}
-use Rattle.plan_order.specs.declared.order.Order.{Order}
+use Rattle.plan_order.specs.declared.answer.Order.{Order}
 use Rattle.plan_unused.specs.Surveys.{IsLawfulSurvey}
 use Rattle.plan_unused.specs.declared.survey.Survey.{Survey}
 use Rattle.plan_verify.specs.Lawful.{IsLawful}
