@@ -2,3 +2,4 @@
 pub mod Sets
 pub mod Steps
 pub mod Orders
+pub mod Searching

@@ -9,8 +9,8 @@ use Rattle.plan_change.specs.declared.answer.Change.TheVariants.{Kept, Broken, T
 use Rattle.plan_change.specs.Mixture.{BadUnder}
 use Rattle.plan_order.specs.declared.safe_step.SafeStep.{SafeStep}
 use Rattle.plan_order.specs.declared.stuck.Stuck.{Stuck}
-use Rattle.plan_order.specs.declared.order.Order.{Order}
-use Rattle.plan_order.specs.declared.order.Order.TheVariants.{Steps, NoOrder, Undecided}
+use Rattle.plan_order.specs.declared.answer.Order.{Order}
+use Rattle.plan_order.specs.declared.answer.Order.TheVariants.{Steps, NoOrder, Undecided}
 use Rattle.plan_order.specs.Sets.{is_in, SameSet, Differs}
 use Rattle.plan_order.specs.Steps.{during, IsSafeStep, AreSteps, sets_of}
 

@@ -6,14 +6,26 @@
 //! on each answer: an order is one, and if none is given there is none.
 #![tactic(auto)]
 
+mod answer;
+mod found;
+mod growing;
+mod known;
 mod laws;
-mod order;
-mod ordering;
-mod safe_step;
-mod stuck;
 
+mod ordering;
+mod outcome;
+mod plans;
+mod rows;
+mod safe_step;
+mod seeking;
+mod sets;
+mod stopping;
+mod stuck;
+mod trying;
+
+pub use answer::Order;
 pub use laws::orders_turn_back;
-pub use order::Order;
+
 pub use ordering::order;
 pub use plan_change::ChangeFault;
 pub use safe_step::SafeStep;
