@@ -5,8 +5,8 @@ use Rattle.std.proofs.Common.{subst}
 use Rattle.plan_model.specs.Network.{Network}
 use Rattle.plan_order.specs.Orders.{IsLawfulOrder, IsLawfulRefusal}
 use Rattle.plan_order.specs.Steps.{during, sets_of}
-use Rattle.plan_order.specs.declared.order.Order.{Order}
-use Rattle.plan_order.specs.declared.order.Order.TheVariants.{NoOrder}
+use Rattle.plan_order.specs.declared.answer.Order.{Order}
+use Rattle.plan_order.specs.declared.answer.Order.TheVariants.{NoOrder}
 use Rattle.plan_order.specs.declared.safe_step.SafeStep.{SafeStep}
 use Rattle.plan_order.specs.declared.stuck.Stuck.{Stuck}
 use Rattle.order_report.specs.Retold.{IsShownBad}
@@ -16,7 +16,7 @@ pub stuck_shown : (old new : Network) (order : Order) (steps : List SafeStep) (s
     → IsLawfulOrder old new order → All (λ s. IsShownBad old new s.why) stuck
 stuck_shown old new order steps stuck is lawful =
     let h : IsLawfulRefusal old new steps stuck = subst (IsLawfulOrder old new) is lawful in
-    λ k d few. (
-      during (length old.nodes) (concat (sets_of steps)) ((slice_index_or stuck k d).node ∷ []),
-      (h.each k d few).why,
-    )
+    λ k d few. record {
+      may = during (length old.nodes) (concat (sets_of steps)) ((slice_index_or stuck k d).node ∷ []);
+      bad = (h.each k d few).why;
+    }

@@ -1,10 +1,12 @@
 -- A bad mixed route is one of relays that may hold either plan, by turns that name the plans that were held.
-use Rattle.std.specs.Prelude.{ℕ, ◌≡◌, ◌≤◌, ◌⊎◌, List, [], ◌∷◌, ◌++◌, length, Option, Some, None, refl}
-use Rattle.std.proofs.Common.{sym, subst, ◌∙◌, ap, arith}
+use Rattle.std.specs.Prelude.{ℕ, ◌≡◌, ◌≤◌, ◌<◌, ◌⊎◌, List, [], ◌∷◌, ◌++◌, length, drop, Option, Some, None, refl}
+use Rattle.std.proofs.Common.{sym, subst, ◌∙◌, ap, arith, append_assoc}
+use Rattle.plan_check.proofs.Covering.{covered_node}
+use Rattle.plan_model.proofs.SafeWays.{covered_by}
 use Rattle.plan_model.specs.declared.spot.Spot.{Spot}
 use Rattle.plan_model.specs.declared.hop.Hop.{Hop}
 use Rattle.plan_model.specs.declared.kind.Kind.{Kind}
-use Rattle.plan_model.specs.Network.{Network}
+use Rattle.plan_model.specs.Network.{Network, IsPlan}
 use Rattle.plan_model.specs.Next.{next_of}
 use Rattle.plan_model.specs.Routes.{onward}
 use Rattle.plan_model.specs.Verdicts.{EndsBadly}
@@ -13,8 +15,13 @@ use Rattle.plan_mixed.specs.declared.holding.Holding.{Holding}
 use Rattle.plan_change.specs.declared.mixed_hop.MixedHop.{MixedHop}
 use Rattle.plan_change.specs.declared.turn.Turn.{Turn}
 use Rattle.plan_change.specs.Mixture.{made_under, mixed_under, tagged_under, mixed, tagged, BadUnder, BothBad}
-use Rattle.order_report.specs.Retold.{held_turns}
-use Rattle.sccp_report.specs.Changes.{mixed_hop_line, mixed_hops_text}
+use Rattle.plan_change.specs.declared.answer.Change.{Change}
+use Rattle.plan_change.specs.declared.answer.Change.TheVariants.{Broken}
+use Rattle.plan_order.specs.Orders.{IsRefusal}
+use Rattle.order_report.specs.Orders.{broken_text}
+use Rattle.order_report.specs.Retold.{held_turns, IsShownBad}
+use Rattle.sccp_report.specs.Changes.{mixed_hop_line, mixed_hops_text, broken_words, broken_line, covers_words}
+use Rattle.sccp_report.specs.Verdicts.{kind_words}
 
 -- the turns of a route under some holdings, each with the plan that its relay held
 abbrev retold_turns : List Holding → Network → Network → Spot → List Turn → List Turn
@@ -106,3 +113,48 @@ pub hops_short : (may : List Holding) (old new : Network) (i j : ℕ) (spot : Sp
 hops_short may old new i j spot turns hops kind bad =
     subst (λ (hs : List MixedHop). length hs ≤ length turns) (sym bad.is_route)
     (tags_short may (mixed_under may old new spot turns) turns)
+
+-- ---- what is shown of a stuck relay
+
+module _ (old new : Network) (why : Change) (i j : ℕ) (spot : Spot) (turns : List Turn) (hops : List MixedHop) (kind : Kind)
+    (is : why ≡ Broken i j spot turns hops kind) (shown : IsShownBad old new why) where
+  bad_one : BadUnder shown.may old new i j spot turns hops kind
+  bad_one = subst (IsRefusal shown.may old new) is shown.bad
+
+  pub shown_short : length hops ≤ length turns
+  shown_short = hops_short shown.may old new i j spot turns hops kind bad_one
+
+  pub shown_node : IsPlan old → spot.node < length old.nodes
+  shown_node plan = covered_node old spot plan (covered_by old i spot bad_one.old_covered)
+
+  -- with the turns that are made anew, and their hops
+  module _ (again : List Turn) (made_hops : List MixedHop) (turned : again ≡ held_turns hops turns)
+      (tagged_so : made_hops ≡ tagged (mixed old new spot again) again) where
+    same_hops : made_hops ≡ hops
+    same_hops = subst (λ (ts : List Turn). made_hops ≡ tagged (mixed old new spot ts) ts) turned tagged_so
+        ∙ sym (hops_again shown.may old new i j spot turns hops kind bad_one)
+
+    pub shown_again : BothBad old new i j spot again made_hops kind
+    shown_again = subst (λ (ts : List Turn). BothBad old new i j spot ts made_hops kind) (sym turned)
+        (subst (λ (hs : List MixedHop). BothBad old new i j spot (held_turns hops turns) hs kind) (sym same_hops)
+        (bad_again shown.may old new i j spot turns hops kind bad_one))
+
+    pub text_again : broken_line i j kind ++ mixed_hops_text old made_hops again ≡ broken_words ++ broken_text old why
+    unfolding broken_line broken_words
+    text_again = subst (λ (w : Change). broken_line i j kind ++ mixed_hops_text old made_hops again ≡ broken_words ++ broken_text old w)
+        (sym is)
+        (ap (λ (text : List ℕ). broken_line i j kind ++ text)
+        (subst (λ (ts : List Turn). mixed_hops_text old made_hops ts ≡ mixed_hops_text old hops turns) (sym turned)
+        (subst (λ (hs : List MixedHop). mixed_hops_text old hs (held_turns hops turns) ≡ mixed_hops_text old hops turns) (sym same_hops)
+        (lines_same old hops turns)))
+        ∙ append_assoc broken_words (kind_words kind ++ covers_words i j) (mixed_hops_text old hops turns))
+
+-- ---- a text without its first words
+
+pub words_length : (told rest : List ℕ) → told ≡ broken_words ++ rest → 15 ≤ length told
+unfolding broken_words
+words_length told rest is = subst (λ (text : List ℕ). 15 ≤ length text) (sym is) (omega arith)
+
+pub after_words : (told rest : List ℕ) → told ≡ broken_words ++ rest → drop 15 told ≡ rest
+unfolding broken_words
+after_words told rest is = ap (drop 15) is

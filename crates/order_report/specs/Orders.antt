@@ -4,8 +4,8 @@ use Rattle.std.specs.List.{flat_map}
 use Rattle.plan_model.specs.Network.{Network}
 use Rattle.plan_change.specs.declared.answer.Change.{Change}
 use Rattle.plan_change.specs.declared.answer.Change.TheVariants.{Kept, Broken, TooWide}
-use Rattle.plan_order.specs.declared.order.Order.{Order}
-use Rattle.plan_order.specs.declared.order.Order.TheVariants.{Steps, NoOrder, Undecided}
+use Rattle.plan_order.specs.declared.answer.Order.{Order}
+use Rattle.plan_order.specs.declared.answer.Order.TheVariants.{Steps, NoOrder, Undecided}
 use Rattle.plan_order.specs.declared.safe_step.SafeStep.{SafeStep}
 use Rattle.plan_order.specs.declared.stuck.Stuck.{Stuck}
 use Rattle.sccp_report.specs.Changes.{covers_words, mixed_hops_text}

@@ -18,5 +18,6 @@ held_turns (hop ∷ hops) [] = []
 held_turns (hop ∷ hops) (turn ∷ turns) = held_turn hop turn ∷ held_turns hops turns
 
 -- the answer shows a mixed route that is bad while each relay may hold what some list says of it
-abbrev pub IsShownBad : Network → Network → Change → Type 0
-IsShownBad old new why = (may : List Holding) × IsRefusal may old new why
+pub record IsShownBad (old new : Network) (why : Change) : Type 0 where
+  pub may : List Holding
+  pub bad : IsRefusal may old new why

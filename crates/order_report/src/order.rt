@@ -23,12 +23,7 @@ fn put_order(text: &mut Text, count: usize) -> Result<(), OutOfMemory>
 
 /// Appends the line of the step of this number.
 #[tactic(auto, unfolding(crate::specs::Orders::step_line))]
-fn put_step(
-    text: &mut Text,
-    plan: &Plan,
-    number: usize,
-    step: &SafeStep,
-) -> Result<(), OutOfMemory>
+fn put_step(text: &mut Text, plan: &Plan, number: usize, step: &SafeStep) -> Result<(), OutOfMemory>
     ensures { OnOk result (text.new ≡ text.old ++ step_line plan.now number step.now) }
 {
     text.put_counted(b"step ", number)?;

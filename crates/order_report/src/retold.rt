@@ -23,11 +23,7 @@ fn held_turn(alloc: Global, hop: &MixedHop, turn: &Turn) -> Result<Turn, OutOfMe
 }
 
 /// The turns of a mixed route, each with the plan that its relay held.
-fn held_turns(
-    alloc: Global,
-    hops: &[MixedHop],
-    turns: &[Turn],
-) -> Result<List<Turn>, OutOfMemory>
+fn held_turns(alloc: Global, hops: &[MixedHop], turns: &[Turn]) -> Result<List<Turn>, OutOfMemory>
     requires { length hops.now ≤ length turns.now }
     ensures { IfOk result (λ ts. ts ≡ held_turns hops.now turns.now) }
 {
@@ -39,12 +35,7 @@ fn held_turns(
 }
 
 /// The same bad mixed route while each relay may hold either plan.
-pub fn retold(
-    alloc: Global,
-    old: &Plan,
-    new: &Plan,
-    why: &Change,
-) -> Result<Change, OutOfMemory>
+pub fn retold(alloc: Global, old: &Plan, new: &Plan, why: &Change) -> Result<Change, OutOfMemory>
     requires same { SameNodes old.now new.now }
     requires old { IsPlan old.now }
     requires new { IsPlan new.now }
