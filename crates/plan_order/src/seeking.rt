@@ -205,12 +205,7 @@ fn seek_one(
 }
 
 /// Notes a dead end.
-fn note(
-    alloc: Global,
-    plans: &Plans<'_>,
-    done: &[u8],
-    known: &mut Known,
-) -> Result<(), OutOfMemory>
+fn note(alloc: Global, plans: &Plans<'_>, done: &[u8], known: &mut Known) -> Result<(), OutOfMemory>
     requires known { IsKnown plans.now.old.now plans.now.new.now known.old }
     requires differ { All (Differs plans.now.old.now plans.now.new.now) done.now }
     requires dead { known.old.wide ≡ false → IsDeadEnd plans.now.old.now plans.now.new.now done.now }
