@@ -1,7 +1,7 @@
 -- what the search makes of its parts
-use Rattle.std.specs.Prelude.{ℕ, ◌≡◌, ◌≢◌, ◌⊎◌, ◌<◌, ◌≤◌, Bool, true, false, IsTrue, List, [], ◌∷◌, ◌++◌, length, slice_index_or, refl}
-use Rattle.std.specs.List.{All, Any, AllPairs, concat}
-use Rattle.std.proofs.Common.{zero, suc, sym, ◌∙◌, ap, subst, inl, inr, ⊎_elim, arith, length-append}
+use Rattle.std.specs.Prelude.{ℕ, ◌≡◌, ◌<◌, true, false, IsTrue, List, [], ◌∷◌, ◌++◌, length, slice_index_or, refl}
+use Rattle.std.specs.List.{All, Any, AllPairs}
+use Rattle.std.proofs.Common.{sym, ◌∙◌, ap, subst, inl, ⊎_elim, arith, length-append}
 use Rattle.std.proofs.lemmas.Bool.{false≢true, true≢false, cases_Bool}
 use Rattle.std.proofs.lemmas.List.{get_or_default}
 use Rattle.std.proofs.lemmas.List.Elements.{All-cons, All-nil, All-append}
@@ -17,12 +17,12 @@ use Rattle.plan_order.specs.declared.known.Known.{Known}
 use Rattle.plan_order.specs.declared.found.Found.{Found}
 use Rattle.plan_order.specs.declared.found.Found.TheVariants.{Steps, Nowhere, GaveUp}
 use Rattle.plan_order.specs.Sets.{is_in, SameSet, Differs}
-use Rattle.plan_order.specs.Steps.{during, IsSafeFor, IsSafeStep, IsReached, IsStep, AreSteps, sets_of}
-use Rattle.plan_order.specs.Orders.{GoesOn, IsDeadEnd}
-use Rattle.plan_order.specs.Searching.{IsSplit, outcome_of, IsOutcome, IsNextStep, IsAlone, IsClosed, IsKnown, AreAmong, IsWayOn, IsFoundIf}
+use Rattle.plan_order.specs.Steps.{during, IsSafeFor, IsSafeStep, IsReached, IsStep}
+use Rattle.plan_order.specs.Orders.{IsDeadEnd}
+use Rattle.plan_order.specs.Searching.{IsSplit, outcome_of, IsOutcome, IsNextStep, IsClosed, IsKnown, IsWayOn, IsFoundIf}
 use Rattle.plan_order.specs.Searching.{without}
-use Rattle.plan_order.proofs.Members.{in-append, in-left, in-right, in-All, All-in, in-among}
-use Rattle.plan_order.proofs.Joining.{pairs_none, pairs_append}
+use Rattle.plan_order.proofs.Members.{in-left, in-right, in-All, All-in, in-among}
+use Rattle.plan_order.proofs.Joining.{pairs_append}
 use Rattle.plan_order.proofs.Parts.{goes_on_same}
 use Rattle.plan_order.proofs.DeadEnds.{dead_end}
 
@@ -135,8 +135,11 @@ pub way_last : (old new : Network) (done left : List ℕ) (bound : ℕ) → IsSp
     → IsWayOn old new done left (record { nodes = left; bound = bound } ∷ [])
 way_last old new done left bound split safe reached = record {
   safe = ((safe, reached), tt);
-  on = ((bound, safe), λ n differs. ⊎_elim (λ (h : is_in done n ≡ true). in-left done left n h)
-      (λ (h : is_in done n ≡ false). in-right done left n (split.whole n differs h)) (cases_Bool (is_in done n)));
+  on = (
+    (bound, safe),
+    λ n differs. ⊎_elim (λ (h : is_in done n ≡ true). in-left done left n h)
+        (λ (h : is_in done n ≡ false). in-right done left n (split.whole n differs h)) (cases_Bool (is_in done n)),
+  );
   among = (All-in (λ (n : ℕ). is_in left n ≡ true) left (λ n h. h), split.ascending, tt);
 }
 

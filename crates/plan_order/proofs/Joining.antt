@@ -1,7 +1,7 @@
 -- lists without repeats, joined
-use Rattle.std.specs.Prelude.{ℕ, ◌≡◌, ◌<◌, List, [], ◌∷◌, ◌++◌, length, slice_index_or}
+use Rattle.std.specs.Prelude.{List, [], ◌∷◌, ◌++◌, slice_index_or}
 use Rattle.std.specs.List.{All, AllPairs}
-use Rattle.std.proofs.Common.{zero, suc, arith}
+use Rattle.std.proofs.Common.{suc, arith}
 use Rattle.std.proofs.lemmas.List.Elements.{All-append, All-cons, All-nil}
 use Rattle.std.proofs.lemmas.List.Kept.{AllPairs-cons}
 

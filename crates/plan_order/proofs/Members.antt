@@ -1,8 +1,8 @@
 -- relays of sets
 use Rattle.std.specs.Prelude.{ℕ, ◌≡◌, ◌⊎◌, ◌<◌, Bool, true, false, ◌||◌, not, ◌==◌, List, [], ◌∷◌, ◌++◌, length, refl}
 use Rattle.std.specs.List.{All}
-use Rattle.std.proofs.Common.{zero, suc, sym, ◌∙◌, ap, subst, inl, inr, ⊎_elim, arith, take, get_or, ◌+◌}
-use Rattle.std.proofs.lemmas.Bool.{or_cases, cases_Bool, false≢true, eq-eqb, eqb-true, not-true}
+use Rattle.std.proofs.Common.{sym, ◌∙◌, ap, subst, inl, inr, ⊎_elim, take, get_or, ◌+◌}
+use Rattle.std.proofs.lemmas.Bool.{or_cases, cases_Bool, false≢true, eq-eqb, eqb-true}
 use Rattle.std.proofs.Math.Bool.{or-true}
 use Rattle.std.proofs.lemmas.List.{take_more}
 use Rattle.std.proofs.lemmas.List.Elements.{All-cons, All-nil, All-append}

@@ -1,5 +1,5 @@
 -- routes while the plans have changed their places
-use Rattle.std.specs.Prelude.{ℕ, ◌≡◌, ◌⊎◌, ◌≤◌, List, [], ◌∷◌, length, Option, Some, None, IsSomeAnd, refl}
+use Rattle.std.specs.Prelude.{ℕ, ◌≡◌, ◌⊎◌, List, [], ◌∷◌, length, Option, Some, None, IsSomeAnd, refl}
 use Rattle.std.proofs.Common.{suc, sym, ◌∙◌, ap, subst, inl, inr}
 use Rattle.sccp_base.specs.declared.mark.Mark.{Mark}
 use Rattle.plan_model.specs.declared.spot.Spot.{Spot}
@@ -17,7 +17,7 @@ use Rattle.plan_mixed.specs.declared.holding.Holding.{Holding}
 use Rattle.plan_mixed.specs.Holdings.{chosen, may_hold, MayHold}
 use Rattle.plan_mixed.specs.Mixed.{held}
 use Rattle.plan_change.specs.declared.turn.Turn.{Turn}
-use Rattle.plan_change.specs.Mixture.{made_under, mixed_under, BothAllow, SafeUnder, TightUnder}
+use Rattle.plan_change.specs.Mixture.{made_under, mixed_under, BothAllow, SafeUnder}
 use Rattle.plan_change.specs.Changes.{IsLongestUnder}
 use Rattle.plan_change.specs.Holdings.{DoSame}
 use Rattle.plan_change.proofs.Verdicts.{settled}

@@ -1,22 +1,21 @@
 -- the relays that are left and stuck
-use Rattle.std.specs.Prelude.{ℕ, ◌≡◌, ◌⊎◌, ◌≤◌, ◌+◌, Bool, true, false, IsTrue, List, [], ◌∷◌, ◌++◌, length, map, Option, Some, None, refl}
+use Rattle.std.specs.Prelude.{ℕ, ◌≡◌, ◌⊎◌, ◌≤◌, ◌+◌, true, false, List, [], ◌∷◌, ◌++◌, length, map, Some, refl}
 use Rattle.std.specs.List.{All, Any, concat}
-use Rattle.std.proofs.Common.{zero, suc, sym, ◌∙◌, ap, subst, inl, inr, ⊎_elim, arith, take, get_or, ◌<◌}
-use Rattle.std.proofs.lemmas.Bool.{false≢true, cases_Bool}
+use Rattle.std.proofs.Common.{suc, sym, ◌∙◌, ap, subst, inl, inr, ⊎_elim, arith, take, get_or, ◌<◌}
+use Rattle.std.proofs.lemmas.Bool.{cases_Bool}
 use Rattle.std.proofs.lemmas.List.{map-append, take_more}
 use Rattle.std.proofs.lemmas.List.Elements.{All-cons, All-nil, All-append}
 use Rattle.sccp_base.proofs.Among.{Among}
 use Rattle.plan_model.specs.Network.{Network}
 use Rattle.plan_mixed.specs.Mixed.{MixedReachAtLeast}
-use Rattle.plan_change.specs.declared.answer.Change.{Change}
 use Rattle.plan_order.specs.declared.safe_step.SafeStep.{SafeStep}
 use Rattle.plan_order.specs.declared.stuck.Stuck.{Stuck}
 use Rattle.plan_order.specs.declared.known.Known.{Known}
 use Rattle.plan_order.specs.Sets.{is_in, Differs}
 use Rattle.plan_order.specs.Steps.{during, AreSteps, sets_of}
-use Rattle.plan_order.specs.Orders.{IsOrder, IsDeadEnd, HasDeadEnds, IsRefusal, IsStuck, IsLawfulRefusal}
+use Rattle.plan_order.specs.Orders.{IsOrder, HasDeadEnds, IsRefusal, IsStuck, IsLawfulRefusal}
 use Rattle.plan_order.specs.Searching.{IsSplit, IsKnown, IsWhy}
-use Rattle.plan_order.proofs.Members.{in-All, among-in, in-among}
+use Rattle.plan_order.proofs.Members.{in-All, among-in}
 
 -- a relay that is left and cannot be next
 pub stuck_one : (old new : Network) (done left : List ℕ) (node : ℕ) (stuck : Stuck) → IsSplit old new done left

@@ -1,29 +1,25 @@
 -- the steps of an order in reverse
-use Rattle.std.specs.Prelude.{ℕ, ◌≡◌, ◌≢◌, ◌⊎◌, ◌<◌, ◌≤◌, Bool, true, false, if◌then◌else◌, List, [], ◌∷◌, ◌++◌, length, map, reverse}
+use Rattle.std.specs.Prelude.{ℕ, ◌≡◌, ◌≢◌, ◌<◌, ◌≤◌, Bool, true, false, if◌then◌else◌, List, [], ◌∷◌, ◌++◌, length, reverse}
 use Rattle.std.specs.Prelude.{Option, Some, None, IsSomeAnd, slice_get, refl}
 use Rattle.std.specs.List.{All, AllPairs, concat}
-use Rattle.std.proofs.Common.{zero, suc, sym, ◌∙◌, ap, subst, inl, inr, ⊎_elim, arith}
+use Rattle.std.proofs.Common.{sym, ◌∙◌, ap, subst, inl, inr, ⊎_elim}
 use Rattle.std.proofs.lemmas.Bool.{false≢true, cases_Bool, cases_lt, or_parts}
-use Rattle.std.proofs.lemmas.List.{length-map, append_assoc, append-nil, map-append, reverse-append}
-use Rattle.std.proofs.lemmas.List.Elements.{All-append}
-use Rattle.std.proofs.lemmas.List.Folds.{concat-append}
+use Rattle.std.proofs.lemmas.List.{length-map, append_assoc, append-nil, reverse-append}
 use Rattle.plan_model.specs.declared.node.Node.{Node}
 use Rattle.plan_model.specs.Network.{Network}
 use Rattle.plan_model.specs.SameNodes.{SameNodes, without_rows}
 use Rattle.plan_mixed.specs.declared.which.Which.{Which}
-use Rattle.plan_mixed.specs.declared.which.Which.TheVariants.{Old as OldPlan, New as NewPlan}
 use Rattle.plan_mixed.specs.declared.holding.Holding.{Holding}
 use Rattle.plan_mixed.specs.declared.holding.Holding.TheVariants.{Old, New, Either}
-use Rattle.plan_mixed.specs.Holdings.{chosen, may_hold, MayHold}
-use Rattle.plan_change.specs.Holdings.{DoSame}
+use Rattle.plan_mixed.specs.Holdings.{chosen, MayHold}
 use Rattle.plan_order.specs.declared.safe_step.SafeStep.{SafeStep}
 use Rattle.plan_order.specs.Sets.{is_in, Differs}
-use Rattle.plan_order.specs.Steps.{holding, during, IsStep, AreSteps, sets_of}
+use Rattle.plan_order.specs.Steps.{during, IsStep, AreSteps, sets_of}
 use Rattle.plan_order.specs.Orders.{GoesOn, IsLawfulSteps}
 use Rattle.plan_order.proofs.Members.{in-append, in-left, in-right, in-either, out-both, in-All, All-in}
 use Rattle.plan_order.proofs.Relays.{differs_told}
 use Rattle.plan_order.proofs.Parts.{may_at, may_past}
-use Rattle.plan_order.proofs.Joining.{pairs_none, pairs_append, pairs_left, pairs_right, pairs_between}
+use Rattle.plan_order.proofs.Joining.{pairs_append, pairs_left, pairs_right, pairs_between}
 use Rattle.plan_order.proofs.Pushed.{relays_of, relays_append, relays_one, steps_push}
 use Rattle.plan_order.proofs.Mirrors.{other, IsMirror, safe_back, longest_back}
 
@@ -178,11 +174,11 @@ three_of : (old new : Network) (done : List ℕ) (step : SafeStep) (steps : List
 three_of old new done step steps rest = record {
   first = λ n differs h. (
     ⊎_elim (λ (k : is_in step.nodes n ≡ true).
-    absurd (false≢true (sym (rest.apart n (in-left step.nodes (relays_of steps) n k)) ∙ h))) (λ (k : is_in step.nodes n ≡ false). k)
-    (cases_Bool (is_in step.nodes n)),
+        absurd (false≢true (sym (rest.apart n (in-left step.nodes (relays_of steps) n k)) ∙ h))) (λ (k : is_in step.nodes n ≡ false). k)
+        (cases_Bool (is_in step.nodes n)),
     out_back steps n (⊎_elim (λ (k : is_in (relays_of steps) n ≡ true).
-    absurd (false≢true (sym (rest.apart n (in-right step.nodes (relays_of steps) n k)) ∙ h)))
-    (λ (k : is_in (relays_of steps) n ≡ false). k) (cases_Bool (is_in (relays_of steps) n))),
+        absurd (false≢true (sym (rest.apart n (in-right step.nodes (relays_of steps) n k)) ∙ h)))
+        (λ (k : is_in (relays_of steps) n ≡ false). k) (cases_Bool (is_in (relays_of steps) n))),
   );
   second = λ n differs h. (
     rest.apart n (in-left step.nodes (relays_of steps) n h),
@@ -191,7 +187,7 @@ three_of old new done step steps rest = record {
   third = λ n differs h. let k = (relays_back steps n).0 h in (
     rest.apart n (in-right step.nodes (relays_of steps) n k),
     ⊎_elim (λ (l : is_in step.nodes n ≡ true). absurd (false≢true (sym (not_later step steps rest.pairs n l) ∙ k)))
-    (λ (l : is_in step.nodes n ≡ false). l) (cases_Bool (is_in step.nodes n)),
+        (λ (l : is_in step.nodes n ≡ false). l) (cases_Bool (is_in step.nodes n)),
   );
   some = λ n differs d s. (relays_back steps n).1
       (⊎_elim (λ (k : is_in step.nodes n ≡ true). absurd (false≢true (sym s ∙ k))) (λ (k : is_in (relays_of steps) n ≡ true). k)

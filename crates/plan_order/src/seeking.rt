@@ -133,7 +133,8 @@ fn seek_by(
     requires known { IsKnown plans.now.old.now plans.now.new.now known.old }
     ensures known { OnOk result (IsKnown plans.now.old.now plans.now.new.now known.new) }
     ensures narrow { OnOk result (known.new.wide ≡ false → known.old.wide ≡ false) }
-    ensures found { IfOk result (IsFoundIf plans.now.old.now plans.now.new.now done.now left.now (IsDeadEnd plans.now.old.now plans.now.new.now (done.now ++ step.nodes)) known.new) }
+    ensures found { IfOk result (IsFoundIf plans.now.old.now plans.now.new.now done.now left.now
+        (IsDeadEnd plans.now.old.now plans.now.new.now (done.now ++ step.nodes)) known.new) }
 {
     let further = joined(alloc, done, step.nodes.as_slice())?;
     let rest = without(alloc, left, step.nodes.as_slice())?;
@@ -196,7 +197,8 @@ fn seek_one(
     requires known { IsKnown plans.now.old.now plans.now.new.now known.old }
     ensures known { OnOk result (IsKnown plans.now.old.now plans.now.new.now known.new) }
     ensures narrow { OnOk result (known.new.wide ≡ false → known.old.wide ≡ false) }
-    ensures found { IfOk result (IsFoundIf plans.now.old.now plans.now.new.now done.now left.now (IsClosed plans.now.old.now plans.now.new.now done.now node) known.new) }
+    ensures found { IfOk result (IsFoundIf plans.now.old.now plans.now.new.now done.now left.now
+        (IsClosed plans.now.old.now plans.now.new.now done.now node) known.new) }
 {
     match alone(alloc, plans, done, node, known)? {
         Some(step) => seek_by(alloc, plans, done, left, step, known),
@@ -205,12 +207,7 @@ fn seek_one(
 }
 
 /// Notes a dead end.
-fn note(
-    alloc: Global,
-    plans: &Plans<'_>,
-    done: &[u8],
-    known: &mut Known,
-) -> Result<(), OutOfMemory>
+fn note(alloc: Global, plans: &Plans<'_>, done: &[u8], known: &mut Known) -> Result<(), OutOfMemory>
     requires known { IsKnown plans.now.old.now plans.now.new.now known.old }
     requires differ { All (Differs plans.now.old.now plans.now.new.now) done.now }
     requires dead { known.old.wide ≡ false → IsDeadEnd plans.now.old.now plans.now.new.now done.now }

@@ -1,4 +1,4 @@
-use Rattle.std.specs.Prelude.{ℕ, ◌≡◌, false, List, [], ◌∷◌, Option}
+use Rattle.std.specs.Prelude.{ℕ, ◌≡◌, false, List, Option}
 use Rattle.std.proofs.Common.{◌∙◌, subst}
 use Rattle.plan_order.specs.Steps.{IsSafeStep}
 use Rattle.plan_order.specs.Searching.{IsBoundOf}

@@ -21,9 +21,9 @@ seek-returns-then-is_dead-clause-found t c =
 pub seek_by-seek-requires : goal.seek_by-seek-requires
 seek_by-seek-requires t c =
     let further : c.as_slice-3.result.now ≡ c.args.done.now ++ c.args.step.nodes =
-        c.as_slice-3.ensures ∙ c.in_ok-further.ensures ∙ ap (λ (s : List ℕ). c.args.done.now ++ s) c.as_slice.ensures in
+    c.as_slice-3.ensures ∙ c.in_ok-further.ensures ∙ ap (λ (s : List ℕ). c.args.done.now ++ s) c.as_slice.ensures in
     let rest : c.as_slice-4.result.now ≡ without c.args.left.now c.args.step.nodes =
-        c.as_slice-4.ensures ∙ c.in_ok-rest.ensures ∙ ap (λ (s : List ℕ). without c.args.left.now s) c.as_slice-2.ensures in
+    c.as_slice-4.ensures ∙ c.in_ok-rest.ensures ∙ ap (λ (s : List ℕ). without c.args.left.now s) c.as_slice-2.ensures in
     let fewer = fewer_to c.args.left.now c.args.step.nodes c.as_slice-4.result.now rest c.requires.step.among c.requires.step.some in (
       omega (arith, fewer),
       (
@@ -45,15 +45,15 @@ seek_by-returns-in-Steps-clause-found t c =
     let step = c.args.step in
     let steps = c.in-Steps.steps in
     let further : c.as_slice-3.result.now ≡ done ++ step.nodes =
-        c.as_slice-3.ensures ∙ c.in_ok-further.ensures ∙ ap (λ (s : List ℕ). done ++ s) c.as_slice.ensures in
+    c.as_slice-3.ensures ∙ c.in_ok-further.ensures ∙ ap (λ (s : List ℕ). done ++ s) c.as_slice.ensures in
     let rest : c.as_slice-4.result.now ≡ without left step.nodes =
-        c.as_slice-4.ensures ∙ c.in_ok-rest.ensures ∙ ap (λ (s : List ℕ). without left s) c.as_slice-2.ensures in
+    c.as_slice-4.ensures ∙ c.in_ok-rest.ensures ∙ ap (λ (s : List ℕ). without left s) c.as_slice-2.ensures in
     let found : IsWayOn old new c.as_slice-3.result.now c.as_slice-4.result.now steps =
-        subst (λ (f : Found). IsFound old new c.as_slice-3.result.now c.as_slice-4.result.now c.seek.new.known f) c.in-Steps.is
-        c.in_ok-steps.ensures.found in
+    subst (λ (f : Found). IsFound old new c.as_slice-3.result.now c.as_slice-4.result.now c.seek.new.known f) c.in-Steps.is
+    c.in_ok-steps.ensures.found in
     let way : IsWayOn old new (done ++ step.nodes) (without left step.nodes) steps =
-        subst (λ (d : List ℕ). IsWayOn old new d (without left step.nodes) steps) further
-        (subst (λ (r : List ℕ). IsWayOn old new c.as_slice-3.result.now r steps) rest found) in
+    subst (λ (d : List ℕ). IsWayOn old new d (without left step.nodes) steps) further
+    (subst (λ (r : List ℕ). IsWayOn old new c.as_slice-3.result.now r steps) rest found) in
     IfOk-weaker c.in_front.result (λ (f : Found). f ≡ Steps (step ∷ steps))
     (λ (f : Found). IsFoundIf old new done left (IsDeadEnd old new (done ++ step.nodes)) c.seek.new.known f)
     (λ f is. subst (λ (g : Found). IsFoundIf old new done left (IsDeadEnd old new (done ++ step.nodes)) c.seek.new.known g) (sym is)

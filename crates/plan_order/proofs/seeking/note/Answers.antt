@@ -1,4 +1,4 @@
-use Rattle.std.specs.Prelude.{ℕ, ◌≡◌, ◌++◌, ◌∷◌, [], List, refl}
+use Rattle.std.specs.Prelude.{ℕ, ◌++◌, ◌∷◌, [], List, refl}
 use Rattle.std.specs.List.{Any}
 use Rattle.std.proofs.Common.{◌∙◌, sym, ap, subst}
 use Rattle.std.proofs.lemmas.Bool.{false≢true}

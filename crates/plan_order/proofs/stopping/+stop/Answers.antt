@@ -12,9 +12,9 @@ stop_after-stop_at-requires t c =
     let old = c.args.plans.now.old.now in
     let new = c.args.plans.now.new.now in
     let further : c.as_slice-3.result.now ≡ c.args.done.now ++ c.args.step.nodes =
-        c.as_slice-3.ensures ∙ c.in_ok-further.ensures ∙ ap (λ (s : List ℕ). c.args.done.now ++ s) c.as_slice.ensures in
+    c.as_slice-3.ensures ∙ c.in_ok-further.ensures ∙ ap (λ (s : List ℕ). c.args.done.now ++ s) c.as_slice.ensures in
     let rest : c.as_slice-4.result.now ≡ without c.args.left.now c.args.step.nodes =
-        c.as_slice-4.ensures ∙ c.in_ok-rest.ensures ∙ ap (λ (s : List ℕ). without c.args.left.now s) c.as_slice-2.ensures in
+    c.as_slice-4.ensures ∙ c.in_ok-rest.ensures ∙ ap (λ (s : List ℕ). without c.args.left.now s) c.as_slice-2.ensures in
     let fewer = fewer_to c.args.left.now c.args.step.nodes c.as_slice-4.result.now rest c.requires.step.among c.requires.step.some in
     let pushed : c.push.new.self ≡ c.args.steps ++ c.args.step ∷ [] = c.in_ok-push.ensures.ok in (
       omega (arith, fewer),

@@ -1,4 +1,4 @@
-use Rattle.std.specs.Prelude.{ℕ, ◌≡◌, ◌+◌, List, map, Option, Some}
+use Rattle.std.specs.Prelude.{◌≡◌, ◌+◌, List, map, Option, Some}
 use Rattle.std.specs.List.{All}
 use Rattle.std.proofs.Common.{◌∙◌, sym, subst, get_or, take, take_all}
 use Rattle.plan_order.specs.declared.stuck.Stuck.{Stuck}
@@ -20,7 +20,7 @@ loop-node-preserved c =
     let i = c.loop-node.node-index in
     let one = c.in-Some.one in
     let why : IsWhy old new done (get_or left i 0) (Some one) =
-        subst (λ (o : Option Stuck). IsWhy old new done (get_or left i 0) o) c.in-Some.is c.in_ok-one.ensures in
+    subst (λ (o : Option Stuck). IsWhy old new done (get_or left i 0) o) c.in-Some.is c.in_ok-one.ensures in
     record {
       each = subst (λ (all : List Stuck). All (IsStuck old new done) all) (sym c.in_ok-push-in-Some.ensures.ok)
           (stuck_more old new done c.loop-node.stuck one c.loop-node.invariant.each
