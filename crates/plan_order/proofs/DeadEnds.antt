@@ -1,7 +1,7 @@
 -- the set is a dead end if no relay that is left can be next
-use Rattle.std.specs.Prelude.{ℕ, ◌≡◌, ◌⊎◌, Bool, true, false, List, [], ◌∷◌, ◌++◌, length, refl}
+use Rattle.std.specs.Prelude.{ℕ, ◌≡◌, ◌⊎◌, true, false, List, [], ◌∷◌, ◌++◌, refl}
 use Rattle.std.specs.List.{All}
-use Rattle.std.proofs.Common.{sym, ◌∙◌, ap, subst, inl, inr, ⊎_elim}
+use Rattle.std.proofs.Common.{sym, ◌∙◌, subst, inl, inr, ⊎_elim}
 use Rattle.std.proofs.lemmas.Bool.{false≢true, cases_Bool}
 use Rattle.sccp_base.proofs.Among.{Among}
 use Rattle.plan_model.specs.Network.{Network}
@@ -10,9 +10,9 @@ use Rattle.plan_order.specs.Sets.{is_in, Differs}
 use Rattle.plan_order.specs.Steps.{IsSafeStep}
 use Rattle.plan_order.specs.Orders.{GoesOn, IsDeadEnd}
 use Rattle.plan_order.specs.Searching.{IsSplit, IsClosed}
-use Rattle.plan_order.proofs.Members.{in-append, in-left, in-right, out-both, in-first, out-one, in-one, in-All, among-in, in-among}
+use Rattle.plan_order.proofs.Members.{in-left, in-right, out-both, in-first, out-one, in-All, among-in, in-among}
 use Rattle.plan_order.proofs.Relays.{differs_told}
-use Rattle.plan_order.proofs.Parts.{IsPart, safe_part, SameOfDiffering, goes_on_same}
+use Rattle.plan_order.proofs.Parts.{safe_part, SameOfDiffering, goes_on_same}
 
 -- a relay of the step whose rows differ and that is not done
 record IsNew (old new : Network) (done step : List ℕ) : Type 0 where

@@ -6,3 +6,9 @@ pub mod Parts
 pub mod DeadEnds
 pub mod Joining
 pub mod Splitting
+pub mod Mirrors
+pub mod Pushed
+pub mod Turning
+pub mod Findings
+pub mod Refusals
+pub mod Firsts

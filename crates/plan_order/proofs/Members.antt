@@ -1,12 +1,13 @@
 -- relays of sets
 use Rattle.std.specs.Prelude.{ℕ, ◌≡◌, ◌⊎◌, ◌<◌, Bool, true, false, ◌||◌, not, ◌==◌, List, [], ◌∷◌, ◌++◌, length, refl}
 use Rattle.std.specs.List.{All}
-use Rattle.std.proofs.Common.{zero, suc, sym, ◌∙◌, ap, subst, inl, inr, ⊎_elim, arith}
-use Rattle.std.proofs.lemmas.Bool.{or_cases, cases_Bool, false≢true, eq-eqb, eqb-true, not-true}
+use Rattle.std.proofs.Common.{sym, ◌∙◌, ap, subst, inl, inr, ⊎_elim, take, get_or, ◌+◌}
+use Rattle.std.proofs.lemmas.Bool.{or_cases, cases_Bool, false≢true, eq-eqb, eqb-true}
 use Rattle.std.proofs.Math.Bool.{or-true}
-use Rattle.std.proofs.lemmas.List.Elements.{All-cons, All-nil}
+use Rattle.std.proofs.lemmas.List.{take_more}
+use Rattle.std.proofs.lemmas.List.Elements.{All-cons, All-nil, All-append}
 use Rattle.std.proofs.lemmas.List.Folds.{list_any-append}
-use Rattle.sccp_base.proofs.Among.{Among, All-among, Among-filter, Among-unfilter}
+use Rattle.sccp_base.proofs.Among.{Among, All-among, Among-filter, Among-unfilter, Among-get_or}
 use Rattle.plan_order.specs.Sets.{is_in}
 use Rattle.plan_order.specs.Searching.{is_out, without}
 
@@ -75,3 +76,14 @@ in-without left step n h =
 
 pub without-in : (left step : List ℕ) (n : ℕ) → is_in left n ≡ true → is_in step n ≡ false → is_in (without left step) n ≡ true
 without-in left step n h out = in-among (without left step) n (Among-filter (is_out step) n left (ap not out) (among-in left n h))
+
+-- the relay at a place of a list
+pub in-at : (xs : List ℕ) (i : ℕ) → i < length xs → is_in xs (get_or xs i 0) ≡ true
+in-at xs i lt = in-among xs (get_or xs i 0) (Among-get_or xs i 0 lt)
+
+-- one more relay of those for which something holds
+pub all_more : (P : ℕ → Type 0) (xs : List ℕ) (i : ℕ) → i < length xs → All P (take i xs) → P (get_or xs i 0)
+    → All P (take (i + 1) xs)
+all_more P xs i lt all one =
+    subst (All P) (sym (take_more xs i 0 lt))
+    (All-append P (take i xs) (get_or xs i 0 ∷ []) all (All-cons P (get_or xs i 0) [] one (All-nil P)))

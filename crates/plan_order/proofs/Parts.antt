@@ -1,8 +1,7 @@
 -- a step with fewer relays, and sets that say the same of relays whose rows differ
-use Rattle.std.specs.Prelude.{ℕ, ◌≡◌, ◌⊎◌, ◌<◌, ◌≤◌, Bool, true, false, ◌||◌, if◌then◌else◌, List, [], ◌∷◌, ◌++◌, length, map, refl}
-use Rattle.std.specs.List.{range_with_len}
-use Rattle.std.proofs.Common.{sym, ◌∙◌, ap, subst, inl, inr, ⊎_elim, arith, get_or}
-use Rattle.std.proofs.lemmas.Bool.{false≢true, cases_lt}
+use Rattle.std.specs.Prelude.{ℕ, ◌≡◌, ◌<◌, ◌≤◌, Bool, true, false, ◌||◌, if◌then◌else◌, List, [], ◌∷◌, ◌++◌, length, refl}
+use Rattle.std.proofs.Common.{sym, ◌∙◌, ap, subst, inl, inr, ⊎_elim, arith}
+use Rattle.std.proofs.lemmas.Bool.{cases_lt}
 use Rattle.std.proofs.lemmas.List.{get_or_past}
 use Rattle.std.proofs.lemmas.List.FromFn.{get_or-map-range_with_len, length-map-range_with_len}
 use Rattle.plan_model.specs.Network.{Network}
@@ -11,7 +10,7 @@ use Rattle.plan_mixed.specs.declared.which.Which.{Which}
 use Rattle.plan_mixed.specs.declared.holding.Holding.{Holding}
 use Rattle.plan_mixed.specs.declared.holding.Holding.TheVariants.{Old, New, Either}
 use Rattle.plan_mixed.specs.Holdings.{chosen, may_hold, MayHold}
-use Rattle.plan_change.specs.Holdings.{DoSame, LetsMore}
+use Rattle.plan_change.specs.Holdings.{LetsMore}
 use Rattle.plan_change.proofs.Holdings.{safe_for_fewer}
 use Rattle.plan_order.specs.Sets.{is_in, Differs}
 use Rattle.plan_order.specs.Steps.{holding, during, IsSafeStep}

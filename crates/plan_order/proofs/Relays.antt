@@ -1,6 +1,5 @@
 -- relays whose rows do not differ
-use Rattle.std.specs.Prelude.{ℕ, ◌≡◌, ◌⊎◌, ◌+◌, ◌==◌, not, cond, Bool, List, [], ◌∷◌, length, map, Option, Some, None, IsSomeAnd, slice_get, refl}
-use Rattle.std.specs.List.{position_or_len}
+use Rattle.std.specs.Prelude.{ℕ, ◌≡◌, ◌⊎◌, ◌+◌, ◌==◌, not, cond, List, [], ◌∷◌, map, Option, Some, None, IsSomeAnd, slice_get, refl}
 use Rattle.std.specs.Option.{option_map, unwrap_or}
 use Rattle.std.proofs.Common.{sym, ◌∙◌, ap, subst, inl, inr}
 use Rattle.std.proofs.lemmas.Option.{slice_get-map}
@@ -10,10 +9,10 @@ use Rattle.plan_rules.specs.declared.target.Target.TheVariants.{Relay, Final}
 use Rattle.plan_rules.specs.Rule.{Rule}
 use Rattle.plan_model.specs.declared.node.Node.{Node}
 use Rattle.plan_model.specs.declared.spot.Spot.{Spot}
-use Rattle.plan_model.specs.Network.{Network, node_of, has_point}
+use Rattle.plan_model.specs.Network.{Network, node_of}
 use Rattle.plan_model.specs.RowFor.{row_for}
 use Rattle.plan_model.specs.Targets.{first_open}
-use Rattle.plan_model.specs.Steps.{step, step_at, step_by, taken, led, passed, rewritten}
+use Rattle.plan_model.specs.Steps.{step_at, step_by, taken, led, passed, rewritten}
 use Rattle.plan_model.specs.SameNodes.{SameNodes, without_rows}
 use Rattle.plan_change.specs.Holdings.{DoSame}
 use Rattle.plan_order.specs.Sets.{Differs}
@@ -69,26 +68,26 @@ differs_told old new same node = by (slice_get old.nodes node) (slice_get new.no
     alike : (a b : Node) → slice_get old.nodes node ≡ Some a → slice_get new.nodes node ≡ Some b → without_rows a ≡ without_rows b
     alike a b e f =
         let h : Some (without_rows a) ≡ Some (without_rows b) =
-            sym (ap (option_map without_rows) e) ∙ sym (slice_get-map without_rows old.nodes node)
-            ∙ ap (λ (ws : List (List ℕ × ℕ × List ℕ × List ℕ)). slice_get ws node) same
-            ∙ slice_get-map without_rows new.nodes node ∙ ap (option_map without_rows) f in
+        sym (ap (option_map without_rows) e) ∙ sym (slice_get-map without_rows old.nodes node)
+        ∙ ap (λ (ws : List (List ℕ × ℕ × List ℕ × List ℕ)). slice_get ws node) same
+        ∙ slice_get-map without_rows new.nodes node ∙ ap (option_map without_rows) f in
         cc
 
     -- there is a relay at the place in both plans, or in neither
     both : (a : Node) → slice_get old.nodes node ≡ Some a → slice_get new.nodes node ≡ None → ⊥
     both a e f =
         let h : Some (without_rows a) ≡ None =
-            sym (ap (option_map without_rows) e) ∙ sym (slice_get-map without_rows old.nodes node)
-            ∙ ap (λ (ws : List (List ℕ × ℕ × List ℕ × List ℕ)). slice_get ws node) same
-            ∙ slice_get-map without_rows new.nodes node ∙ ap (option_map without_rows) f in
+        sym (ap (option_map without_rows) e) ∙ sym (slice_get-map without_rows old.nodes node)
+        ∙ ap (λ (ws : List (List ℕ × ℕ × List ℕ × List ℕ)). slice_get ws node) same
+        ∙ slice_get-map without_rows new.nodes node ∙ ap (option_map without_rows) f in
         cc
 
     neither : (b : Node) → slice_get old.nodes node ≡ None → slice_get new.nodes node ≡ Some b → ⊥
     neither b e f =
         let h : None ≡ Some (without_rows b) =
-            sym (ap (option_map without_rows) e) ∙ sym (slice_get-map without_rows old.nodes node)
-            ∙ ap (λ (ws : List (List ℕ × ℕ × List ℕ × List ℕ)). slice_get ws node) same
-            ∙ slice_get-map without_rows new.nodes node ∙ ap (option_map without_rows) f in
+        sym (ap (option_map without_rows) e) ∙ sym (slice_get-map without_rows old.nodes node)
+        ∙ ap (λ (ws : List (List ℕ × ℕ × List ℕ × List ℕ)). slice_get ws node) same
+        ∙ slice_get-map without_rows new.nodes node ∙ ap (option_map without_rows) f in
         cc
 
     at : (o p : Option Node) → slice_get old.nodes node ≡ o → slice_get new.nodes node ≡ p

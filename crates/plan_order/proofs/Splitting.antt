@@ -1,8 +1,8 @@
 -- what is left after a step, and the steps that a search finds
-use Rattle.std.specs.Prelude.{ℕ, ◌≡◌, ◌≢◌, ◌+◌, ◌<◌, ◌≤◌, Bool, true, false, not, IsTrue, List, [], ◌∷◌, ◌++◌, length, slice_index_or, refl}
+use Rattle.std.specs.Prelude.{ℕ, ◌≡◌, ◌≢◌, ◌<◌, Bool, true, false, not, IsTrue, List, [], ◌∷◌, ◌++◌, length, refl}
 use Rattle.std.specs.List.{All, AllPairs, filter, concat}
-use Rattle.std.proofs.Common.{zero, suc, sym, ◌∙◌, ap, subst, inl, inr, ⊎_elim, arith}
-use Rattle.std.proofs.lemmas.Bool.{false≢true, cases_Bool, or_parts}
+use Rattle.std.proofs.Common.{sym, ◌∙◌, subst, inl, ⊎_elim, arith}
+use Rattle.std.proofs.lemmas.Bool.{false≢true, or_parts}
 use Rattle.std.proofs.lemmas.List.Elements.{All-append, All-filter}
 use Rattle.std.proofs.lemmas.List.Filters.{length-filter_both}
 use Rattle.std.proofs.lemmas.List.Kept.{AllPairs-filter}
@@ -10,9 +10,9 @@ use Rattle.sccp_base.proofs.Among.{Among, Among-filter}
 use Rattle.plan_model.specs.Network.{Network}
 use Rattle.plan_order.specs.declared.safe_step.SafeStep.{SafeStep}
 use Rattle.plan_order.specs.Sets.{is_in, Differs}
-use Rattle.plan_order.specs.Steps.{AreSteps, sets_of}
-use Rattle.plan_order.specs.Orders.{GoesOn, IsLawfulSteps}
-use Rattle.plan_order.specs.Searching.{IsSplit, IsNextStep, AreAmong, IsWayOn, is_out, without}
+use Rattle.plan_order.specs.Steps.{sets_of}
+use Rattle.plan_order.specs.Orders.{IsLawfulSteps}
+use Rattle.plan_order.specs.Searching.{IsSplit, AreAmong, IsWayOn, is_out, without}
 use Rattle.plan_order.proofs.Members.{in-append, out-both, in-either, in-All, All-in, among-in, in-among, in-without, without-in}
 use Rattle.plan_order.proofs.Joining.{pairs_none, pairs_append, pairs_map}
 
@@ -45,9 +45,21 @@ fewer_left left [] among some = absurd (omega (arith, some))
 fewer_left left (n ∷ step) among some =
     let both = length-filter_both (is_out (n ∷ step)) (is_in (n ∷ step)) (λ m. not_out (is_in (n ∷ step) m)) left in
     let one : Among n (filter (is_in (n ∷ step)) left) =
-        Among-filter (is_in (n ∷ step)) n left (in-among (n ∷ step) n (inl refl)) (among-in left n (among 0 n (omega arith))) in
+    Among-filter (is_in (n ∷ step)) n left (in-among (n ∷ step) n (inl refl)) (among-in left n (among 0 n (omega arith))) in
     let more = has_one (filter (is_in (n ∷ step)) left) n one in
     omega (arith, both, more)
+
+-- the same of lists that are known by equations
+pub split_to : (old new : Network) (done left step further rest : List ℕ) → further ≡ done ++ step → rest ≡ without left step
+    → IsSplit old new done left → All (λ node. IsTrue (is_in left node)) step → IsSplit old new further rest
+split_to old new done left step further rest e f split among =
+    subst (λ (d : List ℕ). IsSplit old new d rest) (sym e)
+    (subst (IsSplit old new (done ++ step)) (sym f) (split_after old new done left step split among))
+
+pub fewer_to : (left step rest : List ℕ) → rest ≡ without left step → All (λ node. IsTrue (is_in left node)) step → 0 < length step
+    → length rest < length left
+fewer_to left step rest e among some =
+    subst (λ (s : List ℕ). length s < length left) (sym e) (fewer_left left step among some)
 
 -- the relays of all steps are left
 pub all_left : (left : List ℕ) (sets : List (List ℕ)) → AreAmong left sets → (n : ℕ) → is_in (concat sets) n ≡ true → is_in left n ≡ true

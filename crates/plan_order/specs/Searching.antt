@@ -1,5 +1,5 @@
 -- What a search for an order keeps, and what it finds.
-use Rattle.std.specs.Prelude.{ℕ, ◌≡◌, ◌≢◌, ◌<◌, ◌≤◌, ◌⊎◌, Bool, true, false, not, IsTrue, List, [], ◌∷◌, ◌++◌, length, Option, Some, None}
+use Rattle.std.specs.Prelude.{ℕ, ◌≡◌, ◌<◌, ◌≤◌, ◌⊎◌, Bool, true, false, not, IsTrue, List, [], ◌∷◌, ◌++◌, length, Option, Some, None}
 use Rattle.std.specs.List.{All, AllPairs, filter}
 use Rattle.plan_model.specs.Network.{Network}
 use Rattle.plan_mixed.specs.Mixed.{MixedReachAtLeast}
@@ -31,6 +31,13 @@ pub record IsSplit (old new : Network) (done left : List ℕ) : Type 0 where
   pub ascending : AllPairs (λ a b. a < b) left
   pub apart : (node : ℕ) → IsTrue (is_in left node) → is_in done node ≡ false
   pub whole : (node : ℕ) → Differs old new node → is_in done node ≡ false → IsTrue (is_in left node)
+
+-- the relays whose rows differ among the first ones of this number, in the order of the plan
+pub record AreFirst (old new : Network) (count : ℕ) (differ : List ℕ) : Type 0 where
+  pub each : All (Differs old new) differ
+  pub below : All (λ node. node < count) differ
+  pub ascending : AllPairs (λ a b. a < b) differ
+  pub whole : (node : ℕ) → node < count → Differs old new node → IsTrue (is_in differ node)
 
 -- what a change of the relays of a step comes to
 abbrev pub outcome_of : Change → Outcome

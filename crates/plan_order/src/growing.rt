@@ -48,9 +48,9 @@ pub(crate) fn first_safe(
     ensures first { IfOk result (IsFirst plans.now.old.now plans.now.new.now done.now left.now known.new) }
 {
     for node in left {
-        let found = alone(alloc, plans, done, *node, known)?;
-        if found.is_some() {
-            return Ok(found);
+        match alone(alloc, plans, done, *node, known)? {
+            Some(step) => return Ok(Some(step)),
+            None => {}
         }
     }
     Ok(None)

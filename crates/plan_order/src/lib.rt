@@ -11,7 +11,6 @@ mod found;
 mod growing;
 mod known;
 mod laws;
-
 mod ordering;
 mod outcome;
 mod plans;
@@ -25,7 +24,6 @@ mod trying;
 
 pub use answer::Order;
 pub use laws::orders_turn_back;
-
 pub use ordering::order;
 pub use plan_change::ChangeFault;
 pub use safe_step::SafeStep;

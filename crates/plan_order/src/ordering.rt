@@ -4,9 +4,9 @@ ghost use Rattle.plan_model.specs.SameNodes.{SameNodes};
 ghost use Rattle.plan_change.specs.declared.change_fault.ChangeFault.TheVariants as faults;
 ghost use Rattle.plan_order.specs.Orders.{IsLawfulOrder};
 
+use crate::answer::Order;
 use crate::found::Found;
 use crate::known::Known;
-use crate::answer::Order;
 use crate::plans::Plans;
 use crate::rows::differing;
 use crate::seeking::seek;

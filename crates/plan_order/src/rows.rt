@@ -1,11 +1,9 @@
 //! Whether relays have the same rows in two plans.
-ghost use Rattle.std.specs.Prelude.{◌≡◌, ◌<◌, ◌↔◌, ℕ, [], Option, Some, IsTrue, IfOk, length};
-ghost use Rattle.sccp_base.specs.Selector.{Numbers};
+ghost use Rattle.std.specs.Prelude.{◌≡◌, ◌<◌, ◌+◌, ◌↔◌, [], IsTrue, IfOk, OnOk, length};
 ghost use Rattle.plan_rules.specs.declared.target.Target.TheVariants.{Relay as RelayTarget, Final as FinalTarget};
-ghost use Rattle.plan_model.specs.Network.{IsPlan};
 ghost use Rattle.plan_model.specs.SameNodes.{SameNodes};
 ghost use Rattle.plan_order.specs.Sets.{Differs};
-ghost use Rattle.plan_order.specs.Searching.{IsSplit};
+ghost use Rattle.plan_order.specs.Searching.{IsSplit, AreFirst};
 
 use plan_model::Plan;
 use plan_rules::{Row, Target};
@@ -151,6 +149,19 @@ pub(crate) fn count_of(plan: &Plan) -> u8
     plan.nodes().as_slice().len() as u8
 }
 
+/// Puts the relay at this place, if its rows differ.
+fn note(old: &Plan, new: &Plan, node: u8, differ: &mut List<u8>) -> Result<(), OutOfMemory>
+    requires old { node < length old.now.nodes }
+    requires new { node < length new.now.nodes }
+    requires first { AreFirst old.now new.now node differ.old }
+    ensures { OnOk result (AreFirst old.now new.now (node + 1) differ.new) }
+{
+    if !differs(old, new, node) {
+        return Ok(());
+    }
+    differ.push(node)
+}
+
 /// The relays whose rows differ, in the order of the plan.
 pub(crate) fn differing(alloc: Global, old: &Plan, new: &Plan) -> Result<List<u8>, OutOfMemory>
     requires same { SameNodes old.now new.now }
@@ -158,9 +169,7 @@ pub(crate) fn differing(alloc: Global, old: &Plan, new: &Plan) -> Result<List<u8
 {
     let mut differ = List::new(alloc);
     for node in 0..count_of(old) {
-        if differs(old, new, node) {
-            differ.push(node)?;
-        }
+        note(old, new, node, &mut differ)?;
     }
     Ok(differ)
 }

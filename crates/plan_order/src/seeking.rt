@@ -1,5 +1,5 @@
 //! The search for an order.
-ghost use Rattle.std.specs.Prelude.{◌≡◌, ◌∷◌, [], ◌++◌, ◌<◌, ◌⊎◌, false, IsTrue, IfOk, OnOk, length};
+ghost use Rattle.std.specs.Prelude.{◌≡◌, ◌↔◌, ◌∷◌, [], ◌++◌, ◌<◌, ◌⊎◌, false, IsTrue, IfOk, OnOk, length};
 ghost use Rattle.std.specs.List.{All, Any};
 ghost use Rattle.plan_model.specs.SameNodes.{SameNodes};
 ghost use Rattle.plan_order.specs.declared.found.Found.TheVariants.{Steps as StepsFound};
@@ -12,7 +12,7 @@ use crate::growing::{alone, first_safe, grown};
 use crate::known::Known;
 use crate::plans::Plans;
 use crate::safe_step::SafeStep;
-use crate::sets::{are_same, joined, without};
+use crate::sets::{are_same, copied, joined, without};
 use crate::trying::bound_of;
 use sccp_base::{List, OutOfMemory};
 use std::alloc::Global;
@@ -59,7 +59,7 @@ pub(crate) fn seek(
 fn last_step(alloc: Global, left: &[u8], bound: u8) -> Result<Found, OutOfMemory>
     ensures { IfOk result (λ found. found ≡ StepsFound (record { nodes = left.now; bound = bound } ∷ [])) }
 {
-    let nodes = joined(alloc, left, &[])?;
+    let nodes = copied(alloc, left)?;
     let mut steps = List::new(alloc);
     steps.push(SafeStep { nodes, bound })?;
     Ok(Found::Steps(steps))
@@ -204,6 +204,21 @@ fn seek_one(
     }
 }
 
+/// Notes a dead end.
+fn note(alloc: Global, plans: &Plans<'_>, done: &[u8], known: &mut Known) -> Result<(), OutOfMemory>
+    requires known { IsKnown plans.now.old.now plans.now.new.now known.old }
+    requires differ { All (Differs plans.now.old.now plans.now.new.now) done.now }
+    requires dead { known.old.wide ≡ false → IsDeadEnd plans.now.old.now plans.now.new.now done.now }
+    ensures known { OnOk result (IsKnown plans.now.old.now plans.now.new.now known.new) }
+    ensures wide { OnOk result (known.new.wide ≡ known.old.wide) }
+{
+    if is_dead(known.dead.as_slice(), done) {
+        return Ok(());
+    }
+    let set = copied(alloc, done)?;
+    known.dead.push(set)
+}
+
 /// Notes that no order goes on from here.
 fn end_here(
     alloc: Global,
@@ -219,9 +234,7 @@ fn end_here(
     ensures narrow { OnOk result (known.new.wide ≡ false → known.old.wide ≡ false) }
     ensures found { IfOk result (IsFound plans.now.old.now plans.now.new.now done.now left.now known.new) }
 {
-    if !is_dead(known.dead.as_slice(), done) {
-        known.dead.push(joined(alloc, done, &[])?)?;
-    }
+    note(alloc, plans, done, known)?;
     if MOST <= known.dead.as_slice().len() {
         return Ok(Found::GaveUp);
     }

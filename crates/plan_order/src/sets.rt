@@ -44,6 +44,13 @@ pub(crate) fn one(alloc: Global, node: u8) -> Result<List<u8>, OutOfMemory>
     Ok(set)
 }
 
+/// The set once more.
+pub(crate) fn copied(alloc: Global, set: &[u8]) -> Result<List<u8>, OutOfMemory>
+    ensures { IfOk result (λ copy. copy ≡ set.now) }
+{
+    Ok(List::from_vec(Vec::from_slice(alloc, set)?))
+}
+
 /// The relays of the one set, and then those of the other.
 pub(crate) fn joined(alloc: Global, set: &[u8], more: &[u8]) -> Result<List<u8>, OutOfMemory>
     ensures { IfOk result (λ all. all ≡ set.now ++ more.now) }

@@ -1,5 +1,5 @@
 //! Where the steps end, if there is no order.
-ghost use Rattle.std.specs.Prelude.{ℕ, ◌≡◌, ◌∷◌, [], ⊥, List, IfOk, IfNone, IfSome};
+ghost use Rattle.std.specs.Prelude.{ℕ, ◌≡◌, ◌∷◌, [], List, IfOk, IfNone, IfSome};
 ghost use Rattle.std.specs.List.{All, concat};
 ghost use Rattle.plan_model.specs.SameNodes.{SameNodes};
 ghost use Rattle.plan_mixed.specs.Mixed.{MixedReachAtLeast};
@@ -7,9 +7,9 @@ ghost use Rattle.plan_order.specs.Steps.{IsSafeStep, AreSteps, sets_of};
 ghost use Rattle.plan_order.specs.Orders.{IsOrder, IsLawfulOrder};
 ghost use Rattle.plan_order.specs.Searching.{IsSplit, IsNextStep, IsWhy};
 
+use crate::answer::Order;
 use crate::growing::{first_safe, grown};
 use crate::known::Known;
-use crate::answer::Order;
 use crate::outcome::{Outcome, outcome_of};
 use crate::plans::Plans;
 use crate::safe_step::SafeStep;

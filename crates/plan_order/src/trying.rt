@@ -29,12 +29,7 @@ fn holding(done: &[u8], step: &[u8], node: u8) -> Holding
 }
 
 /// What each of this number of relays may hold meanwhile.
-fn during(
-    alloc: Global,
-    count: u8,
-    done: &[u8],
-    step: &[u8],
-) -> Result<List<Holding>, OutOfMemory>
+fn during(alloc: Global, count: u8, done: &[u8], step: &[u8]) -> Result<List<Holding>, OutOfMemory>
     ensures { IfOk result (λ may. may ≡ during count done.now step.now) }
 {
     let mut may = List::new(alloc);
