@@ -47,7 +47,8 @@ pub record IsPart (old new : Network) (done step done' step' : List ℕ) : Type 
 pub lets_more : (old new : Network) (done step done' step' : List ℕ) → SameNodes old new → IsPart old new done step done' step'
     → LetsMore old new (during (length old.nodes) done step) (during (length old.nodes) done' step')
 lets_more old new done step done' step' same part n w holds =
-    ⊎_elim (λ differs. inl (⊎_elim (inside differs) past (cases_lt n (length old.nodes)))) (λ alike. inr alike.1) (differs_told old new same n)
+    ⊎_elim (λ differs. inl (⊎_elim (inside differs) past (cases_lt n (length old.nodes)))) (λ alike. inr alike.1)
+        (differs_told old new same n)
   where
     count : ℕ
     count = length old.nodes

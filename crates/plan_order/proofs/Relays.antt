@@ -115,7 +115,8 @@ differs_told old new same node = by (slice_get old.nodes node) (slice_get new.no
 
     by : (o p : Option Node) → slice_get old.nodes node ≡ o → slice_get new.nodes node ≡ p → Known old new node
     by None None e f = inr (
-      λ differs. subst (λ (o : Option Node). IsSomeAnd o (λ x. IsSomeAnd (slice_get new.nodes node) (λ y. x.table ≡ y.table → ⊥))) e differs,
+      λ differs. subst (λ (o : Option Node). IsSomeAnd o (λ x. IsSomeAnd (slice_get new.nodes node) (λ y. x.table ≡ y.table
+          → ⊥))) e differs,
       at None None e f (λ spot marking. refl),
     )
     by None (Some b) e f = absurd (neither b e f)

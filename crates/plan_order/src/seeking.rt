@@ -133,7 +133,8 @@ fn seek_by(
     requires known { IsKnown plans.now.old.now plans.now.new.now known.old }
     ensures known { OnOk result (IsKnown plans.now.old.now plans.now.new.now known.new) }
     ensures narrow { OnOk result (known.new.wide ≡ false → known.old.wide ≡ false) }
-    ensures found { IfOk result (IsFoundIf plans.now.old.now plans.now.new.now done.now left.now (IsDeadEnd plans.now.old.now plans.now.new.now (done.now ++ step.nodes)) known.new) }
+    ensures found { IfOk result (IsFoundIf plans.now.old.now plans.now.new.now done.now left.now
+        (IsDeadEnd plans.now.old.now plans.now.new.now (done.now ++ step.nodes)) known.new) }
 {
     let further = joined(alloc, done, step.nodes.as_slice())?;
     let rest = without(alloc, left, step.nodes.as_slice())?;
@@ -196,7 +197,8 @@ fn seek_one(
     requires known { IsKnown plans.now.old.now plans.now.new.now known.old }
     ensures known { OnOk result (IsKnown plans.now.old.now plans.now.new.now known.new) }
     ensures narrow { OnOk result (known.new.wide ≡ false → known.old.wide ≡ false) }
-    ensures found { IfOk result (IsFoundIf plans.now.old.now plans.now.new.now done.now left.now (IsClosed plans.now.old.now plans.now.new.now done.now node) known.new) }
+    ensures found { IfOk result (IsFoundIf plans.now.old.now plans.now.new.now done.now left.now
+        (IsClosed plans.now.old.now plans.now.new.now done.now node) known.new) }
 {
     match alone(alloc, plans, done, node, known)? {
         Some(step) => seek_by(alloc, plans, done, left, step, known),
