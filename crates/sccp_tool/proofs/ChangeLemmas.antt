@@ -1,5 +1,5 @@
 -- What the comparing of two plans ends with.
-use Rattle.std.proofs.Common.{◌≡◌, ◌⊎◌, ℕ, List, Option, Some, Result, IfOk, sym, subst, inl, inr}
+use Rattle.std.proofs.Common.{◌≡◌, ◌⊎◌, ℕ, List, Option, Some, Result, IfOk, inl, inr}
 use Rattle.plan_model.specs.Network.{Network}
 use Rattle.plan_model.specs.SameNodes.{SameNodes}
 use Rattle.plan_change.specs.Changes.{IsLawfulChange}
@@ -16,7 +16,7 @@ use Rattle.sccp_work.specs.Ending.{IsCut, Works}
 use Rattle.sccp_work.specs.Moment.{Moment}
 use Rattle.sccp_work.specs.PlanFile.{PlanFile}
 use Rattle.sccp_work.specs.Questions.{mixture_of, IsCompared}
-use Rattle.sccp_work.specs.Work.{Ends, HasFiles}
+use Rattle.sccp_work.specs.Work.{Ends}
 use Rattle.sccp_work.specs.Writing.{Writes}
 use Rattle.sccp_work.specs.declared.status.Status.{Status}
 use Rattle.sccp_work.specs.declared.status.Status.TheVariants.{OtherNodes}
@@ -57,13 +57,13 @@ abbrev MixtureEnds : Network → Network → Status → Type 0
 MixtureEnds = BothEnd IsMixable IsUnmixable IsWideMixture
 
 mixture_answer : (old new : Network) (s : Status) (text : List ℕ) → TellsMixture old new s text → MixtureEnds old new s
-mixture_answer old new s text (is_other apart is spelt) = subst (MixtureEnds old new) (sym is) (differ apart)
-mixture_answer old new s text (is_told same change lawful is spelt) = subst (MixtureEnds old new) (sym is) (by change lawful)
+mixture_answer old new s text (is_other others is spelt) = differ others is
+mixture_answer old new s text (is_told same change lawful is spelt) = by change lawful is
   where
-    by : (c : Change) → IsLawfulChange old new c → MixtureEnds old new (change_status c)
-    by (changes.Kept bound spot turns) k = goes same (bound, (k.0, k.1))
-    by (changes.Broken i j spot turns hops kind) k = fails same (i, j, spot, turns, hops, kind, k)
-    by changes.TooWide k = unsure same k
+    by : (c : Change) → IsLawfulChange old new c → s ≡ change_status c → MixtureEnds old new s
+    by (changes.Kept bound spot turns) k e = goes same (bound, (k.0, k.1)) e
+    by (changes.Broken i j spot turns hops kind) k e = fails same (i, j, spot, turns, hops, kind, k) e
+    by changes.TooWide k e = unsure same k e
 
 not_both : (p q : Network) → IsMixable p q → IsUnmixable p q → ⊥
 not_both p q safe h = safe_not_bad p q safe.0 h.0 h.1 h.2 h.3 h.4 h.5 safe.1.0 safe.1.1 h.6

@@ -1,5 +1,5 @@
 -- What the search for an order ends with.
-use Rattle.std.proofs.Common.{◌≡◌, ◌⊎◌, ℕ, List, Option, Some, Result, IfOk, sym, subst, inl, inr}
+use Rattle.std.proofs.Common.{◌≡◌, ◌⊎◌, ℕ, List, Option, Some, Result, IfOk, inl, inr}
 use Rattle.plan_model.specs.Network.{Network}
 use Rattle.plan_model.specs.SameNodes.{SameNodes}
 use Rattle.plan_order.specs.Orders.{IsLawfulOrder}
@@ -16,7 +16,7 @@ use Rattle.sccp_work.specs.Ending.{IsCut, Works}
 use Rattle.sccp_work.specs.Moment.{Moment}
 use Rattle.sccp_work.specs.PlanFile.{PlanFile}
 use Rattle.sccp_work.specs.Questions.{order_of, IsOrdered}
-use Rattle.sccp_work.specs.Work.{Ends, HasFiles}
+use Rattle.sccp_work.specs.Work.{Ends}
 use Rattle.sccp_work.specs.Writing.{Writes}
 use Rattle.sccp_work.specs.declared.status.Status.{Status}
 use Rattle.sccp_work.specs.declared.status.Status.TheVariants.{OtherNodes}
@@ -57,13 +57,13 @@ abbrev OrderEnds : Network → Network → Status → Type 0
 OrderEnds = BothEnd HasOrder HasNoOrder IsUndecided
 
 order_answer : (old new : Network) (s : Status) (text : List ℕ) → TellsOrder old new s text → OrderEnds old new s
-order_answer old new s text (has_others apart is spelt) = subst (OrderEnds old new) (sym is) (differ apart)
-order_answer old new s text (has_order same order lawful is spelt) = subst (OrderEnds old new) (sym is) (by order lawful)
+order_answer old new s text (has_others others is spelt) = differ others is
+order_answer old new s text (has_order same order lawful is spelt) = by order lawful is
   where
-    by : (c : Order) → IsLawfulOrder old new c → OrderEnds old new (order_status c)
-    by (Steps steps) k = goes same (sets_of steps, k.order)
-    by (NoOrder steps stuck) k = fails same k.none
-    by Undecided k = unsure same k
+    by : (c : Order) → IsLawfulOrder old new c → s ≡ order_status c → OrderEnds old new s
+    by (Steps steps) k e = goes same (sets_of steps, k.order) e
+    by (NoOrder steps stuck) k e = fails same k.none e
+    by Undecided k e = unsure same k e
 
 not_both : (p q : Network) → HasOrder p q → HasNoOrder p q → ⊥
 not_both p q has none = none has.0 has.1

@@ -8,7 +8,7 @@ use Rattle.plan_model.specs.Network.{Network}
 use Rattle.plan_model.specs.SameNodes.{SameNodes, same_nodes}
 use Rattle.sccp_io.specs.Files.{Contents}
 use Rattle.sccp_tool.specs.Texts.{other_nodes}
-use Rattle.sccp_tool.specs.TwoPlans.{old_word, new_word, with_both, asked_of_both, IsGiven, TellsBoth, BothTell, HavePlans, HasEither}
+use Rattle.sccp_tool.specs.TwoPlans.{old_word, new_word, with_both, asked_of_both, IsGiven, TellsBoth, BothTell, HavePlans}
 use Rattle.sccp_tool.specs.TwoPlans.{BothCause, BothSure}
 use Rattle.sccp_work.specs.AcceptedPlan.{with_accepted, IsSurelySafe, TellsPlan}
 use Rattle.sccp_work.specs.Ending.{IsCut, Works}
@@ -88,11 +88,11 @@ module _ (question : Question) (status_of : Reply question → Status) (text_of 
 -- ---- how the command ends
 
 -- two safe plans have other nodes, or one of three facts gives the answer
-pub data BothEnd (Goes Fails Open : Network → Network → Type 0) (old new : Network) : Status → Type 0 where
-  differ : (SameNodes old new → ⊥) → BothEnd Goes Fails Open old new OtherNodes
-  goes : SameNodes old new → Goes old new → BothEnd Goes Fails Open old new Done
-  fails : SameNodes old new → Fails old new → BothEnd Goes Fails Open old new Refused
-  unsure : SameNodes old new → Open old new → BothEnd Goes Fails Open old new TooWide
+pub data BothEnd (Goes Fails Open : Network → Network → Type 0) (old new : Network) (s : Status) : Type 0 where
+  differ : (SameNodes old new → ⊥) → s ≡ OtherNodes → BothEnd Goes Fails Open old new s
+  goes : SameNodes old new → Goes old new → s ≡ Done → BothEnd Goes Fails Open old new s
+  fails : SameNodes old new → Fails old new → s ≡ Refused → BothEnd Goes Fails Open old new s
+  unsure : SameNodes old new → Open old new → s ≡ TooWide → BothEnd Goes Fails Open old new s
 
 module _ (next : Network → Network → Work) (Told : Network → Network → Status → List ℕ → Type 0)
     (ends : (contents : Option Contents) (p q : Network) (s : Status) (text : List ℕ) → Ends contents (next p q) s text → Told p q s text)
@@ -116,7 +116,8 @@ module _ (next : Network → Network → Work) (Told : Network → Network → S
         (λ p rest e. Ends-with_accepted contents new new_word (λ q. next p q) (λ q. Told p q) s rest
         (λ q last k. ends contents p q s last k) e) h
 
-    both_end : (contents : Option Contents) (old new : PlanFile) (s : Status) (text : List ℕ) → Ends contents (with_both old new next) s text
+    both_end : (contents : Option Contents) (old new : PlanFile) (s : Status) (text : List ℕ)
+        → Ends contents (with_both old new next) s text
         → CommandEnds contents old new s
     both_end contents old new s text h =
         file_of contents old old_word (NewTells contents new) (Ahead contents new) text s
@@ -129,10 +130,14 @@ module _ (next : Network → Network → Work) (Told : Network → Network → S
     only_both : (contents : Option Contents) (old new : PlanFile) (p q : Network) (s : Status)
         → ((holds : Network → Network → Type 0) → holds p q → HavePlans contents old new IsSafe holds) → BothEnd Goes Fails Open p q s
         → BothCause Goes Fails Open contents old new s
-    only_both contents old new p q OtherNodes here (differ apart) = here (λ p q. SameNodes p q → ⊥) apart
-    only_both contents old new p q Done here (goes same k) = here (λ p q. SameNodes p q × Goes p q) (same, k)
-    only_both contents old new p q Refused here (fails same k) = inr (here (λ p q. SameNodes p q × Fails p q) (same, k))
-    only_both contents old new p q TooWide here (unsure same k) = inr (here (λ p q. SameNodes p q × Open p q) (same, k))
+    only_both contents old new p q s here (differ others is) =
+        subst (BothCause Goes Fails Open contents old new) (sym is) (here (λ p q. SameNodes p q → ⊥) others)
+    only_both contents old new p q s here (goes same k is) =
+        subst (BothCause Goes Fails Open contents old new) (sym is) (here (λ p q. SameNodes p q × Goes p q) (same, k))
+    only_both contents old new p q s here (fails same k is) =
+        subst (BothCause Goes Fails Open contents old new) (sym is) (inr (here (λ p q. SameNodes p q × Fails p q) (same, k)))
+    only_both contents old new p q s here (unsure same k is) =
+        subst (BothCause Goes Fails Open contents old new) (sym is) (inr (here (λ p q. SameNodes p q × Open p q) (same, k)))
 
     only_new : (contents : Option Contents) (old new : PlanFile) (p : Network) (s : Status)
         → ((P : Network → Type 0) → P p → HasPlan contents old P) → IsSafe p → Ahead contents new p s
@@ -183,10 +188,10 @@ module _ (next : Network → Network → Work) (Told : Network → Network → S
     OnNew p q s = VerdictEnds q (BothEnd Goes Fails Open p q) s
 
     other_if : (p q : Network) (s : Status) → (SameNodes p q → ⊥) → BothEnd Goes Fails Open p q s → s ≡ OtherNodes
-    other_if p q OtherNodes apart (differ h) = refl
-    other_if p q Done apart (goes same k) = absurd (apart same)
-    other_if p q Refused apart (fails same k) = absurd (apart same)
-    other_if p q TooWide apart (unsure same k) = absurd (apart same)
+    other_if p q s others (differ h is) = is
+    other_if p q s others (goes same k is) = absurd (others same)
+    other_if p q s others (fails same k is) = absurd (others same)
+    other_if p q s others (unsure same k is) = absurd (others same)
 
     -- what two plans that are surely safe end with
     past_both : (c : Contents) (old new : PlanFile) (holds : Network → Network → Type 0) (s : Status)
@@ -218,10 +223,10 @@ module _ (next : Network → Network → Work) (Told : Network → Network → S
     Excludes = (p q : Network) → Goes p q → Fails p q → ⊥
 
     done_if : Excludes → (p q : Network) (s : Status) → SameNodes p q → Goes p q → (Open p q → ⊥) → BothEnd Goes Fails Open p q s → s ≡ Done
-    done_if not_both p q OtherNodes same holds closed (differ apart) = absurd (apart same)
-    done_if not_both p q Done same holds closed (goes also k) = refl
-    done_if not_both p q Refused same holds closed (fails also k) = absurd (not_both p q holds k)
-    done_if not_both p q TooWide same holds closed (unsure also k) = absurd (closed k)
+    done_if not_both p q s same holds closed (differ others is) = absurd (others same)
+    done_if not_both p q s same holds closed (goes also k is) = is
+    done_if not_both p q s same holds closed (fails also k is) = absurd (not_both p q holds k)
+    done_if not_both p q s same holds closed (unsure also k is) = absurd (closed k)
 
     always : Excludes → (c : Contents) (old new : PlanFile) (t s : Status) → BothSure Goes Open (Some c) old new t
         → CommandEnds (Some c) old new s → s ≡ t
@@ -247,10 +252,10 @@ module _ (next : Network → Network → Work) (Told : Network → Network → S
 
     refused_if : Excludes → (p q : Network) (s : Status) → SameNodes p q → Fails p q → BothEnd Goes Fails Open p q s
         → (s ≡ Refused) ⊎ (s ≡ TooWide)
-    refused_if not_both p q OtherNodes same no (differ apart) = absurd (apart same)
-    refused_if not_both p q Done same no (goes also k) = absurd (not_both p q k no)
-    refused_if not_both p q Refused same no (fails also k) = inl refl
-    refused_if not_both p q TooWide same no (unsure also k) = inr refl
+    refused_if not_both p q s same fact (differ others is) = absurd (others same)
+    refused_if not_both p q s same fact (goes also k is) = absurd (not_both p q k fact)
+    refused_if not_both p q s same fact (fails also k is) = inl is
+    refused_if not_both p q s same fact (unsure also k is) = inr is
 
     refused_for : Excludes → (c : Contents) (old new : PlanFile) (s : Status) → BothCause Goes Fails Open (Some c) old new Refused
         → CommandEnds (Some c) old new s → (s ≡ Refused) ⊎ (s ≡ TooWide)

@@ -1,5 +1,7 @@
 //! The command that gives an order in which relays can be given the second of two plans.
 ghost use Rattle.std.specs.Prelude.{◌≡◌, IfOk};
+ghost use Rattle.plan_model.specs.SameNodes.{SameNodes};
+ghost use Rattle.plan_order.specs.Orders.{IsLawfulOrder};
 ghost use Rattle.sccp_tool.specs.Commands.{texts};
 ghost use Rattle.sccp_tool.specs.Order.{order_of, order_words, order_work, order_status, IsOrderGiven};
 ghost use Rattle.sccp_tool.specs.Parsed.{task_in};
@@ -12,7 +14,7 @@ use crate::change::{NEW, OLD, other_nodes};
 use crate::command::Command;
 use order_report::order_text;
 use plan_check::Accepted;
-use plan_model::Limits;
+use plan_model::{Limits, have_same_nodes};
 use plan_order::{ChangeFault, Order};
 use sccp_base::OutOfMemory;
 use sccp_io::{Files, Sink};
@@ -80,13 +82,27 @@ fn answer_on(alloc: Global, old: &Accepted, new: &Accepted) -> Result<Answer, Ou
     ensures { IfOk result (λ answer. IsOrderGiven old.now.plan new.now.plan answer.status answer.text) }
 {
     match plan_order::order(alloc, old, new) {
-        Ok(order) => Ok(Answer {
-            status: status_of_order(&order),
-            text: order_text(alloc, old.plan(), new.plan(), &order)?,
-        }),
+        Ok(order) => {
+            prove!(have_same_nodes(old.plan(), new.plan()));
+            let told = told(alloc, old, new, &order);
+            drop(order);
+            told
+        }
         Err(ChangeFault::OtherNodes) => other_nodes(alloc),
         Err(ChangeFault::OutOfMemory) => Err(OutOfMemory),
     }
+}
+
+/// The answer if the plans have the same nodes.
+fn told(alloc: Global, old: &Accepted, new: &Accepted, order: &Order) -> Result<Answer, OutOfMemory>
+    requires lawful { IsLawfulOrder old.now.plan new.now.plan order.now }
+    requires same { SameNodes old.now.plan new.now.plan }
+    ensures { IfOk result (λ answer. IsOrderGiven old.now.plan new.now.plan answer.status answer.text) }
+{
+    Ok(Answer {
+        status: status_of_order(order),
+        text: order_text(alloc, old.plan(), new.plan(), order)?,
+    })
 }
 
 /// The status of an answer on an order.
