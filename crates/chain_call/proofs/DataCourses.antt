@@ -95,7 +95,7 @@ carries_same network S T point end last (s ∷ stops) same h = (
   carries_same network S T s.node end last stops same h.1,
 )
 
-option_parts : (o : Option (ℕ × ℕ)) → (o ≡ None) ⊎ ((l : ℕ × ℕ) × (o ≡ Some l))
+pub option_parts : (o : Option (ℕ × ℕ)) → (o ≡ None) ⊎ ((l : ℕ × ℕ) × (o ≡ Some l))
 option_parts None = inl refl
 option_parts (Some l) = inr (l, refl)
 

@@ -115,7 +115,7 @@ pieces_there e d more payload xs n = ap (λ (b : Bool). cons_option (cond b (Som
 -- ---- links after a delivery
 
 -- a link without its oldest message, the others as they were
-abbrev rest_at : World → ℕ → ℕ → List Message → ℕ → ℕ → List Message
+abbrev pub rest_at : World → ℕ → ℕ → List Message → ℕ → ℕ → List Message
 rest_at w a b rest x y = cond ((x == a) && (y == b)) rest (w.waiting x y)
 
 both : (a b x y : ℕ) → a ≡ x → b ≡ y → ((a == x) && (b == y)) ≡ true

@@ -15,3 +15,8 @@ pub mod DataCourses
 pub mod Sends
 pub mod Routes
 pub mod Outcomes
+pub mod Marks
+pub mod Releases
+pub mod Freed
+pub mod Released
+pub mod Carrying

@@ -19,7 +19,7 @@ use Rattle.couple_chain.specs.Line as lines
 use Rattle.couple_chain.specs.Line.{line}
 use Rattle.couple_chain.specs.World.{Network, World, is_node, start, put, put_on, is_used, offer_fault, unread, is_writable, names as named}
 use Rattle.chain_world.specs.Kept.{kept, network_of}
-use Rattle.chain_call.specs.Answered.{IsCall, IsAnswered}
+use Rattle.chain_call.specs.Answered.{IsCall}
 use Rattle.chain_call.specs.Course.{Course, beginning, world_at}
 use Rattle.chain_call.specs.Notes.{first_request, first_refusal, or_later}
 use Rattle.chain_call.specs.Steps.{called_of, counter, requested, confirmed, settled, settled_in, carried_on, name_at, refused_or, on_line, if_settled}
@@ -38,7 +38,7 @@ use Rattle.chain_call.proofs.Requests.{S, Unused, Enters, EntersAt, Asked, Denie
 use Rattle.chain_call.proofs.Confirms.{Opened, Confirming, before, confirm}
 use Rattle.chain_call.proofs.OpenLines.{HasLine, has_line, no_line}
 
-settled_is : (c : Course) → settled c ≡ settled_in 18446744073709551615 c
+pub settled_is : (c : Course) → settled c ≡ settled_in 18446744073709551615 c
 unfolding settled
 settled_is c = refl
 
@@ -253,10 +253,3 @@ answered plan call is =
     subst (Answered plan call)
     (sym (ap (λ (k : Course). if_settled (answer_to call) (settled k)) f.0 ∙ ap (if_settled (answer_to call)) (settled_is c ∙ r.1)))
     (by_answer plan call r.0 is r.2)
-
-answered_by : (plan : plans.Network) (call : Call) (out : Outcome) → Answered plan call out → IsAnswered out
-answered_by plan call out (refused cause e) = subst IsAnswered (sym e) tt
-answered_by plan call out (connected is) = subst IsAnswered (sym is.out_is) tt
-
-pub is_answered : (plan : plans.Network) (call : Call) → IsCall plan call → IsAnswered (outcome call (beginning (kept plan [])))
-is_answered plan call is = answered_by plan call (outcome call (beginning (kept plan []))) (answered plan call is)

@@ -53,7 +53,7 @@ left_empty w x y m h a b =
       | false ↦ λ e. h a b ∙ ap (λ (c : Bool). cond c (m ∷ []) []) e
     ] refl
 
-eq_sym : (a b : ℕ) → (a == b) ≡ (b == a)
+pub eq_sym : (a b : ℕ) → (a == b) ≡ (b == a)
 eq_sym a b = ⊎_elim (λ (e : a ≡ b). eq-eqb a b e ∙ sym (eq-eqb b a (sym e))) (λ (n : a ≡ b → ⊥). ne_eqb a b n
     ∙ sym (ne_eqb b a (λ e. n (sym e)))) (cases_eq a b)
 

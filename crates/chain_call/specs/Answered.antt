@@ -15,9 +15,10 @@ pub record IsCall (plan : Network) (call : Call) : Type 0 where
   pub entry : is_node (network_of plan) call.entry ≡ true
   pub called : IsAddress (called_of call)
 
--- a connection is refused or opened, so it is answered, and the links are empty after its request and after its confirmation
-abbrev pub IsAnswered : Outcome → Type 0
-IsAnswered Unsettled = ⊥
-IsAnswered Unanswered = ⊥
-IsAnswered (Refused cause) = Unit {0}
-IsAnswered (Opened names far through) = Unit {0}
+-- A connection is refused or opened, so it is answered, and no link holds a message after its request and its confirmation. If it is
+-- opened, these octets come out at the far end and then at the end that calls, and no relay keeps a section.
+abbrev pub IsAnswered : List ℕ → Outcome → Type 0
+IsAnswered octets Unsettled = ⊥
+IsAnswered octets Unanswered = ⊥
+IsAnswered octets (Refused cause) = Unit {0}
+IsAnswered octets (Opened names far through) = through ≡ Some (record { forth = octets; back = octets; sections = 0 })

@@ -1,4 +1,4 @@
-use Rattle.chain_call.proofs.Outcomes.{is_answered}
+use Rattle.chain_call.proofs.Carrying.{is_answered}
 use Rattle.chain_call.proofs.laws.connections_are_answered.Goals as goal
 
 pub returns : goal.returns
