@@ -227,10 +227,11 @@ all_through plan call c end h back outer end_outer front few size o =
 answered_by : (plan : plans.Network) (call : Call) (out : Outcome) → IsCall plan call → length call.octets ≤ 2 ^ 56 → Answered plan call out
     → IsAnswered call.octets out
 answered_by plan call out is size (refused cause e) = subst (IsAnswered call.octets) (sym e) tt
-answered_by plan call out is size (connected o) =
+answered_by plan call out is size (connected end h back o) =
     subst (IsAnswered call.octets) (sym o.out_is)
-    (all_through plan call o.course o.end o.h o.back is.from o.outer o.front o.few size o.is)
+    (all_through plan call o.course end h back is.from o.outer o.front o.few size o.is)
 
 pub is_answered : (plan : plans.Network) (call : Call) → IsCall plan call → length call.octets ≤ 2 ^ 56
     → IsAnswered call.octets (outcome call (beginning (kept plan [])))
-is_answered plan call is size = answered_by plan call (outcome call (beginning (kept plan []))) is size (answered plan call is)
+is_answered plan call is size =
+    answered_by plan call (outcome call (beginning (kept plan []))) is size (answered (λ far. Unit {0}) plan call is).0

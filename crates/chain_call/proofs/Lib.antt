@@ -20,3 +20,4 @@ pub mod Releases
 pub mod Freed
 pub mod Released
 pub mod Carrying
+pub mod Reaching

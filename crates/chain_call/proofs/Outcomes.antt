@@ -34,7 +34,7 @@ use Rattle.chain_call.proofs.Tokens.{sections_at, Holds, Empty}
 use Rattle.chain_call.proofs.Hops.{Hop, Asks, front_ref, waits_more}
 use Rattle.chain_call.proofs.HopSteps.{Opens, Accepts, Crossed}
 use Rattle.chain_call.proofs.Courses.{network_at, after_offer, offer_is, world_offered, no_fault, next_empty, turns_end}
-use Rattle.chain_call.proofs.Requests.{S, Unused, Enters, EntersAt, Asked, Denied, Answer, is_asked, is_denied, Calling, request}
+use Rattle.chain_call.proofs.Requests.{S, Unused, Enters, EntersAt, Asked, Denied, Answer, is_asked, is_denied, Calling, Goes, Fine, request}
 use Rattle.chain_call.proofs.Confirms.{Opened, Confirming, before, confirm}
 use Rattle.chain_call.proofs.OpenLines.{HasLine, has_line, no_line}
 
@@ -175,11 +175,8 @@ front_of entry h (g ∷ back) hops e =
     record { first = r.first; rest = r.rest; is = r.is; node = r.node; long = (let l = r.long in omega (arith, l)) }
 
 -- the outcome over open relays
-pub record IsOpened (plan : plans.Network) (call : Call) (out : Outcome) : Type 0 where
+pub record IsOpened (plan : plans.Network) (call : Call) (out : Outcome) (end : ℕ) (h : Hop) (back : List Hop) : Type 0 where
   pub course : Course
-  pub end : ℕ
-  pub h : Hop
-  pub back : List Hop
   pub front : Front call.entry (before (h ∷ back) []) (length back)
   pub few : length back ≤ 13
   pub outer : is_node (network_of plan) end ≡ false
@@ -188,10 +185,10 @@ pub record IsOpened (plan : plans.Network) (call : Call) (out : Outcome) : Type 
 
 pub data Answered (plan : plans.Network) (call : Call) (out : Outcome) : Type 0 where
   refused : (cause : ℕ) → out ≡ Refused cause → Answered plan call out
-  connected : IsOpened plan call out → Answered plan call out
+  connected : (end : ℕ) (h : Hop) (back : List Hop) → IsOpened plan call out end h back → Answered plan call out
 
 asked_outcome : (plan : plans.Network) (call : Call) (c : Course) (y : ℕ) (h : Hop) (hops : List Hop) → IsCall plan call
-    → Asked c plan call.from call.entry y h hops → IsOpened plan call (answer_to call c)
+    → Asked c plan call.from call.entry y h hops → IsOpened plan call (answer_to call c) y h hops
 unfolding answer_to with_line
 asked_outcome plan call c y h hops is a =
     let same : network_at c ≡ network_of plan = ap network_of a.plan_is in
@@ -213,9 +210,6 @@ asked_outcome plan call c y h hops is a =
     (let l = front.long in omega (arith, l, few)) opens in
     record {
       course = after;
-      end = y;
-      h = h;
-      back = hops;
       front = record { first = front.first; rest = front.rest; is = front.is; node = front.node; long = (let l = front.long in omega (arith, l)) };
       few = few;
       outer = ap (λ (n : Network). is_node n y) (sym same) ∙ a.outer;
@@ -238,18 +232,32 @@ asked_outcome plan call c y h hops is a =
           ∙ ap (λ (k : plans.Network). opened (filter_map (name_at k) (map (λ (g : Hop). g.node) (before (h ∷ hops) []))) y (carried_on call y after)) plan_is;
     }
 
-by_answer : (plan : plans.Network) (call : Call) (c : Course) → IsCall plan call → Answer c plan call.from call.entry
-    → Answered plan call (answer_to call c)
-by_answer plan call c is (is_asked y h hops a) = connected (asked_outcome plan call c y h hops is a)
-by_answer plan call c is (is_denied cause d) = refused cause (denied_outcome plan call c cause d)
+-- it is open to an end that is allowed, over at most so many relays
+abbrev pub FineAnswered : {plan : plans.Network} {call : Call} {out : Outcome} → (ℕ → Type 0) → ℕ → Answered plan call out → Type 0
+FineAnswered allowed most (refused cause e) = ⊥
+FineAnswered allowed most (connected end h back o) = allowed end × (suc (length back) ≤ most)
+
+-- an outcome, and that it is fine if the request goes to such an end
+abbrev pub Leading : (ℕ → Type 0) → plans.Network → Call → Outcome → Type 0
+Leading allowed plan call out = (answer : Answered plan call out)
+    × ((k : ℕ) → Goes (network_of plan) allowed k call.entry (called_of call) 15 → FineAnswered allowed k answer)
+
+by_answer : (allowed : ℕ → Type 0) (plan : plans.Network) (call : Call) (c : Course) → IsCall plan call
+    → (answer : Answer c plan call.from call.entry)
+    → ((k : ℕ) → Goes (network_of plan) allowed k call.entry (called_of call) 15 → Fine allowed k answer)
+    → Leading allowed plan call (answer_to call c)
+by_answer allowed plan call c is (is_asked y h hops a) fine = (connected y h hops (asked_outcome plan call c y h hops is a), fine)
+by_answer allowed plan call c is (is_denied cause d) fine = (refused cause (denied_outcome plan call c cause d), fine)
 
 -- a connection with nothing before it is refused, or open over relays
-pub answered : (plan : plans.Network) (call : Call) → IsCall plan call → Answered plan call (outcome call (beginning (kept plan [])))
+pub answered : (allowed : ℕ → Type 0) (plan : plans.Network) (call : Call) → IsCall plan call
+    → Leading allowed plan call (outcome call (beginning (kept plan [])))
 unfolding outcome
-answered plan call is =
+answered allowed plan call is =
     let f = called_first plan call is in
     let c : Course = after_offer call.from call.entry (request_of call) (beginning (kept plan [])) in
-    let r = request 15 18446744073709551615 c call.from call.entry call.entry [] (called_of call) f.1 (omega arith) in
-    subst (Answered plan call)
+    let r = request allowed 15 18446744073709551615 c call.from call.entry call.entry [] (called_of call) f.1 (omega arith) in
+    subst (Leading allowed plan call)
     (sym (ap (λ (k : Course). if_settled (answer_to call) (settled k)) f.0 ∙ ap (if_settled (answer_to call)) (settled_is c ∙ r.1)))
-    (by_answer plan call r.0 is r.2)
+    (by_answer allowed plan call r.0 is r.2
+    (λ k goes. subst (λ (j : ℕ). Fine allowed j r.2) (let z : 0 + k ≡ k = omega arith in z) (r.3 k goes)))

@@ -252,6 +252,19 @@ pub data Answer (c : Course) (plan : plans.Network) (from entry : ℕ) : Type 0 
   is_asked : (y : ℕ) (h : Hop) (hops : List Hop) → Asked c plan from entry y h hops → Answer c plan from entry
   is_denied : (cause : ℕ) → Denied c plan from cause → Answer c plan from entry
 
+-- From y on, this request goes over at most k relays, and then to an end that is allowed.
+abbrev pub Goes : Network → (ℕ → Type 0) → ℕ → ℕ → Address → ℕ → Type 0
+Goes network allowed zero y called n = (is_node network y ≡ false) × allowed y
+Goes network allowed (suc k) y called n = ((is_node network y ≡ false) × allowed y)
+    ⊎ ((is_node network y ≡ true) × (to : ℕ) × (next : Address)
+    × ((origin slr : ℕ) → network.way y origin (messages.Cr slr 2 called (hops_param n)) ≡ Onward to next (hops_param (one_less n)))
+    × Goes network allowed k to next (one_less n))
+
+-- it came to such an end, over at most so many relays
+abbrev pub Fine : {c : Course} {plan : plans.Network} {from entry : ℕ} → (ℕ → Type 0) → ℕ → Answer c plan from entry → Type 0
+Fine allowed most (is_asked y h hops a) = allowed y × (suc (length hops) ≤ most)
+Fine allowed most (is_denied cause d) = ⊥
+
 -- a request is on its way to y
 pub record Calling (c : Course) (from entry y : ℕ) (hops : List Hop) (called : Address) (n : ℕ) : Type 0 where
   pub holds : Holds (world_at c) (back_point from hops) y (messages.Cr (back_ref hops) 2 called (hops_param n))
@@ -269,17 +282,19 @@ differ_at : (c : Course) (y : ℕ) → OwnDiffer (S c y)
 differ_at c y = (regular (network_at c) c.history y).kept.coupling.differ
 
 -- what the turns of a request lead to
-abbrev pub Leads : ℕ → Course → ℕ → ℕ → Type 0
-Leads turns c from entry = (after : Course) × (settled_in turns c ≡ Some after) × Answer after c.plan from entry
+abbrev pub Leads : (ℕ → Type 0) → ℕ → Course → ℕ → ℕ → ℕ → List Hop → Address → ℕ → Type 0
+Leads allowed turns c from entry y hops called n = (after : Course) × (settled_in turns c ≡ Some after) × (answer : Answer after c.plan from entry)
+    × ((k : ℕ) → Goes (network_at c) allowed k y called n → Fine allowed (length hops + k) answer)
 
-abbrev Later : ℕ → ℕ → ℕ → ℕ → Type 0
-Later turns from entry n = (k : ℕ) → n ≡ suc k → (c : Course) (y : ℕ) (hops : List Hop) (called : Address)
-    → Calling c from entry y hops called k → 64 ≤ turns + c.deliveries → Leads turns c from entry
+abbrev Later : (ℕ → Type 0) → ℕ → ℕ → ℕ → ℕ → Type 0
+Later allowed turns from entry n = (k : ℕ) → n ≡ suc k → (c : Course) (y : ℕ) (hops : List Hop) (called : Address)
+    → Calling c from entry y hops called k → 64 ≤ turns + c.deliveries → Leads allowed turns c from entry y hops called k
 
 -- one turn of a request
-request_turn : (n turns : ℕ) (c : Course) (from entry y : ℕ) (hops : List Hop) (called : Address) → Later turns from entry n
-    → Calling c from entry y hops called n → 64 ≤ suc turns + c.deliveries → Leads (suc turns) c from entry
-request_turn n turns c from entry y hops called later r enough =
+request_turn : (allowed : ℕ → Type 0) (n turns : ℕ) (c : Course) (from entry y : ℕ) (hops : List Hop) (called : Address)
+    → Later allowed turns from entry n → Calling c from entry y hops called n → 64 ≤ suc turns + c.deliveries
+    → Leads allowed (suc turns) c from entry y hops called n
+request_turn allowed n turns c from entry y hops called later r enough =
     ⊎_elim (λ inner. at_node n inner) (λ outer. at_last hops r outer) (cases_Bool (is_node (network_at c) y))
   where
     m : List Hop → ℕ → Message
@@ -289,8 +304,39 @@ request_turn n turns c from entry y hops called later r enough =
     first = let d = r.deliveries in let l = r.left in let e = r.offers in
         turn_on turns c (back_point from hops, y) (next_single (back_point from hops) y (m hops n) c r.holds) (omega (arith, d, l, e))
 
+    come_out : (hops : List Hop) → is_node (network_at c) y ≡ false → (k : ℕ) → Goes (network_at c) allowed k y called n
+        → allowed y × (length hops ≤ length hops + k)
+    come_out hops outer zero goes = (goes.1, omega arith)
+    come_out hops outer (suc k) (inl goes) = (goes.1, omega arith)
+    come_out hops outer (suc k) (inr goes) = absurd (let z : true ≡ false = sym goes.0 ∙ outer in cc)
+
+    not_refused : (n : ℕ) → is_node (network_at c) y ≡ true → (cause : ℕ) → (network_at c).way y (back_point from hops) (m hops n) ≡ Refused cause
+        → (k : ℕ) → Goes (network_at c) allowed k y called n → ⊥
+    not_refused n inner cause is zero goes = let z : true ≡ false = sym inner ∙ goes.0 in cc
+    not_refused n inner cause is (suc k) (inl goes) = let z : true ≡ false = sym inner ∙ goes.0 in cc
+    not_refused n inner cause is (suc k) (inr goes) =
+        let z : Refused cause ≡ Onward goes.1 goes.2 (hops_param (one_less n)) = sym is ∙ goes.3 (back_point from hops) (back_ref hops) in cc
+
+    further : (n : ℕ) → is_node (network_at c) y ≡ true → (to : ℕ) (next : Address) (params : List Parameter)
+        → (network_at c).way y (back_point from hops) (m hops (suc n)) ≡ Onward to next params → one_less (suc n) ≡ n
+        → {after : Course} (answer : Answer after c.plan from entry)
+        → ((k : ℕ) → Goes (network_at c) allowed k to next n → Fine allowed (suc (length hops) + k) answer)
+        → (k : ℕ) → Goes (network_at c) allowed k y called (suc n) → Fine allowed (length hops + k) answer
+    further n inner to next params is less answer fine zero goes = absurd (let z : true ≡ false = sym inner ∙ goes.0 in cc)
+    further n inner to next params is less answer fine (suc k) (inl goes) = absurd (let z : true ≡ false = sym inner ∙ goes.0 in cc)
+    further n inner to next params is less answer fine (suc k) (inr goes) =
+        let e : Onward to next params ≡ Onward goes.1 goes.2 (hops_param (one_less (suc n))) =
+        sym is ∙ goes.3 (back_point from hops) (back_ref hops) in
+        let a : goes.1 ≡ to = cc in
+        let b : goes.2 ≡ next = cc in
+        let there : Goes (network_at c) allowed k to next n =
+        subst (λ (x : ℕ). Goes (network_at c) allowed k x next n) a
+        (subst (λ (x : Address). Goes (network_at c) allowed k goes.1 x n) b
+        (subst (λ (x : ℕ). Goes (network_at c) allowed k goes.1 goes.2 x) less goes.4)) in
+        subst (λ (x : ℕ). Fine allowed x answer) (let z : suc (length hops) + k ≡ length hops + suc k = omega arith in z) (fine k there)
+
     at_last : (hops : List Hop) → Calling c from entry y hops called n → is_node (network_at c) y ≡ false
-        → Leads (suc turns) c from entry
+        → Leads allowed (suc turns) c from entry y hops called n
     at_last [] r outer = absurd (let z : true ≡ false = sym r.inner ∙ ap (is_node (network_at c)) (sym r.enters) ∙ outer in cc)
     at_last (h ∷ hops) r outer =
         let k : Message = m (h ∷ hops) n in
@@ -317,10 +363,11 @@ request_turn n turns c from entry y hops called later r enough =
           unused = o.unused r.unused;
           offers = e;
           deliveries = omega (arith, d);
-        }))
+        }), λ k goes. come_out (h ∷ hops) outer k goes)
 
-    by_way : (n : ℕ) → Later turns from entry n → Calling c from entry y hops called n → is_node (network_at c) y ≡ true → (way : Way)
-        → (network_at c).way y (back_point from hops) (m hops n) ≡ way → Counted n way → Leads (suc turns) c from entry
+    by_way : (n : ℕ) → Later allowed turns from entry n → Calling c from entry y hops called n → is_node (network_at c) y ≡ true → (way : Way)
+        → (network_at c).way y (back_point from hops) (m hops n) ≡ way → Counted n way
+        → Leads allowed (suc turns) c from entry y hops called n
     by_way n later r inner (Refused cause) is counts =
         let x : ℕ = back_point from hops in
         let d = r.deliveries in
@@ -348,7 +395,7 @@ request_turn n turns c from entry y hops called later r enough =
         }) (omega (arith, enough)) in
         (rest.0,
         turn_on turns c (x, y) (next_single x y (m hops n) c r.holds) (omega (arith, d, l, e)) ∙ ap (settled_in turns) move.step ∙ rest.1,
-        is_denied cause rest.2)
+        is_denied cause rest.2, λ k goes. not_refused n inner cause is k goes)
     by_way zero later r inner (Onward to next params) is counts = absurd (let z : true ≡ false = counts.0 in cc)
     by_way (suc n) later r inner (Onward to next params) is counts =
         let x : ℕ = back_point from hops in
@@ -382,19 +429,20 @@ request_turn n turns c from entry y hops called later r enough =
         }) (omega (arith, enough)) in
         (rest.0,
         turn_on turns c (x, y) (next_single x y (m hops (suc n)) c r.holds) (omega (arith, d, l, e)) ∙ ap (settled_in turns) move.step ∙ rest.1,
-        rest.2)
+        rest.2, λ k goes. further n inner to next params is less rest.2 rest.3 k goes)
 
-    at_node : (k : ℕ) → is_node (network_at c) y ≡ true
-        → Leads (suc turns) c from entry
+    at_node : (k : ℕ) → is_node (network_at c) y ≡ true → Leads allowed (suc turns) c from entry y hops called n
     at_node k inner = by_way n later r inner ((network_at c).way y (back_point from hops) (m hops n)) refl
         (way_counts c.plan (node_of c.plan.nodes y) n (back_ref hops) called)
 
-pub request : (n turns : ℕ) (c : Course) (from entry y : ℕ) (hops : List Hop) (called : Address) → Calling c from entry y hops called n
-    → 64 ≤ turns + c.deliveries → Leads turns c from entry
-request n zero c from entry y hops called r enough = let d = r.deliveries in let l = r.left in absurd (omega (arith, d, l, enough))
-request zero (suc turns) c from entry y hops called r enough = request_turn zero turns c from entry y hops called
+pub request : (allowed : ℕ → Type 0) (n turns : ℕ) (c : Course) (from entry y : ℕ) (hops : List Hop) (called : Address)
+    → Calling c from entry y hops called n → 64 ≤ turns + c.deliveries → Leads allowed turns c from entry y hops called n
+request allowed n zero c from entry y hops called r enough = let d = r.deliveries in let l = r.left in absurd (omega (arith, d, l, enough))
+request allowed zero (suc turns) c from entry y hops called r enough = request_turn allowed zero turns c from entry y hops called
     (λ k e. absurd (omega (arith, e))) r enough
-request (suc n) (suc turns) c from entry y hops called r enough =
-    request_turn (suc n) turns c from entry y hops called
-    (λ k e c y hops called r enough. request n turns c from entry y hops called
-    (subst (λ (j : ℕ). Calling c from entry y hops called j) (let z : k ≡ n = omega (arith, e) in z) r) enough) r enough
+request allowed (suc n) (suc turns) c from entry y hops called r enough =
+    request_turn allowed (suc n) turns c from entry y hops called
+    (λ k e c y hops called r enough.
+    let same : n ≡ k = omega (arith, e) in
+    subst (λ (j : ℕ). Leads allowed turns c from entry y hops called j) same
+    (request allowed n turns c from entry y hops called (subst (λ (j : ℕ). Calling c from entry y hops called j) (sym same) r) enough)) r enough
