@@ -1,7 +1,8 @@
 -- What goes over an open connection, and what is left of it.
-use Rattle.std.specs.Prelude.{ℕ, ◌≡◌, ◌==◌, ◌⊎◌, ◌<◌, ◌≤◌, ◌+◌, ◌*◌, Bool, true, false, cond, ◌&&◌, ◌^◌, List, [], ◌∷◌, ◌++◌, length, Option, Some, None, refl}
+use Rattle.std.specs.Prelude.{ℕ, ◌≡◌, ◌==◌, ◌≤◌, ◌*◌, Bool, true, false, cond, ◌&&◌, ◌^◌, List, [], ◌∷◌, ◌++◌, length, Option, Some, None}
+use Rattle.std.specs.Prelude.{refl}
 use Rattle.std.specs.Prelude.{option_and_then, option_map}
-use Rattle.std.proofs.Common.{zero, suc, sym, ◌∙◌, ap, subst, ⊎_elim, inl, inr, arith}
+use Rattle.std.proofs.Common.{sym, ◌∙◌, ap, subst, inr, arith}
 use Rattle.std.proofs.lemmas.Bool.{eq-eqb}
 use Rattle.sccp_message.specs.declared.message.Message.{Message}
 use Rattle.sccp_message.specs.declared.message.Message.TheVariants as messages
@@ -13,27 +14,23 @@ use Rattle.chain_world.specs.Kept.{kept, network_of}
 use Rattle.chain_world.specs.Running.{sections_of}
 use Rattle.chain_call.specs.Answered.{IsCall, IsAnswered}
 use Rattle.chain_call.specs.Course.{Course, beginning, world_at}
-use Rattle.chain_call.specs.Notes.{data_at, data_in, first_confirm, first_request, or_later}
-use Rattle.chain_call.specs.Steps.{sent_by, sent_forth, sent_back, released, through, carried, carried_if, carried_on, settled, settled_in, outcome, offered}
+use Rattle.chain_call.specs.Notes.{data_at, first_confirm, first_request, or_later}
+use Rattle.chain_call.specs.Steps.{sent_by, sent_forth, sent_back, released, through, carried, carried_if, carried_on, settled, outcome}
 use Rattle.chain_call.specs.declared.call.Call.{Call}
 use Rattle.chain_call.specs.declared.finding.Requested.{Requested}
-use Rattle.chain_call.specs.declared.handed.Handed.{Handed}
 use Rattle.chain_call.specs.declared.note.Note.TheVariants.{Request, Confirm}
 use Rattle.chain_call.specs.declared.outcome.Outcome.{Outcome}
-use Rattle.chain_call.specs.declared.outcome.Through.{Through}
 use Rattle.chain_call.proofs.Tokens.{sections_at, Empty}
-use Rattle.chain_call.proofs.Hops.{Hop, front_point, front_ref, back_point, back_ref, Among}
+use Rattle.chain_call.proofs.Hops.{Hop, front_point, front_ref, Among}
 use Rattle.chain_call.proofs.HopSteps.{Opens, opens_more}
-use Rattle.chain_call.proofs.Flows.{Carries}
 use Rattle.chain_call.proofs.Courses.{network_at, after_offer, offer_is, world_offered, no_fault}
 use Rattle.chain_call.proofs.Requests.{S}
 use Rattle.chain_call.proofs.Confirms.{before, Opened}
-use Rattle.chain_call.proofs.DataCourses.{carries_same}
 use Rattle.chain_call.proofs.Sends.{Carried, carry}
 use Rattle.chain_call.proofs.Routes.{near_stop, near_stops, far_stop, far_stops, carries_forth, carries_back}
 use Rattle.chain_call.proofs.Marks.{Mark, Marked}
 use Rattle.chain_call.proofs.Releases.{is_rlsd}
-use Rattle.chain_call.proofs.Freed.{Going, release_mark}
+use Rattle.chain_call.proofs.Freed.{release_mark}
 use Rattle.chain_call.proofs.Released.{Quiet, going, no_sections}
 use Rattle.chain_call.proofs.Outcomes.{settled_is, Front, Answered, refused, connected, answered}
 
@@ -72,7 +69,8 @@ still_ready c then plan from entry end to last octets g hops ready done =
       deliveries = done.deliveries;
     }
 
-release_all : (c : Course) (plan : plans.Network) (call : Call) (end : ℕ) (g : Hop) (hops : List Hop) → Ready c plan call.from call.entry end g hops
+release_all : (c : Course) (plan : plans.Network) (call : Call) (end : ℕ) (g : Hop) (hops : List Hop)
+    → Ready c plan call.from call.entry end g hops
     → (after : Course) × (settled (released call g.near c) ≡ Some after) × Quiet c after
 unfolding released
 release_all c plan call end g hops ready =
@@ -105,10 +103,11 @@ release_all c plan call end g hops ready =
       apart = tt;
       inner = tt;
       all = λ p own s at. inr (ready.all p own s (sym (ap (λ v. section_at (sections_at v p) own) e) ∙ at));
-    }) marked ready.end_outer (omega (arith, few)) (omega (arith, few, offers, deliveries)) in
-    (r.0,
-    ap settled (offer_is from call.entry n c (record { addresses = tt; named = tt; sevens_fit = tt }) none) ∙ settled_is then ∙ r.1,
-    record { plan_is = r.2.plan_is; none = r.2.none; data_stay = r.2.data_stay })
+    }) marked ready.end_outer (omega (arith, few)) (omega (arith, few, offers, deliveries)) in (
+      r.0,
+      ap settled (offer_is from call.entry n c (record { addresses = tt; named = tt; sevens_fit = tt }) none) ∙ settled_is then ∙ r.1,
+      record { plan_is = r.2.plan_is; none = r.2.none; data_stay = r.2.data_stay },
+    )
 
 -- ---- the two ends know their references
 
@@ -121,7 +120,8 @@ none_handed point reference a b c d slr own =
     ]
 
 confirm_there : (from a b c slr own : ℕ)
-    → first_confirm from (record { from = a; to = b; note = Request slr } ∷ record { from = c; to = from; note = Confirm own } ∷ []) ≡ Some own
+    → first_confirm from (record { from = a; to = b; note = Request slr } ∷ record { from = c; to = from; note = Confirm own } ∷ [])
+    ≡ Some own
 confirm_there from a b c slr own =
     elim (b == from) as (λ k. or_later (cond {A = Option ℕ} k None None) (or_later (cond (from == from) (Some own) None) None) ≡ Some own) [
       | true ↦ ap (λ (k : Bool). or_later (cond k (Some own) None) None) (eq-eqb from from refl)
@@ -163,7 +163,8 @@ all_through plan call c end h back outer end_outer front few size o =
       deliveries = omega (arith, offers, deliveries);
     } in
     -- what the ends know
-    let handed : c.handed ≡ record { from = h.node; to = end; note = Request h.far } ∷ record { from = g.node; to = from; note = Confirm g.near } ∷ [] =
+    let handed : c.handed ≡ record { from = h.node; to = end; note = Request h.far }
+    ∷ record { from = g.node; to = from; note = Confirm g.near } ∷ [] =
     o.handed ∙ ap (λ (l : List Hop). record { from = h.node; to = end; note = Request h.far }
     ∷ record { from = front_point end l; to = from; note = Confirm (front_ref l) } ∷ []) front.is in
     let own : first_confirm from c.handed ≡ Some g.near =
@@ -184,7 +185,8 @@ all_through plan call c end h back outer end_outer front few size o =
     let opens_there : Opens (network_at there) (S there) end from 1 (before (h ∷ back) []) =
     subst (Opens (network_at there) (S there) end from 1) (sym front.is) ready_there.opens in
     let b = carry 18446744073709551615 octets there end from 1 (far_stop h) (far_stops back) f.2.empty ready_there.end_outer (omega arith)
-    ready_there.from_outer (carries_back (network_at there) (S there) from end (h ∷ back) opens_there) (far_few back few) (omega (arith, size))
+    ready_there.from_outer (carries_back (network_at there) (S there) from end (h ∷ back) opens_there) (far_few back few)
+    (omega (arith, size))
     f.2.deliveries in
     let again : Course = b.0 in
     let ready_again = still_ready there again plan from call.entry end from 1 octets g hops ready_there b.2 in
@@ -197,15 +199,27 @@ all_through plan call c end h back outer end_outer front few size o =
     r.2.data_stay end 2 ∙ b.2.others end 2 (λ e. absurd (omega (arith, e))) ∙ come in
     let back_last : data_at from 1 last.handed ≡ octets =
     r.2.data_stay from 1 ∙ b.2.come ∙ ap (λ (l : List ℕ). l ++ octets)
-    (f.2.others from 1 (λ e. absurd (omega (arith, e))) ∙ ap (data_at from 1) handed ∙ none_handed from 1 h.node end g.node from h.far g.near) in
+    (f.2.others from 1 (λ e. absurd (omega (arith, e))) ∙ ap (data_at from 1) handed
+    ∙ none_handed from 1 h.node end g.node from h.far g.near) in
     ap (λ (x : Option ℕ). carried_if call end x (first_request c.handed) c) own
     ∙ ap (λ (x : Option Requested). carried_if call end (Some g.near) x c) asked
-    ∙ ap (λ (x : Option Course). option_and_then (λ forth. option_and_then (λ back. option_map (through call end) (settled (released call g.near back)))
+    ∙ ap (λ (x : Option Course). option_and_then (λ forth. option_and_then
+    (λ back. option_map (through call end) (settled (released call g.near back)))
     (settled (sent_back request end forth))) x) forth_is
     ∙ ap (λ (x : Option Course). option_and_then (λ back. option_map (through call end) (settled (released call g.near back))) x) back_is
     ∙ ap (λ (x : Option Course). option_map (through call end) x) r.1
-    ∙ ap (λ (l : List ℕ). Some (record { forth = l; back = data_at from 1 last.handed; sections = sections_of (network_of last.plan) (world_at last) })) forth_last
-    ∙ ap (λ (l : List ℕ). Some (record { forth = octets; back = l; sections = sections_of (network_of last.plan) (world_at last) })) back_last
+    ∙ ap (λ (l : List ℕ). Some (record {
+      forth = l;
+      back = data_at from 1 last.handed;
+      sections = sections_of (network_of last.plan)
+          (world_at last);
+    })) forth_last
+    ∙ ap (λ (l : List ℕ). Some (record {
+      forth = octets;
+      back = l;
+      sections = sections_of (network_of last.plan)
+          (world_at last);
+    })) back_last
     ∙ ap (λ (k : ℕ). Some (record { forth = octets; back = octets; sections = k })) (no_sections (network_at last) (world_at last) r.2.none)
   where
     near_few : (hops : List Hop) → length hops ≤ 14 → length (near_stops hops) ≤ 14

@@ -1,5 +1,5 @@
 -- A confirmation on its way back to the end that calls.
-use Rattle.std.specs.Prelude.{ℕ, ◌≡◌, ◌<◌, ◌≤◌, ◌+◌, ◌*◌, true, false, List, [], ◌∷◌, ◌++◌, length, Some, refl, ◌⊎◌}
+use Rattle.std.specs.Prelude.{ℕ, ◌≡◌, ◌≤◌, ◌+◌, false, List, [], ◌∷◌, ◌++◌, length, Some, refl, ◌⊎◌}
 use Rattle.std.proofs.Common.{zero, suc, sym, ◌∙◌, ap, inl, inr, arith}
 use Rattle.sccp_message.specs.declared.message.Message.{Message}
 use Rattle.sccp_message.specs.declared.message.Message.TheVariants as messages
@@ -57,20 +57,21 @@ confirm (suc turns) c from end [] hops old r enough =
     let e = r.offers in
     let after : Course = after_note y from (Confirm (front_ref hops)) c in
     let keeps : (p own : ℕ) (s : Section) → section_at (S c p) own ≡ Some s → section_at (S after p) own ≡ Some s =
-    λ p own s at. ap (λ l. section_at l own) (o.same p) ∙ at in
-    (after,
-    turn_on turns c (y, from) (next_single y from m c r.holds) (omega (arith, d, e))
-    ∙ ap (settled_in turns) (end_delivery y from m [] c (at_link (world_at c) y from m r.holds) r.outer)
-    ∙ turns_end turns after (next_empty after o.empty) (omega (arith, d, enough)),
-    record {
-      plan_is = refl;
-      empty = o.empty;
-      opens = opens_more (network_at c) (S c) (S after) end from 1 hops keeps r.accepts.opens;
-      all = λ p own s at. either_among p own hops (r.accepts.all p own s (sym (ap (λ l. section_at l own) (o.same p)) ∙ at));
-      handed = ap (λ (l : List Handed). l ++ record { from = y; to = from; note = Confirm (front_ref hops) } ∷ []) r.handed;
-      offers = e;
-      deliveries = omega (arith, d);
-    })
+    λ p own s at. ap (λ l. section_at l own) (o.same p) ∙ at in (
+      after,
+      turn_on turns c (y, from) (next_single y from m c r.holds) (omega (arith, d, e))
+          ∙ ap (settled_in turns) (end_delivery y from m [] c (at_link (world_at c) y from m r.holds) r.outer)
+          ∙ turns_end turns after (next_empty after o.empty) (omega (arith, d, enough)),
+      record {
+        plan_is = refl;
+        empty = o.empty;
+        opens = opens_more (network_at c) (S c) (S after) end from 1 hops keeps r.accepts.opens;
+        all = λ p own s at. either_among p own hops (r.accepts.all p own s (sym (ap (λ l. section_at l own) (o.same p)) ∙ at));
+        handed = ap (λ (l : List Handed). l ++ record { from = y; to = from; note = Confirm (front_ref hops) } ∷ []) r.handed;
+        offers = e;
+        deliveries = omega (arith, d);
+      },
+    )
 confirm (suc turns) c from end (h ∷ back) hops old r enough =
     let y : ℕ = front_point end hops in
     let m : Message = messages.Cc h.far (front_ref hops) 2 [] in
@@ -87,7 +88,8 @@ confirm (suc turns) c from end (h ∷ back) hops old r enough =
       offers = e;
       deliveries = omega (arith, d);
       handed = r.handed;
-    }) (omega (arith, enough)) in
-    (rest.0,
-    turn_on turns c (y, h.node) (next_single y h.node m c r.holds) (omega (arith, d, e)) ∙ ap (settled_in turns) move.step ∙ rest.1,
-    rest.2)
+    }) (omega (arith, enough)) in (
+      rest.0,
+      turn_on turns c (y, h.node) (next_single y h.node m c r.holds) (omega (arith, d, e)) ∙ ap (settled_in turns) move.step ∙ rest.1,
+      rest.2,
+    )

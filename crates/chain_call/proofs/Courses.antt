@@ -1,28 +1,26 @@
 -- The steps of a course: offers, deliveries, and when no link holds a message.
-use Rattle.std.specs.Prelude.{ℕ, ◌≡◌, ◌==◌, ◌⊎◌, ◌<◌, ◌≤◌, ◌+◌, ◌*◌, Bool, true, false, cond, not, ◌&&◌, List, [], ◌∷◌, ◌++◌, length, Option, Some, None, refl}
-use Rattle.std.specs.Prelude.{nat_le, is_some, unwrap_or}
-use Rattle.std.proofs.Common.{zero, suc, sym, ◌∙◌, ap, subst, ⊎_elim, inl, inr, arith}
+use Rattle.std.specs.Prelude.{ℕ, ◌≡◌, ◌==◌, ◌⊎◌, ◌<◌, ◌≤◌, ◌+◌, ◌*◌, Bool, true, false, cond, not, ◌&&◌, List, [], ◌∷◌, ◌++◌, Option, Some}
+use Rattle.std.specs.Prelude.{None}
+use Rattle.std.specs.Prelude.{is_some}
+use Rattle.std.proofs.Common.{zero, suc, sym, ◌∙◌, ap, ⊎_elim, inr, arith}
 use Rattle.std.proofs.lemmas.Bool.{cases_Bool, eqb-true, and_parts, lt-leb}
 use Rattle.sccp_message.specs.declared.message.Message.{Message}
 use Rattle.sccp_message.specs.Unitdata.{called_of}
 use Rattle.sccp_message.specs.Written.{IsMessage}
 use Rattle.couple_chain.specs.declared.delivered.Delivered.{Delivered}
-use Rattle.couple_chain.specs.declared.delivered.Delivered.TheVariants.{Nothing, Handled, Out}
-use Rattle.couple_chain.specs.declared.happening.Happening.{Happening}
+use Rattle.couple_chain.specs.declared.delivered.Delivered.TheVariants.{Handled, Out}
 use Rattle.couple_chain.specs.declared.happening.Happening.TheVariants.{Offers, Delivers}
 use Rattle.couple_chain.specs.declared.offer_fault.OfferFault.{OfferFault}
 use Rattle.couple_chain.specs.World as worlds
-use Rattle.couple_chain.specs.World.{Network, World, is_node, put, offered_if, offer_fault, delivery, delivery_of, happens, after, name_of, uses_again, fault_by, is_writable}
+use Rattle.couple_chain.specs.World.{Network, World, is_node, put, offered_if, offer_fault, delivery, delivery_of, happens, after, name_of}
+use Rattle.couple_chain.specs.World.{uses_again, fault_by, is_writable}
 use Rattle.chain_world.specs.Kept.{network_of}
-use Rattle.chain_world.specs.Offering.{as_read, fault_of}
 use Rattle.chain_world.proofs.Happens.{after_more}
 use Rattle.chain_world.proofs.Readable.{same_message, same_fault}
 use Rattle.chain_call.specs.Course.{Course, world_at}
-use Rattle.chain_call.specs.Links.{next_link}
 use Rattle.chain_call.specs.Notes.{note_of, release_of}
 use Rattle.chain_call.specs.Steps.{offer_by, offered, handed_out, answered, come_out, delivered, is_spent, next_of, turn, settled_in}
 use Rattle.chain_call.specs.declared.note.Note.{Note}
-use Rattle.chain_call.specs.declared.handed.Handed.{Handed}
 use Rattle.chain_call.proofs.NextLink.{next_is, next_none}
 use Rattle.chain_call.proofs.Tokens.{Holds, Empty, at_link}
 
@@ -52,7 +50,8 @@ world_offered from to m c none =
 pub no_fault : (network : Network) (w : World) (from to : ℕ) (m : Message) → is_node network from ≡ false → is_node network to ≡ true
     → called_of m ≡ None → uses_again network w from (name_of m) ≡ false → is_writable m ≡ true → offer_fault network w from to m ≡ None
 no_fault network w from to m outer inner oriented unused writable =
-    ap (λ (b : Bool). fault_by b (not (is_node network to)) (is_some (called_of m)) (uses_again network w from (name_of m)) (not (is_writable m))) outer
+    ap (λ (b : Bool). fault_by b (not (is_node network to)) (is_some (called_of m)) (uses_again network w from (name_of m))
+    (not (is_writable m))) outer
     ∙ ap (λ (b : Bool). fault_by false (not b) (is_some (called_of m)) (uses_again network w from (name_of m)) (not (is_writable m))) inner
     ∙ ap (λ o. fault_by false false (is_some o) (uses_again network w from (name_of m)) (not (is_writable m))) oriented
     ∙ ap (λ (b : Bool). fault_by false false false b (not (is_writable m))) unused
@@ -77,7 +76,8 @@ relay_delivery x y m rest c queued inner =
 -- a note that is no release is kept
 abbrev pub after_note : ℕ → ℕ → Note → Course → Course
 after_note x y note c = record c {
-  history = c.history ++ Delivers x y ∷ []; deliveries = c.deliveries + 1;
+  history = c.history ++ Delivers x y ∷ [];
+  deliveries = c.deliveries + 1;
   handed = c.handed ++ record { from = x; to = y; note = note } ∷ [];
 }
 

@@ -1,32 +1,26 @@
 -- Data that an end sends come out at the other end, all of them and in order.
-use Rattle.std.specs.Prelude.{ℕ, ◌≡◌, ◌==◌, ◌⊎◌, ◌<◌, ◌≤◌, ◌+◌, ◌*◌, Bool, true, false, cond, not, ◌&&◌, List, [], ◌∷◌, ◌++◌, length, map, Option, Some, None, refl}
-use Rattle.std.specs.List.{flat_map, list_any}
+use Rattle.std.specs.Prelude.{ℕ, ◌≡◌, ◌==◌, ◌⊎◌, ◌<◌, ◌≤◌, ◌+◌, ◌*◌, Bool, true, false, cond, List, [], ◌∷◌, ◌++◌, Option, Some, None, refl}
+use Rattle.std.specs.List.{flat_map}
 use Rattle.std.proofs.Common.{zero, suc, sym, ◌∙◌, ap, subst, ⊎_elim, inl, inr, arith, append_assoc, append-nil}
-use Rattle.std.proofs.lemmas.Bool.{cases_eq, cases_Bool, eqb-true, eq-eqb, ne_eqb, and_parts}
+use Rattle.std.proofs.lemmas.Bool.{eq-eqb, ne_eqb}
 use Rattle.sccp_message.specs.declared.message.Message.{Message}
 use Rattle.sccp_message.specs.declared.message.Message.TheVariants as messages
-use Rattle.sccp_message.specs.Written.{IsMessage}
-use Rattle.plan_model.specs.Network as plans
-use Rattle.sccp_couple.specs.declared.section.Section.{Section}
-use Rattle.sccp_couple.specs.declared.way.Way.{Way}
-use Rattle.sccp_couple.specs.Sections.{section_at, known, if_from, is_established, has_remote, other_of}
 use Rattle.sccp_couple.specs.Events.{Piece}
-use Rattle.sccp_couple.specs.Coupling.{coupled, only_sends, to_one, on_data, toward}
+use Rattle.sccp_couple.specs.Coupling.{coupled, only_sends, to_one}
 use Rattle.couple_chain.specs.Line.{pieces_for}
-use Rattle.couple_chain.specs.World as worlds
-use Rattle.couple_chain.specs.World.{Network, World, is_node, put}
+use Rattle.couple_chain.specs.World.{Network, World, is_node}
 use Rattle.chain_call.specs.Course.{Course, world_at}
 use Rattle.chain_call.specs.Notes.{data_of, data_in, data_at}
-use Rattle.chain_call.specs.Steps.{offered, delivered, has_more, sent_by, next_of, settled_in}
+use Rattle.chain_call.specs.Steps.{delivered, next_of, settled_in}
 use Rattle.chain_call.specs.declared.note.Note.TheVariants.{Data}
 use Rattle.chain_call.specs.declared.handed.Handed.{Handed}
 use Rattle.chain_call.proofs.NextLink.{next_holds, none_waits}
-use Rattle.chain_call.proofs.Tokens.{sections_at, Empty}
-use Rattle.chain_call.proofs.Hops.{Hop, Sections, back_point, back_ref, front_point, front_ref, near_section, far_section, Apart, IsApart}
-use Rattle.chain_call.proofs.HopSteps.{event_with, OpenAt, Opens}
-use Rattle.chain_call.proofs.Flows.{Stop, next_point, next_ref, NoStop, NoKey, StopAt, Carries, queue, under, each, weight, OnWay, AllOnWay, Every}
-use Rattle.chain_call.proofs.Flows.{every_append, pieces_append, pieces_here, pieces_there, under_grown, differ_by, goes, on_way_after, Goes}
-use Rattle.chain_call.proofs.Courses.{network_at, after_offer, offer_is, world_offered, no_fault, after_delivery, after_note, world_delivered}
+use Rattle.chain_call.proofs.Tokens.{Empty}
+use Rattle.chain_call.proofs.Hops.{Sections}
+use Rattle.chain_call.proofs.HopSteps.{event_with}
+use Rattle.chain_call.proofs.Flows.{Stop, next_point, next_ref, Carries, queue, under, weight, OnWay, AllOnWay, Every}
+use Rattle.chain_call.proofs.Flows.{goes, on_way_after}
+use Rattle.chain_call.proofs.Courses.{network_at, after_delivery, after_note, world_delivered}
 use Rattle.chain_call.proofs.Courses.{relay_delivery, end_delivery, turn_on, turn_end}
 use Rattle.chain_call.proofs.Requests.{S}
 
@@ -64,7 +58,8 @@ none_at end last payload from handed q r n =
 under_empty : (w : World) (point end last : ℕ) (stops : List Stop) → Empty w → under w point end last stops ≡ []
 under_empty w point end last [] h = ap (pieces_for (Some last)) (h point end)
 under_empty w point end last (s ∷ stops) h =
-    ap (λ (l : List Piece). l ++ queue w point s.node s.ref) (under_empty w s.node end last stops h) ∙ ap (pieces_for (Some s.ref)) (h point s.node)
+    ap (λ (l : List Piece). l ++ queue w point s.node s.ref) (under_empty w s.node end last stops h)
+    ∙ ap (pieces_for (Some s.ref)) (h point s.node)
 
 -- data are under way from a point to an end
 pub record Flowing (c : Course) (point end last : ℕ) (stops : List Stop) : Type 0 where
@@ -120,16 +115,20 @@ flow zero c point end last stops f enough few = absurd (omega (arith, enough))
 flow (suc turns) c point end last stops f enough few =
     ⊎_elim
     (λ (none : next_of c ≡ None).
-    let empty = none_waiting c none in
-    (c, turn_end turns c none, record {
-      plan_is = refl;
-      empty = empty;
-      same = λ p. refl;
-      come = sym (append-nil (data_at end last c.handed)) ∙ ap (λ (l : List Piece). data_at end last c.handed ++ payloads l)
-          (sym (under_empty (world_at c) point end last stops empty));
-      others = λ q r n. refl;
-      offers = refl;
-    }, omega arith))
+    let empty = none_waiting c none in (
+      c,
+      turn_end turns c none,
+      record {
+        plan_is = refl;
+        empty = empty;
+        same = λ p. refl;
+        come = sym (append-nil (data_at end last c.handed)) ∙ ap (λ (l : List Piece). data_at end last c.handed ++ payloads l)
+            (sym (under_empty (world_at c) point end last stops empty));
+        others = λ q r n. refl;
+        offers = refl;
+      },
+      omega arith,
+    ))
     (λ (some : (l : ℕ × ℕ) × (next_of c ≡ Some l)).
     let a : ℕ = some.0.0 in
     let b : ℕ = some.0.1 in
@@ -150,17 +149,19 @@ flow (suc turns) c point end last stops f enough few =
       carries = carries_same (network_at c) (S c) (S then) point end last stops g.still f.carries;
       all = on_way_after (network_at c) w v point end last stops a b m rest q.2 g f.all;
     } in
-    let r = flow turns then point end last stops next (omega (arith, enough, weighs)) (omega (arith, few, weighs)) in
-    (r.0,
-    turn_on turns c some.0 some.1 (omega (arith, few, weighs)) ∙ ap (settled_in turns) (relay_delivery a b m rest c q.2 k.0) ∙ r.1,
-    record {
-      plan_is = r.2.plan_is;
-      empty = r.2.empty;
-      same = λ p. r.2.same p ∙ g.still p;
-      come = r.2.come ∙ ap (λ (l : List Piece). data_at end last c.handed ++ payloads l) k.1;
-      others = r.2.others;
-      offers = r.2.offers;
-    }, (let d = r.3 in omega (arith, d, weighs))))
+    let r = flow turns then point end last stops next (omega (arith, enough, weighs)) (omega (arith, few, weighs)) in (
+      r.0,
+      turn_on turns c some.0 some.1 (omega (arith, few, weighs)) ∙ ap (settled_in turns) (relay_delivery a b m rest c q.2 k.0) ∙ r.1,
+      record {
+        plan_is = r.2.plan_is;
+        empty = r.2.empty;
+        same = λ p. r.2.same p ∙ g.still p;
+        come = r.2.come ∙ ap (λ (l : List Piece). data_at end last c.handed ++ payloads l) k.1;
+        others = r.2.others;
+        offers = r.2.offers;
+      },
+      (let d = r.3 in omega (arith, d, weighs)),
+    ))
     (λ (k : (b ≡ end) × (more : Bool) × (payload : List ℕ) × (m ≡ messages.Dt1 last more payload)
     × (under w point end last stops ≡ record { more = more; payload = payload } ∷ under v point end last stops)
     × (weight w point end last stops ≡ weight v point end last stops + 1)).
@@ -188,18 +189,21 @@ flow (suc turns) c point end last stops f enough few =
         → (weight (world_at c) point end last stops ≡ weight (world_at (after_note a b (Data last payload) c)) point end last stops + 1)
         → Comes turns (after_note a b (Data last payload) c) point end last stops → Comes (suc turns) c point end last stops
     finish turns c a b same payload l next hand lt more still all weighs r =
-        let n : Course = after_note a b (Data last payload) c in
-        (r.0, turn_on turns c l next lt ∙ ap (settled_in turns) hand ∙ r.1,
-        record {
-          plan_is = r.2.plan_is;
-          empty = r.2.empty;
-          same = λ p. r.2.same p ∙ still p;
-          come = r.2.come
-              ∙ ap (λ (l : List ℕ). l ++ payloads (under (world_at n) point end last stops))
-              (ap (λ (k : ℕ). data_at end last (c.handed ++ record { from = a; to = k; note = Data last payload } ∷ [])) same
-              ∙ more_at end last payload a c.handed)
-              ∙ append_assoc (data_at end last c.handed) payload (payloads (under (world_at n) point end last stops))
-              ∙ ap (λ (l : List Piece). data_at end last c.handed ++ payloads l) (sym all);
-          others = λ q k n. r.2.others q k n ∙ none_at b last payload a c.handed q k n;
-          offers = r.2.offers;
-        }, (let d = r.3 in omega (arith, d, weighs)))
+        let n : Course = after_note a b (Data last payload) c in (
+          r.0,
+          turn_on turns c l next lt ∙ ap (settled_in turns) hand ∙ r.1,
+          record {
+            plan_is = r.2.plan_is;
+            empty = r.2.empty;
+            same = λ p. r.2.same p ∙ still p;
+            come = r.2.come
+                ∙ ap (λ (l : List ℕ). l ++ payloads (under (world_at n) point end last stops))
+                (ap (λ (k : ℕ). data_at end last (c.handed ++ record { from = a; to = k; note = Data last payload } ∷ [])) same
+                ∙ more_at end last payload a c.handed)
+                ∙ append_assoc (data_at end last c.handed) payload (payloads (under (world_at n) point end last stops))
+                ∙ ap (λ (l : List Piece). data_at end last c.handed ++ payloads l) (sym all);
+            others = λ q k n. r.2.others q k n ∙ none_at b last payload a c.handed q k n;
+            offers = r.2.offers;
+          },
+          (let d = r.3 in omega (arith, d, weighs)),
+        )

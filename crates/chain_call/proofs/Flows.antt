@@ -1,13 +1,13 @@
 -- Data under way over relays: how much there is, and in which order.
-use Rattle.std.specs.Prelude.{ℕ, ◌≡◌, ◌==◌, ◌⊎◌, ◌+◌, ◌*◌, Bool, true, false, cond, ◌&&◌, List, [], ◌∷◌, ◌++◌, length, Option, Some, None, refl}
+use Rattle.std.specs.Prelude.{ℕ, ◌≡◌, ◌==◌, ◌⊎◌, ◌+◌, Bool, true, false, cond, ◌&&◌, List, [], ◌∷◌, ◌++◌, length, Option, Some, None, refl}
 use Rattle.std.specs.List.{cons_option}
-use Rattle.std.proofs.Common.{suc, sym, ◌∙◌, ap, subst, ⊎_elim, inl, inr, arith, append_assoc, append-nil}
-use Rattle.std.proofs.lemmas.Bool.{cases_eq, cases_Bool, eqb-true, eq-eqb, ne_eqb, and_parts}
+use Rattle.std.proofs.Common.{sym, ◌∙◌, ap, subst, ⊎_elim, inl, inr, arith, append_assoc, append-nil}
+use Rattle.std.proofs.lemmas.Bool.{cases_eq, eqb-true, eq-eqb, ne_eqb, and_parts}
 use Rattle.sccp_message.specs.declared.message.Message.{Message}
 use Rattle.sccp_message.specs.declared.message.Message.TheVariants as messages
 use Rattle.sccp_couple.specs.declared.section.Section.{Section}
 use Rattle.sccp_couple.specs.declared.way.Way.{Way}
-use Rattle.sccp_couple.specs.Events.{Event, Answer, Outcome, Piece}
+use Rattle.sccp_couple.specs.Events.{Event, Outcome, Piece}
 use Rattle.sccp_couple.specs.Coupling.{coupled, to_one, only_sends}
 use Rattle.sccp_couple.specs.Runs.{happens}
 use Rattle.couple_chain.specs.World.{Network, World, is_node, messages_to, event_at, handled, left, delivered_of, delivered}
@@ -97,7 +97,8 @@ piece more payload = record { more = more; payload = payload }
 
 pub pieces_append : (d : ℕ) (xs ys : List Message) → pieces_for (Some d) (xs ++ ys) ≡ pieces_for (Some d) xs ++ pieces_for (Some d) ys
 pieces_append d [] ys = refl
-pieces_append d (x ∷ xs) ys = option_append (piece_for (Some d) x) (pieces_for (Some d) (xs ++ ys)) (pieces_for (Some d) xs) (pieces_for (Some d) ys)
+pieces_append d (x ∷ xs) ys = option_append (piece_for (Some d) x) (pieces_for (Some d) (xs ++ ys)) (pieces_for (Some d) xs)
+    (pieces_for (Some d) ys)
     (pieces_append d xs ys)
   where
     option_append : (o : Option Piece) (all front back : List Piece) → all ≡ front ++ back → cons_option o all ≡ cons_option o front ++ back
@@ -106,11 +107,13 @@ pieces_append d (x ∷ xs) ys = option_append (piece_for (Some d) x) (pieces_for
 
 pub pieces_here : (d : ℕ) (more : Bool) (payload : List ℕ) (xs : List Message)
     → pieces_for (Some d) (messages.Dt1 d more payload ∷ xs) ≡ piece more payload ∷ pieces_for (Some d) xs
-pieces_here d more payload xs = ap (λ (b : Bool). cons_option (cond b (Some (piece more payload)) None) (pieces_for (Some d) xs)) (eq-eqb d d refl)
+pieces_here d more payload xs = ap (λ (b : Bool). cons_option (cond b (Some (piece more payload)) None) (pieces_for (Some d) xs))
+    (eq-eqb d d refl)
 
 pub pieces_there : (e d : ℕ) (more : Bool) (payload : List ℕ) (xs : List Message) → (e ≡ d → ⊥)
     → pieces_for (Some e) (messages.Dt1 d more payload ∷ xs) ≡ pieces_for (Some e) xs
-pieces_there e d more payload xs n = ap (λ (b : Bool). cons_option (cond b (Some (piece more payload)) None) (pieces_for (Some e) xs)) (ne_eqb e d n)
+pieces_there e d more payload xs n = ap (λ (b : Bool). cons_option (cond b (Some (piece more payload)) None) (pieces_for (Some e) xs))
+    (ne_eqb e d n)
 
 -- ---- links after a delivery
 
@@ -149,10 +152,12 @@ sent_here b z m list =
 sent_same : (b z d : ℕ) (more : Bool) (payload : List ℕ) (x y e : ℕ) (list : List Message) → (y ≡ z → e ≡ d → ⊥)
     → pieces_for (Some e) (sent_at b z (messages.Dt1 d more payload) x y list) ≡ pieces_for (Some e) list
 sent_same b z d more payload x y e list n =
-    elim (x == b) as (λ c. pieces_for (Some e) (cond c (list ++ messages_to y (to_one z (messages.Dt1 d more payload))) list) ≡ pieces_for (Some e) list) [
+    elim (x == b) as (λ c. pieces_for (Some e) (cond c (list ++ messages_to y (to_one z (messages.Dt1 d more payload))) list)
+    ≡ pieces_for (Some e) list) [
       | true ↦
           ap (λ (l : List Message). pieces_for (Some e) (list ++ l)) (to_point z y (messages.Dt1 d more payload))
-          ∙ elim (z == y) as (λ c. (z == y) ≡ c → pieces_for (Some e) (list ++ cond c (messages.Dt1 d more payload ∷ []) []) ≡ pieces_for (Some e) list) [
+          ∙ elim (z == y) as (λ c. (z == y) ≡ c → pieces_for (Some e) (list ++ cond c (messages.Dt1 d more payload ∷ []) [])
+          ≡ pieces_for (Some e) list) [
             | true ↦ λ h.
                 pieces_append e list (messages.Dt1 d more payload ∷ [])
                 ∙ ap (λ (l : List Piece). pieces_for (Some e) list ++ l) (pieces_there e d more payload [] (n (sym (eqb-true z y h))))
@@ -168,12 +173,14 @@ abbrev sections_at : World → ℕ → List Section
 sections_at w node = (w.moments node).sections
 
 -- what a delivery of the link from a to b makes of data under way
-pub record Goes (network : Network) (w v : World) (point end last : ℕ) (stops : List Stop) (a b : ℕ) (m : Message) (rest : List Message) : Type 0 where
+pub record Goes (network : Network) (w v : World) (point end last : ℕ) (stops : List Stop) (a b : ℕ) (m : Message)
+    (rest : List Message) : Type 0 where
   -- the queues of other references stay
   pub same : (x y e : ℕ) → NoKey y e end last stops → queue v x y e ≡ queue w x y e
   pub still : (p : ℕ) → sections_at v p ≡ sections_at w p
   pub sent : ((x y : ℕ) → v.waiting x y ≡ rest_at w a b rest x y)
-      ⊎ ((z : ℕ) × (n : Message) × ((x y : ℕ) → v.waiting x y ≡ sent_at b z n x y (rest_at w a b rest x y)) × OnWay point end last stops b z n)
+      ⊎ ((z : ℕ) × (n : Message) × ((x y : ℕ) → v.waiting x y ≡ sent_at b z n x y (rest_at w a b rest x y))
+      × OnWay point end last stops b z n)
   pub outcome : ((is_node network b ≡ true) × (under v point end last stops ≡ under w point end last stops)
       × (weight w point end last stops ≡ weight v point end last stops + 1))
       ⊎ ((b ≡ end) × (more : Bool) × (payload : List ℕ) × (m ≡ messages.Dt1 last more payload)
@@ -193,10 +200,11 @@ under_same w v end last b d z f keep point [] h k =
     let e = keep point end last h.1 k.1 in (e, ap (each 1) e)
 under_same w v end last b d z f keep point (s ∷ stops) h k =
     let e = keep point s.node s.ref h.0.0 k.0.0 in
-    let r = under_same w v end last b d z f keep s.node stops (h.0.1, h.1) (k.0.1, k.1) in
-    (ap (λ (l : List Piece). l ++ queue v point s.node s.ref) r.0 ∙ ap (λ (l : List Piece). under w s.node end last stops ++ l) e,
-    ap (λ (n : ℕ). n + each (length stops + 2) (queue v point s.node s.ref)) r.1
-    ∙ ap (λ (l : List Piece). weight w s.node end last stops + each (length stops + 2) l) e)
+    let r = under_same w v end last b d z f keep s.node stops (h.0.1, h.1) (k.0.1, k.1) in (
+      ap (λ (l : List Piece). l ++ queue v point s.node s.ref) r.0 ∙ ap (λ (l : List Piece). under w s.node end last stops ++ l) e,
+      ap (λ (n : ℕ). n + each (length stops + 2) (queue v point s.node s.ref)) r.1
+          ∙ ap (λ (l : List Piece). weight w s.node end last stops + each (length stops + 2) l) e,
+    )
 
 -- the keys of these stops differ
 abbrev pub Differ : ℕ → ℕ → List Stop → Type 0
@@ -216,10 +224,11 @@ under_grown w v end last b d point p (s ∷ stops) keep h differ gave =
     let r = under_same w v end last b d s.node s.ref keep s.node stops (h.0.1, h.1) differ.0 in
     let e = each_append (length stops + 2) (queue w point s.node s.ref) p in
     let f = ap (each (length stops + 2)) gave in
-    let g = r.1 in
-    (ap (λ (l : List Piece). l ++ queue v point s.node s.ref) r.0 ∙ ap (λ (l : List Piece). under w s.node end last stops ++ l) gave
-    ∙ sym (append_assoc (under w s.node end last stops) (queue w point s.node s.ref) (p ∷ [])),
-    omega (arith, e, f, g))
+    let g = r.1 in (
+      ap (λ (l : List Piece). l ++ queue v point s.node s.ref) r.0 ∙ ap (λ (l : List Piece). under w s.node end last stops ++ l) gave
+          ∙ sym (append_assoc (under w s.node end last stops) (queue w point s.node s.ref) (p ∷ [])),
+      omega (arith, e, f, g),
+    )
 
 pub differ_by : (network : Network) (S : Sections) (end last point : ℕ) (stops : List Stop) → is_node network end ≡ false
     → Carries network S point end last stops → Differ end last stops
@@ -249,8 +258,14 @@ handed_end network w v point end last more payload rest outer queued is =
           ∙ rest_same w point end last more payload rest x y f queued (λ g h. none.1 (sym g) (sym h));
       still = λ p. ap (λ (k : World). sections_at k p) e;
       sent = inl waits;
-      outcome = inr (refl, more, payload, refl, before ∙ ap (λ (l : List Piece). piece more payload ∷ l) (sym after),
-          (let f = ap (each 1) before in let g = ap (each 1) after in omega (arith, f, g)));
+      outcome = inr (
+        refl,
+        more,
+        payload,
+        refl,
+        before ∙ ap (λ (l : List Piece). piece more payload ∷ l) (sym after),
+        (let f = ap (each 1) before in let g = ap (each 1) after in omega (arith, f, g)),
+      );
     }
 
 -- a relay hands it on
@@ -271,7 +286,8 @@ handed_on network w v point end last s stops more payload rest outer carries que
     let out = carries.0.hands more payload (network.way s.node point m) in
     let waits : (x y : ℕ) → v.waiting x y ≡ sent_at s.node z n x y (rest_at w point s.node rest x y) = λ x y.
     ap (λ (k : World). k.waiting x y) e
-    ∙ ap (λ (o : Outcome). cond (x == s.node) (rest_at w point s.node rest x y ++ messages_to y o.sent) (rest_at w point s.node rest x y)) out in
+    ∙ ap (λ (o : Outcome). cond (x == s.node) (rest_at w point s.node rest x y ++ messages_to y o.sent)
+    (rest_at w point s.node rest x y)) out in
     let keep : (x y g : ℕ) → (y ≡ s.node → g ≡ s.ref → ⊥) → (y ≡ z → g ≡ f → ⊥) → queue v x y g ≡ queue w x y g = λ x y g h k.
     ap (pieces_for (Some g)) (waits x y) ∙ sent_same s.node z f more payload x y g (rest_at w point s.node rest x y) k
     ∙ rest_same w point s.node s.ref more payload rest x y g queued h in
@@ -295,15 +311,19 @@ handed_on network w v point end last s stops more payload rest outer carries que
           (λ (h : p ≡ s.node). ap (λ (k : ℕ). sections_at (handled u s.node event) k) h
           ∙ ap (λ (b : Bool). (cond b (happens (w.moments s.node) event) (w.moments s.node)).sections) (eq-eqb s.node s.node refl)
           ∙ ap (λ (o : Outcome). o.sections) out ∙ ap (sections_at w) (sym h))
-          (λ (h : p ≡ s.node → ⊥). ap (λ (b : Bool). (cond b (happens (w.moments s.node) event) (w.moments p)).sections) (ne_eqb p s.node h))
+          (λ (h : p ≡ s.node → ⊥). ap (λ (b : Bool). (cond b (happens (w.moments s.node) event) (w.moments p)).sections)
+          (ne_eqb p s.node h))
           (cases_eq p s.node);
       sent = inr (z, n, waits, inr (next_on end last s stops more payload));
-      outcome = inl (carries.0.inner,
-          ap (λ (l : List Piece). l ++ queue v point s.node s.ref) r.0
-          ∙ append_assoc (under w s.node end last stops) (piece more payload ∷ []) (queue v point s.node s.ref)
-          ∙ ap (λ (l : List Piece). under w s.node end last stops ++ piece more payload ∷ l) after
-          ∙ ap (λ (l : List Piece). under w s.node end last stops ++ l) (sym before),
-          (let g = ap (each (length stops + 2)) before in let h = ap (each (length stops + 2)) after in let k = r.1 in omega (arith, g, h, k)));
+      outcome = inl (
+        carries.0.inner,
+        ap (λ (l : List Piece). l ++ queue v point s.node s.ref) r.0
+            ∙ append_assoc (under w s.node end last stops) (piece more payload ∷ []) (queue v point s.node s.ref)
+            ∙ ap (λ (l : List Piece). under w s.node end last stops ++ piece more payload ∷ l) after
+            ∙ ap (λ (l : List Piece). under w s.node end last stops ++ l) (sym before),
+        (let g = ap (each (length stops + 2)) before in let h = ap (each (length stops + 2)) after in let k = r.1 in omega
+            (arith, g, h, k)),
+      );
     }
   where
     next_differs : (s : Stop) (end last : ℕ) (stops : List Stop) → NoKey s.node s.ref end last stops → next_point end stops ≡ s.node
@@ -336,7 +356,8 @@ goes network w v point end last [] a b m rest outer carries queued is on =
 goes network w v point end last (s ∷ stops) a b m rest outer carries queued is (inl on) =
     let queued' : w.waiting point s.node ≡ messages.Dt1 s.ref on.2.0 on.2.1 ∷ rest =
     sym (ap (λ (k : ℕ). w.waiting k b) on.0 ∙ ap (w.waiting point) on.1) ∙ queued ∙ ap (λ (x : Message). x ∷ rest) on.2.2 in
-    let is' : v ≡ delivered network w point s.node = is ∙ ap (λ (k : ℕ). delivered network w k b) on.0 ∙ ap (delivered network w point) on.1 in
+    let is' : v ≡ delivered network w point s.node = is ∙ ap (λ (k : ℕ). delivered network w k b) on.0
+    ∙ ap (delivered network w point) on.1 in
     subst (λ (k : ℕ). Goes network w v point end last (s ∷ stops) k b m rest) (sym on.0)
     (subst (λ (k : ℕ). Goes network w v point end last (s ∷ stops) point k m rest) (sym on.1)
     (subst (λ (k : Message). Goes network w v point end last (s ∷ stops) point s.node k rest) (sym on.2.2)
@@ -351,12 +372,20 @@ goes network w v point end last (s ∷ stops) a b m rest outer carries queued is
       still = r.still;
       sent = ⊎_elim (λ h. inl h) (λ h. inr (h.0, h.1, h.2, inr h.3)) r.sent;
       outcome = ⊎_elim
-          (λ h. inl (h.0, ap (λ (l : List Piece). l ++ queue v point s.node s.ref) h.1 ∙ ap (λ (l : List Piece). under w s.node end last stops ++ l) own,
-          (let k = h.2 in omega (arith, more, k))))
-          (λ h. inr (h.0, h.1, h.2, h.3,
-          ap (λ (l : List Piece). l ++ queue w point s.node s.ref) h.4
-          ∙ ap (λ (l : List Piece). piece h.1 h.2 ∷ under v s.node end last stops ++ l) (sym own),
-          (let k = h.5 in omega (arith, more, k))))
+          (λ h. inl (
+            h.0,
+            ap (λ (l : List Piece). l ++ queue v point s.node s.ref) h.1 ∙ ap (λ (l : List Piece). under w s.node end last stops ++ l) own,
+            (let k = h.2 in omega (arith, more, k)),
+          ))
+          (λ h. inr (
+            h.0,
+            h.1,
+            h.2,
+            h.3,
+            ap (λ (l : List Piece). l ++ queue w point s.node s.ref) h.4
+                ∙ ap (λ (l : List Piece). piece h.1 h.2 ∷ under v s.node end last stops ++ l) (sym own),
+            (let k = h.5 in omega (arith, more, k)),
+          ))
           r.outcome;
     }
 
@@ -368,16 +397,19 @@ on_way_after network w v point end last stops a b m rest queued goes all x y =
     ⊎_elim
     (λ (h : (x y : ℕ) → v.waiting x y ≡ rest_at w a b rest x y).
     subst (Every (OnWay point end last stops x y)) (sym (h x y)) (left_on x y))
-    (λ (h : (z : ℕ) × (n : Message) × ((x y : ℕ) → v.waiting x y ≡ sent_at b z n x y (rest_at w a b rest x y)) × OnWay point end last stops b z n).
+    (λ (h : (z : ℕ) × (n : Message) × ((x y : ℕ) → v.waiting x y ≡ sent_at b z n x y (rest_at w a b rest x y))
+    × OnWay point end last stops b z n).
     subst (Every (OnWay point end last stops x y)) (sym (h.2 x y)) (sent_on x y h.0 h.1 h.3))
     goes.sent
   where
     left_on : (x y : ℕ) → Every (OnWay point end last stops x y) (rest_at w a b rest x y)
     left_on x y =
-        elim ((x == a) && (y == b)) as (λ c. ((x == a) && (y == b)) ≡ c → Every (OnWay point end last stops x y) (cond c rest (w.waiting x y))) [
+        elim ((x == a) && (y == b)) as (λ c. ((x == a) && (y == b)) ≡ c
+        → Every (OnWay point end last stops x y) (cond c rest (w.waiting x y))) [
           | true ↦ λ h.
               let p = and_parts (x == a) (y == b) h in
-              let e : w.waiting x y ≡ m ∷ rest = ap (λ (k : ℕ). w.waiting k y) (eqb-true x a p.0) ∙ ap (w.waiting a) (eqb-true y b p.1) ∙ queued in
+              let e : w.waiting x y ≡ m ∷ rest = ap (λ (k : ℕ). w.waiting k y) (eqb-true x a p.0) ∙ ap (w.waiting a) (eqb-true y b p.1)
+              ∙ queued in
               (subst (Every (OnWay point end last stops x y)) e (all x y)).1
           | false ↦ λ h. all x y
         ] refl
@@ -385,14 +417,18 @@ on_way_after network w v point end last stops a b m rest queued goes all x y =
     sent_on : (x y z : ℕ) (n : Message) → OnWay point end last stops b z n
         → Every (OnWay point end last stops x y) (sent_at b z n x y (rest_at w a b rest x y))
     sent_on x y z n on =
-        elim (x == b) as (λ c. (x == b) ≡ c → Every (OnWay point end last stops x y) (cond c (rest_at w a b rest x y ++ messages_to y (to_one z n))
+        elim (x == b) as (λ c. (x == b) ≡ c
+        → Every (OnWay point end last stops x y) (cond c (rest_at w a b rest x y ++ messages_to y (to_one z n))
         (rest_at w a b rest x y))) [
           | true ↦ λ h.
               every_append (OnWay point end last stops x y) (rest_at w a b rest x y) (messages_to y (to_one z n)) (left_on x y)
               (subst (Every (OnWay point end last stops x y)) (sym (to_point z y n))
               (elim (z == y) as (λ c. (z == y) ≡ c → Every (OnWay point end last stops x y) (cond c (n ∷ []) [])) [
-                | true ↦ λ k. (subst (λ (q : ℕ). OnWay point end last stops q y n) (sym (eqb-true x b h))
-                    (subst (λ (q : ℕ). OnWay point end last stops b q n) (eqb-true z y k) on), tt)
+                | true ↦ λ k. (
+                  subst (λ (q : ℕ). OnWay point end last stops q y n) (sym (eqb-true x b h))
+                      (subst (λ (q : ℕ). OnWay point end last stops b q n) (eqb-true z y k) on),
+                  tt,
+                )
                 | false ↦ λ k. tt
               ] refl))
           | false ↦ λ h. left_on x y

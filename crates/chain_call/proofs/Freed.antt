@@ -1,19 +1,18 @@
 -- What holds while a release and its completions are under way.
-use Rattle.std.specs.Prelude.{ℕ, ◌≡◌, ◌==◌, ◌⊎◌, ◌+◌, Bool, true, false, cond, ◌&&◌, List, [], ◌∷◌, ◌++◌, length, filter, Option, Some, None, refl}
+use Rattle.std.specs.Prelude.{ℕ, ◌≡◌, ◌==◌, ◌⊎◌, Bool, true, false, ◌&&◌, List, [], ◌∷◌, ◌++◌, filter, Some, None, refl}
 use Rattle.std.specs.List.{list_any}
-use Rattle.std.proofs.Common.{suc, sym, ◌∙◌, ap, subst, ⊎_elim, inl, inr, arith}
+use Rattle.std.proofs.Common.{sym, ◌∙◌, ap, ⊎_elim, inl, inr}
 use Rattle.std.proofs.lemmas.Bool.{cases_eq, eq-eqb}
-use Rattle.sccp_message.specs.declared.message.Message.{Message}
 use Rattle.sccp_message.specs.declared.message.Message.TheVariants as messages
 use Rattle.sccp_couple.specs.declared.section.Section.{Section}
 use Rattle.sccp_couple.specs.Sections.{section_at, without, changed, released}
-use Rattle.sccp_couple.proofs.Lookups.{option_cases, without_same, without_else, without_cases, changed_same, changed_else, changed_none, changed_cases}
+use Rattle.sccp_couple.proofs.Lookups.{without_same, without_else, without_cases, changed_same, changed_else, changed_none, changed_cases}
 use Rattle.couple_chain.specs.World.{Network, is_node}
 use Rattle.chain_call.proofs.Flows.{Every}
-use Rattle.chain_call.proofs.Hops.{Hop, Sections, back_point, back_ref, front_point, front_ref, near_section, far_section, Apart, IsApart, Among}
+use Rattle.chain_call.proofs.Hops.{Hop, Sections, back_point, back_ref, front_point, front_ref, far_section, Apart, IsApart, Among}
 use Rattle.chain_call.proofs.HopSteps.{OpenAt, Opens, Crossed}
 use Rattle.chain_call.proofs.Marks.{Mark, any_in, any_out, any_last, every_out, every_in, filter_out, filter_one, filter_in}
-use Rattle.chain_call.proofs.Releases.{loose, Completes, completes, is_due, is_release, FarIn, Aimed, is_done, is_rlsd, Half, Halves, LastHalf}
+use Rattle.chain_call.proofs.Releases.{loose, Completes, is_due, is_release, FarIn, Aimed, is_done, is_rlsd, Halves, LastHalf}
 use Rattle.chain_call.proofs.Releases.{halves_done, last_done, opens_done}
 
 -- ---- the sections of a relay that a release has reached
@@ -78,7 +77,9 @@ AllInner network (h ∷ hops) = (is_node network h.node ≡ true) × AllInner ne
 
 abbrev pub release_mark : ℕ → ℕ → List Hop → List Hop → Mark
 release_mark from end back hops = record {
-  from = back_point from back; to = front_point end hops; message = messages.Rlsd (front_ref hops) (back_ref back) 0 [];
+  from = back_point from back;
+  to = front_point end hops;
+  message = messages.Rlsd (front_ref hops) (back_ref back) 0 [];
 }
 
 -- the relays in `back` have been reached, the last one first, and those in `hops` have not
@@ -118,7 +119,8 @@ going_ends network S ts from end back hops g b own s outer at =
     ⊎_elim
     (λ (h : Among b own back). let z : true ≡ false = sym (among_inner network b own back g.inner h) ∙ outer in cc)
     (λ (h : Among b own hops).
-    let z : true ≡ false = sym (among_inner network b own hops (open_inner network S end (back_point from back) (back_ref back) hops g.opens) h) ∙ outer in cc)
+    let z : true ≡ false = sym (among_inner network b own hops
+    (open_inner network S end (back_point from back) (back_ref back) hops g.opens) h) ∙ outer in cc)
     (g.all b own s at)
 
 pub ended_ends : (network : Network) (S : Sections) (ts : List Mark) (from end : ℕ) (back : List Hop)
@@ -131,7 +133,8 @@ ended_ends network S ts from end back g b own s outer at =
 node_differs : (network : Network) (a b : ℕ) → is_node network a ≡ true → is_node network b ≡ false → a ≡ b → ⊥
 node_differs network a b inner outer e = let z : true ≡ false = sym inner ∙ ap (is_node network) e ∙ outer in cc
 
-pub going_done : (network : Network) (S T : Sections) (from end a b d n : ℕ) (front after : List Mark) (back hops : List Hop) → Completes S T a b d n
+pub going_done : (network : Network) (S T : Sections) (from end a b d n : ℕ) (front after : List Mark) (back hops : List Hop)
+    → Completes S T a b d n
     → (b ≡ from) ⊎ FarIn b d (tail back)
     → Going network S (front ++ record { from = a; to = b; message = messages.Rlc d n } ∷ after) from end back hops
     → Going network T (front ++ after) from end back hops
@@ -157,7 +160,8 @@ going_done network S T from end a b d n front after back hops done aimed g =
         last_done S T from a b d n front after (front_point end hops) (front_ref hops) h rest done apart.0
         (node_differs network h.node from inner.0 g.outer) aimed last
 
-pub ended_done : (network : Network) (S T : Sections) (from end a b d n : ℕ) (front after : List Mark) (back : List Hop) → Completes S T a b d n
+pub ended_done : (network : Network) (S T : Sections) (from end a b d n : ℕ) (front after : List Mark) (back : List Hop)
+    → Completes S T a b d n
     → Ended network S (front ++ record { from = a; to = b; message = messages.Rlc d n } ∷ after) from end back
     → Ended network T (front ++ after) from end back
 ended_done network S T from end a b d n front after back done g =
@@ -185,7 +189,8 @@ due_here y p d n =
 abbrev Stay : List Mark → List Mark → Type 0
 Stay ts us = (y p d n : ℕ) → list_any (is_due y p d n) ts ≡ true → list_any (is_due y p d n) us ≡ true
 
-halves_still : (S T : Sections) (ts us : List Mark) (h : Hop) (y n : ℕ) (back hops : List Hop) → Frees S T h → Stay ts us → Crossed back (h ∷ hops)
+halves_still : (S T : Sections) (ts us : List Mark) (h : Hop) (y n : ℕ) (back hops : List Hop) → Frees S T h → Stay ts us
+    → Crossed back (h ∷ hops)
     → Halves S ts y n back → Halves T us y n back
 halves_still S T ts us h y n [] hops frees stay crossed halves = tt
 halves_still S T ts us h y n (g ∷ back) hops frees stay crossed halves =
@@ -193,11 +198,13 @@ halves_still S T ts us h y n (g ∷ back) hops frees stay crossed halves =
     let near : section_at (T g.node) g.near ≡ section_at (S g.node) g.near = still S T h frees g.node g.near
     (λ e f. a.near_near (sym e) (sym f)) (λ e f. a.far_near (sym e) (sym f)) in
     let far : section_at (T g.node) g.far ≡ section_at (S g.node) g.far = still S T h frees g.node g.far
-    (λ e f. a.near_far (sym e) (sym f)) (λ e f. a.far_far (sym e) (sym f)) in
-    (record {
-      near_gone = near ∙ halves.0.near_gone;
-      far_due = ⊎_elim (λ none. inl (far ∙ none)) (λ due. inr (far ∙ due.0, stay y g.node g.far n due.1)) halves.0.far_due;
-    }, halves_still S T ts us h g.node g.near back hops frees stay crossed.1 halves.1)
+    (λ e f. a.near_far (sym e) (sym f)) (λ e f. a.far_far (sym e) (sym f)) in (
+      record {
+        near_gone = near ∙ halves.0.near_gone;
+        far_due = ⊎_elim (λ none. inl (far ∙ none)) (λ due. inr (far ∙ due.0, stay y g.node g.far n due.1)) halves.0.far_due;
+      },
+      halves_still S T ts us h g.node g.near back hops frees stay crossed.1 halves.1,
+    )
 
 opens_apart : (network : Network) (S T : Sections) (h : Hop) (end point remote : ℕ) (hops : List Hop) → Frees S T h → Apart h hops
     → Opens network S end point remote hops → Opens network T end point remote hops
@@ -266,8 +273,10 @@ going_on network S T from end front after back hops h frees g =
           (is_rlsd (front_ref hops) h.far refl);
       one = filter_in is_release (rest ++ a ∷ []) b ∙ ap (λ (l : List Mark). l ++ b ∷ [])
           (filter_in is_release rest a ∙ ap (λ (l : List Mark). l ++ []) gone.1);
-      last = ((near_none S T h frees, far_loose network S T end (back_point from back) (back_ref back) h hops frees o),
-          by_last back g.crossed g.last);
+      last = (
+        (near_none S T h frees, far_loose network S T end (back_point from back) (back_ref back) h hops frees o),
+        by_last back g.crossed g.last,
+      );
       opens = opens_apart network S T h end h.node h.far hops frees o.apart g.opens.1;
       crossed = (o.apart, crossed_less h back hops g.crossed);
       apart = (apart_crossed h back hops g.crossed, g.apart);
@@ -293,16 +302,22 @@ going_on network S T from end front after back hops h frees g =
         (λ e f. c.near_near (sym e) (sym f)) (λ e f. c.far_near (sym e) (sym f)) in
         let far : section_at (T k.node) k.far ≡ section_at (S k.node) k.far = still S T h frees k.node k.far
         (λ e f. c.near_far (sym e) (sym f)) (λ e f. c.far_far (sym e) (sym f)) in
-        let a : Mark = record { from = h.node; to = k.node; message = messages.Rlc k.far h.near } in
-        (record {
-          near_gone = near ∙ last.0.0;
-          far_due = inr (far ∙ last.0.1, any_in (is_due h.node k.node k.far h.near) ((front ++ after) ++ a ∷ []) (release_mark from end (h ∷ k ∷ rest) hops)
-              (any_last (is_due h.node k.node k.far h.near) (front ++ after) a (due_here h.node k.node k.far h.near)));
-        },
-        halves_still S T (front ++ release_mark from end (k ∷ rest) (h ∷ hops) ∷ after) (answers from end (k ∷ rest) h hops (front ++ after)) h k.node k.near
-        rest hops frees (stays (k ∷ rest)) crossed.1 last.1)
+        let a : Mark = record { from = h.node; to = k.node; message = messages.Rlc k.far h.near } in (
+          record {
+            near_gone = near ∙ last.0.0;
+            far_due = inr (
+              far ∙ last.0.1,
+              any_in (is_due h.node k.node k.far h.near) ((front ++ after) ++ a ∷ []) (release_mark from end (h ∷ k ∷ rest) hops)
+                  (any_last (is_due h.node k.node k.far h.near) (front ++ after) a (due_here h.node k.node k.far h.near)),
+            );
+          },
+          halves_still S T (front ++ release_mark from end (k ∷ rest) (h ∷ hops) ∷ after)
+              (answers from end (k ∷ rest) h hops (front ++ after)) h k.node k.near
+              rest hops frees (stays (k ∷ rest)) crossed.1 last.1,
+        )
       where
-        stays : (back : List Hop) → Stay (front ++ release_mark from end back (h ∷ hops) ∷ after) (answers from end back h hops (front ++ after))
+        stays : (back : List Hop) → Stay (front ++ release_mark from end back (h ∷ hops) ∷ after)
+            (answers from end back h hops (front ++ after))
         stays back y p d n there =
             let a : Mark = record { from = h.node; to = back_point from back; message = messages.Rlc (back_ref back) h.near } in
             any_in (is_due y p d n) ((front ++ after) ++ a ∷ []) (release_mark from end (h ∷ back) hops)
@@ -317,7 +332,8 @@ going_on network S T from end front after back hops h frees g =
 
 -- ---- the release arrives at the far end, which answers
 
-pub going_out : (network : Network) (S T : Sections) (from end : ℕ) (front after : List Mark) (h : Hop) (back : List Hop) → ((p : ℕ) → T p ≡ S p)
+pub going_out : (network : Network) (S T : Sections) (from end : ℕ) (front after : List Mark) (h : Hop) (back : List Hop)
+    → ((p : ℕ) → T p ≡ S p)
     → Going network S (front ++ release_mark from end (h ∷ back) [] ∷ after) from end (h ∷ back) []
     → Ended network T ((front ++ after) ++ record { from = end; to = h.node; message = messages.Rlc h.far 2 } ∷ []) from end (h ∷ back)
 going_out network S T from end front after h back same g =
@@ -326,14 +342,20 @@ going_out network S T from end front after h back same g =
     let rest : List Mark = front ++ after in
     let gone = filter_one is_release front after t t refl g.one in
     record {
-      aimed = every_in (Aimed from (h ∷ back)) rest a (every_more from (h ∷ back) rest (every_out (Aimed from back) front after t g.aimed).1)
+      aimed = every_in (Aimed from (h ∷ back)) rest a (every_more from (h ∷ back) rest
+          (every_out (Aimed from back) front after t g.aimed).1)
           (is_done h.far 2 refl (inr (inl (refl, refl))));
       none = filter_in is_release rest a ∙ ap (λ (l : List Mark). l ++ []) gone.1;
-      halves = (record {
+      halves = (
+        record {
           near_gone = ap (λ l. section_at l h.near) (same h.node) ∙ g.last.0.0;
-          far_due = inr (ap (λ l. section_at l h.far) (same h.node) ∙ g.last.0.1,
-              any_last (is_due end h.node h.far 2) rest a (due_here end h.node h.far 2));
-        }, halves_same h.node h.near back g.last.1);
+          far_due = inr (
+            ap (λ l. section_at l h.far) (same h.node) ∙ g.last.0.1,
+            any_last (is_due end h.node h.far 2) rest a (due_here end h.node h.far 2),
+          );
+        },
+        halves_same h.node h.near back g.last.1,
+      );
       inner = g.inner;
       all = λ p own s at. only p own (g.all p own s (ap (λ l. section_at l own) (sym (same p)) ∙ at));
     }
@@ -362,7 +384,8 @@ going_out network S T from end front after h back same g =
 
 -- ---- nothing is left
 
-pub nothing_left : (network : Network) (S : Sections) (from end : ℕ) (back : List Hop) → Ended network S [] from end back → (p own : ℕ) (s : Section)
+pub nothing_left : (network : Network) (S : Sections) (from end : ℕ) (back : List Hop) → Ended network S [] from end back
+    → (p own : ℕ) (s : Section)
     → section_at (S p) own ≡ Some s → ⊥
 nothing_left network S from end back g p own s at = by end 2 back g.halves (g.all p own s at)
   where
@@ -372,7 +395,8 @@ nothing_left network S from end back g p own s at = by end 2 back g.halves (g.al
     by y n (k ∷ hops) halves (inl h) =
         ⊎_elim
         (λ (e : own ≡ k.near).
-        let z : None ≡ Some s = sym halves.0.near_gone ∙ ap (section_at (S k.node)) (sym e) ∙ ap (λ m. section_at (S m) own) (sym h.0) ∙ at in cc)
+        let z : None ≡ Some s = sym halves.0.near_gone ∙ ap (section_at (S k.node)) (sym e) ∙ ap (λ m. section_at (S m) own) (sym h.0)
+        ∙ at in cc)
         (λ (e : own ≡ k.far).
         ⊎_elim
         (λ (none : section_at (S k.node) k.far ≡ None).

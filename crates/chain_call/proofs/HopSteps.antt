@@ -1,8 +1,8 @@
 -- What a relay does with a request, its refusal and its confirmation.
-use Rattle.std.specs.Prelude.{ℕ, ◌≡◌, ◌==◌, ◌⊎◌, ◌<◌, ◌≤◌, ◌+◌, ◌*◌, Bool, true, false, cond, not, ◌&&◌, ◌||◌, List, [], ◌∷◌, length, Option, Some, None, refl}
+use Rattle.std.specs.Prelude.{ℕ, ◌≡◌, ◌==◌, ◌⊎◌, Bool, true, false, cond, ◌&&◌, ◌||◌, List, [], ◌∷◌, length, Option, Some, None, refl}
 use Rattle.std.specs.Prelude.{option_and_then, nat_lt}
 use Rattle.std.specs.List.{list_any}
-use Rattle.std.proofs.Common.{sym, ◌∙◌, ap, subst, ⊎_elim, inl, inr, arith}
+use Rattle.std.proofs.Common.{sym, ◌∙◌, ap, subst, ⊎_elim, inl, inr}
 use Rattle.std.proofs.lemmas.Bool.{cases_eq, cases_Bool, eqb-true, eq-eqb, and_parts}
 use Rattle.sccp_address.specs.declared.address.Address.{Address}
 use Rattle.sccp_layout.specs.Parameter.{Parameter}
@@ -11,14 +11,15 @@ use Rattle.sccp_message.specs.declared.message.Message.TheVariants as messages
 use Rattle.sccp_couple.specs.declared.section.Section.{Section}
 use Rattle.sccp_couple.specs.declared.way.Way.{Way}
 use Rattle.sccp_couple.specs.declared.way.Way.TheVariants.{Refused, Onward}
-use Rattle.sccp_couple.specs.Sections.{is_that, section_at, known, if_from, is_near_of, without, without_both, changed, confirmed, with_pair}
+use Rattle.sccp_couple.specs.Sections.{is_that, section_at, known, if_from, is_near_of, without, changed, confirmed}
 use Rattle.sccp_couple.specs.Sections.{first_new, second_new}
 use Rattle.sccp_couple.specs.Events.{Event, Outcome}
-use Rattle.sccp_couple.specs.Coupling.{coupled, to_one, on_refusal, on_confirm, request_goes, only_sends, toward, couple}
+use Rattle.sccp_couple.specs.Coupling.{coupled, to_one, on_refusal, on_confirm, only_sends, toward, couple}
 use Rattle.sccp_couple.specs.Invariant.{OwnDiffer}
 use Rattle.sccp_couple.proofs.Lookups.{at_head, at_tail, without_else, without_cases, changed_same, changed_else, changed_cases}
 use Rattle.couple_chain.specs.World.{Network, is_node}
-use Rattle.chain_call.proofs.Hops.{Hop, Sections, back_point, back_ref, front_point, front_ref, near_section, far_section, IsApart, Apart, Stands}
+use Rattle.chain_call.proofs.Hops.{Hop, Sections, back_point, back_ref, front_point, front_ref, near_section, far_section, IsApart, Apart}
+use Rattle.chain_call.proofs.Hops.{Stands}
 use Rattle.chain_call.proofs.Hops.{Waits, Among, AllAmong, waits_still, Asks}
 
 -- ---- the request
@@ -61,7 +62,8 @@ event_with origin m way = record { origin = origin; message = m; way = way }
 
 pub request_refused : (l : List Section) (origin slr class cause : ℕ) (called : Address) (params : List Parameter)
     → list_any (is_near_of origin slr) l ≡ false
-    → coupled l (event_with origin (messages.Cr slr class called params) (Refused cause)) ≡ only_sends l (to_one origin (messages.Cref slr cause []))
+    → coupled l (event_with origin (messages.Cr slr class called params) (Refused cause))
+    ≡ only_sends l (to_one origin (messages.Cref slr cause []))
 request_refused l origin slr class cause called params none =
     ap (λ (b : Bool). cond b (only_sends l []) (only_sends l (to_one origin (messages.Cref slr cause [])))) none
 
@@ -71,7 +73,8 @@ pub request_onward : (l : List Section) (origin slr class to : ℕ) (called next
     ≡ couple l (first_new l) (second_new l) origin slr to (λ far. messages.Cr far class next further)
 request_onward l origin slr class to called next params further none few =
     let on : Outcome = couple l (first_new l) (second_new l) origin slr to (λ far. messages.Cr far class next further) in
-    ap (λ (b : Bool). cond b (only_sends l []) (cond (nat_lt 4094 (length l)) (only_sends l (to_one origin (messages.Cref slr 7 []))) on)) none
+    ap (λ (b : Bool). cond b (only_sends l []) (cond (nat_lt 4094 (length l))
+    (only_sends l (to_one origin (messages.Cref slr 7 []))) on)) none
     ∙ ap (λ (b : Bool). cond b (only_sends l (to_one origin (messages.Cref slr 7 []))) on) few
 
 -- ---- its refusal
@@ -81,7 +84,8 @@ known_far : (network : Network) (S : Sections) (from y : ℕ) (h : Hop) (hops : 
 known_far network S from y h hops stands =
     ap (option_and_then (if_from y)) stands.far_at ∙ ap (λ (b : Bool). cond b (Some (far_section h y None)) None) (eq-eqb y y refl)
 
-pub refusal_back : (network : Network) (S : Sections) (from y : ℕ) (h : Hop) (hops : List Hop) (cause : ℕ) (params : List Parameter) (way : Way)
+pub refusal_back : (network : Network) (S : Sections) (from y : ℕ) (h : Hop) (hops : List Hop) (cause : ℕ) (params : List Parameter)
+    (way : Way)
     → Stands network S from y h hops → coupled (S h.node) (event_with y (messages.Cref h.far cause params) way)
     ≡ record {
       sections = without h.near (without h.far (S h.node));
@@ -90,7 +94,11 @@ pub refusal_back : (network : Network) (S : Sections) (from y : ℕ) (h : Hop) (
 refusal_back network S from y h hops cause params way stands =
     let l : List Section = S h.node in
     ap (on_refusal l cause params) (known_far network S from y h hops stands)
-    ∙ ap (λ (o : Option Section). record { sections = without h.near (without h.far l); sent = toward o (λ remote own. messages.Cref remote cause params) })
+    ∙ ap (λ (o : Option Section). record {
+      sections = without h.near (without h.far l);
+      sent = toward o
+          (λ remote own. messages.Cref remote cause params);
+    })
     stands.near_at
 
 -- the sections after a relay ended its pair
@@ -142,7 +150,8 @@ refuses_on network S T from y h hops refuses ends =
 
 -- ---- its confirmation
 
-pub confirm_back : (network : Network) (S : Sections) (from y : ℕ) (h : Hop) (hops : List Hop) (slr class : ℕ) (params : List Parameter) (way : Way)
+pub confirm_back : (network : Network) (S : Sections) (from y : ℕ) (h : Hop) (hops : List Hop) (slr class : ℕ) (params : List Parameter)
+    (way : Way)
     → Stands network S from y h hops → coupled (S h.node) (event_with y (messages.Cc h.far slr class params) way)
     ≡ record {
       sections = changed (confirmed slr) h.far (S h.node);
@@ -151,7 +160,11 @@ pub confirm_back : (network : Network) (S : Sections) (from y : ℕ) (h : Hop) (
 confirm_back network S from y h hops slr class params way stands =
     let l : List Section = S h.node in
     ap (on_confirm l y slr class params) (known_far network S from y h hops stands)
-    ∙ ap (λ (o : Option Section). record { sections = changed (confirmed slr) h.far l; sent = toward o (λ remote own. messages.Cc remote own class params) })
+    ∙ ap (λ (o : Option Section). record {
+      sections = changed (confirmed slr) h.far l;
+      sent = toward o
+          (λ remote own. messages.Cc remote own class params);
+    })
     stands.near_at
 
 -- the two sections of a relay over which data go; the relays after it are given too
@@ -193,16 +206,20 @@ opens_still network S T end point remote (g ∷ hops) x own s at near none still
     let one : (q : ℕ) (t : Section) → section_at (S g.node) q ≡ Some t → g.node ≡ x → q ≡ own → s ≡ t = λ q t there e f.
     let k : Some s ≡ Some t = sym at ∙ sym (ap (λ (n : ℕ). section_at (S n) own) e) ∙ sym (ap (section_at (S g.node)) f) ∙ there in cc in
     let a : Section = near_section g point remote in
-    let b : Section = far_section g (front_point end hops) (Some (front_ref hops)) in
-    (record {
-      inner = h.0.inner;
-      near_at = still g.node g.near a (λ e f. let k : false ≡ true = sym near ∙ ap (λ (y : Section). y.near) (one g.near a h.0.near_at e f) in absurd (cc))
-          h.0.near_at;
-      far_at = still g.node g.far b (λ e f. let k : None ≡ Some (front_ref hops) = sym none ∙ ap (λ (y : Section). y.remote) (one g.far b h.0.far_at e f) in
-          absurd (cc)) h.0.far_at;
-      two = h.0.two;
-      apart = h.0.apart;
-    }, opens_still network S T end g.node g.far hops x own s at near none still h.1)
+    let b : Section = far_section g (front_point end hops) (Some (front_ref hops)) in (
+      record {
+        inner = h.0.inner;
+        near_at = still g.node g.near a (λ e f. let k : false ≡ true = sym near
+            ∙ ap (λ (y : Section). y.near) (one g.near a h.0.near_at e f) in absurd (cc))
+            h.0.near_at;
+        far_at = still g.node g.far b (λ e f. let k : None ≡ Some (front_ref hops) = sym none
+            ∙ ap (λ (y : Section). y.remote) (one g.far b h.0.far_at e f) in
+            absurd (cc)) h.0.far_at;
+        two = h.0.two;
+        apart = h.0.apart;
+      },
+      opens_still network S T end g.node g.far hops x own s at near none still h.1,
+    )
 
 -- sections that stay leave them open
 pub opens_more : (network : Network) (S T : Sections) (end point remote : ℕ) (hops : List Hop)
@@ -233,7 +250,8 @@ crossed_on : (h : Hop) (back hops : List Hop) → Apart h back → Crossed back 
 crossed_on h [] hops apart crossed = tt
 crossed_on h (g ∷ back) hops apart crossed = ((apart_back h g apart.0, crossed.0), crossed_on h back hops apart.1 crossed.1)
 
-pub accepts_on : (network : Network) (S T : Sections) (from end : ℕ) (h : Hop) (back hops : List Hop) → Accepts network S from end (h ∷ back) hops
+pub accepts_on : (network : Network) (S T : Sections) (from end : ℕ) (h : Hop) (back hops : List Hop)
+    → Accepts network S from end (h ∷ back) hops
     → Confirms S T (front_ref hops) h → Accepts network T from end back (h ∷ hops)
 accepts_on network S T from end h back hops accepts confirms =
     let y : ℕ = front_point end hops in
@@ -246,7 +264,8 @@ accepts_on network S T from end h back hops accepts confirms =
         record {
           inner = stands.inner;
           near_at = still h.node h.near (near_section h (back_point from back) (back_ref back)) (λ e k. stands.two k) stands.near_at;
-          far_at = ap (λ l. section_at l h.far) confirms.here ∙ changed_same f (λ s. refl) (S h.node) h.far (far_section h y None) stands.far_at;
+          far_at = ap (λ l. section_at l h.far) confirms.here
+              ∙ changed_same f (λ s. refl) (S h.node) h.far (far_section h y None) stands.far_at;
           two = stands.two;
           apart = accepts.crossed.0;
         },

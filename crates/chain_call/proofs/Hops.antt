@@ -1,20 +1,11 @@
 -- The relays that a connection goes over, from the one that was reached last back to the first, and their sections.
-use Rattle.std.specs.Prelude.{ℕ, ◌≡◌, ◌==◌, ◌⊎◌, ◌<◌, ◌≤◌, ◌+◌, ◌*◌, Bool, true, false, cond, ◌&&◌, List, [], ◌∷◌, ◌++◌, length, Option, Some, None, refl}
-use Rattle.std.specs.Prelude.{option_and_then, nat_lt}
-use Rattle.std.specs.List.{list_any}
-use Rattle.std.proofs.Common.{sym, ◌∙◌, ap, subst, ⊎_elim, inl, inr, arith}
-use Rattle.std.proofs.lemmas.Bool.{cases_eq, eqb-true, eq-eqb, ne_eqb}
-use Rattle.sccp_layout.specs.Parameter.{Parameter}
-use Rattle.sccp_message.specs.declared.message.Message.{Message}
-use Rattle.sccp_message.specs.declared.message.Message.TheVariants as messages
+use Rattle.std.specs.Prelude.{ℕ, ◌≡◌, ◌==◌, ◌⊎◌, ◌≤◌, ◌+◌, ◌*◌, true, false, cond, List, [], ◌∷◌, ◌++◌, length, Option, Some, None, refl}
+use Rattle.std.proofs.Common.{sym, ◌∙◌, ap, ⊎_elim, inl, inr, arith}
+use Rattle.std.proofs.lemmas.Bool.{cases_eq, eqb-true}
 use Rattle.sccp_couple.specs.declared.section.Section.{Section}
-use Rattle.sccp_couple.specs.declared.way.Way.{Way}
-use Rattle.sccp_couple.specs.Sections.{section_at, known, if_from, without, without_both, changed, confirmed, with_pair}
-use Rattle.sccp_couple.specs.Events.{Event, Answer, Outcome}
-use Rattle.sccp_couple.specs.Coupling.{coupled, to_one, on_refusal, on_confirm, toward}
+use Rattle.sccp_couple.specs.Sections.{section_at, with_pair}
 use Rattle.sccp_couple.proofs.Fresh.{AreFresh}
-use Rattle.sccp_couple.proofs.Lookups.{option_cases, at_head, at_tail, append_some, append_none, append_cases, without_else, without_cases}
-use Rattle.sccp_couple.proofs.Lookups.{changed_same, changed_else}
+use Rattle.sccp_couple.proofs.Lookups.{at_head, at_tail, append_some, append_none, append_cases}
 use Rattle.couple_chain.specs.World.{Network, is_node}
 
 -- a relay, and the own references of the two sections that the connection has there
@@ -275,9 +266,13 @@ asks_on network S T from to h hops asks inner made =
         ⊎_elim
         (λ (k : back_point from hops ≡ from). inl (ap (λ (x : Section). x.point) g ∙ k))
         (λ (k : (t : Section) × (section_at (S (back_point from hops)) (back_ref hops) ≡ Some t)).
-        inr (back_ref hops, k.0, ap (λ (x : Section). x.remote) g,
-        ap (λ (x : Section). section_at (T x.point) (back_ref hops)) g
-        ∙ pair_grows S T from to h hops made (back_point from hops) (back_ref hops) k.0 k.1))
+        inr (
+          back_ref hops,
+          k.0,
+          ap (λ (x : Section). x.remote) g,
+          ap (λ (x : Section). section_at (T x.point) (back_ref hops)) g
+              ∙ pair_grows S T from to h hops made (back_point from hops) (back_ref hops) k.0 k.1,
+        ))
         (back_exists network S from h.node hops asks.waits)
     named_cases p own s near (far_one e f g) = absurd (let z : false ≡ true = ap (λ (x : Section). x.near) (sym g) ∙ near in cc)
 
@@ -294,7 +289,8 @@ asks_on network S T from to h hops asks inner made =
         (asks.named p own s at near)
     first_cases p own s near point remote (near_one e f g) =
         let there : back_point from hops ≡ h.node = ap (λ (x : Section). x.point) (sym g) ∙ point in
-        let same : back_ref hops ≡ h.far = let u : Some (back_ref hops) ≡ Some h.far = ap (λ (x : Section). x.remote) (sym g) ∙ remote in cc in
+        let same : back_ref hops ≡ h.far = let u : Some (back_ref hops) ≡ Some h.far = ap (λ (x : Section). x.remote) (sym g)
+        ∙ remote in cc in
         ⊎_elim
         (λ (k : back_point from hops ≡ from). not_from (sym there ∙ k))
         (λ (k : (t : Section) × (section_at (S (back_point from hops)) (back_ref hops) ≡ Some t)).

@@ -1,8 +1,8 @@
 -- The messages of all links as one list, in the order in which they were put there.
-use Rattle.std.specs.Prelude.{ℕ, ◌≡◌, ◌==◌, ◌⊎◌, ◌+◌, Bool, true, false, cond, ◌&&◌, ◌||◌, List, [], ◌∷◌, ◌++◌, length, filter, refl}
+use Rattle.std.specs.Prelude.{ℕ, ◌≡◌, ◌==◌, ◌+◌, Bool, true, false, cond, ◌&&◌, ◌||◌, List, [], ◌∷◌, ◌++◌, length, filter, refl}
 use Rattle.std.specs.List.{list_any}
-use Rattle.std.proofs.Common.{suc, sym, ◌∙◌, ap, subst, ⊎_elim, inl, inr, arith, append-nil}
-use Rattle.std.proofs.lemmas.Bool.{eqb-true, eq-eqb, and_parts}
+use Rattle.std.proofs.Common.{sym, ◌∙◌, ap, arith, append-nil}
+use Rattle.std.proofs.lemmas.Bool.{eqb-true, and_parts}
 use Rattle.sccp_message.specs.declared.message.Message.{Message}
 use Rattle.couple_chain.specs.World.{World, messages_to}
 use Rattle.sccp_couple.specs.Coupling.{to_one}
@@ -41,7 +41,8 @@ same_link a b t e = let p = and_parts (a == t.from) (b == t.to) e in (sym (eqb-t
 pub taken : (a b : ℕ) (m : Message) (rest : List Message) (ts : List Mark) → on_link a b ts ≡ m ∷ rest → Taken a b m rest ts
 taken a b m rest [] h = absurd (let z : [] ≡ m ∷ rest = h in cc)
 taken a b m rest (t ∷ ts) h =
-    elim (is_at a b t) as (λ k. is_at a b t ≡ k → cond k (t.message ∷ on_link a b ts) (on_link a b ts) ≡ m ∷ rest → Taken a b m rest (t ∷ ts)) [
+    elim (is_at a b t) as (λ k. is_at a b t ≡ k → cond k (t.message ∷ on_link a b ts) (on_link a b ts) ≡ m ∷ rest
+    → Taken a b m rest (t ∷ ts)) [
       | true ↦ λ e f.
           let p = same_link a b t e in
           let same : t.message ≡ m = cc in
@@ -56,14 +57,14 @@ taken a b m rest (t ∷ ts) h =
             is = ap (λ (u : Mark). u ∷ ts) whole;
             left = λ x y. elim ((x == a) && (y == b)) as (λ k. ((x == a) && (y == b)) ≡ k
                 → on_link x y ts ≡ cond k rest (cond (is_at x y t) (t.message ∷ on_link x y ts) (on_link x y ts))) [
-              | true ↦ λ g.
-                  let q = and_parts (x == a) (y == b) g in
-                  ap (λ (n : ℕ). on_link n y ts) (eqb-true x a q.0) ∙ ap (λ (n : ℕ). on_link a n ts) (eqb-true y b q.1) ∙ others
-              | false ↦ λ g.
-                  let none : is_at x y t ≡ false =
-                  ap (λ (n : ℕ). (x == n) && (y == t.to)) p.0 ∙ ap (λ (n : ℕ). (x == a) && (y == n)) p.1 ∙ g in
-                  sym (ap (λ (k : Bool). cond k (t.message ∷ on_link x y ts) (on_link x y ts)) none)
-            ] refl;
+                  | true ↦ λ g.
+                      let q = and_parts (x == a) (y == b) g in
+                      ap (λ (n : ℕ). on_link n y ts) (eqb-true x a q.0) ∙ ap (λ (n : ℕ). on_link a n ts) (eqb-true y b q.1) ∙ others
+                  | false ↦ λ g.
+                      let none : is_at x y t ≡ false =
+                      ap (λ (n : ℕ). (x == n) && (y == t.to)) p.0 ∙ ap (λ (n : ℕ). (x == a) && (y == n)) p.1 ∙ g in
+                      sym (ap (λ (k : Bool). cond k (t.message ∷ on_link x y ts) (on_link x y ts)) none)
+                ] refl;
           }
       | false ↦ λ e f.
           let r = taken a b m rest ts f in
@@ -74,16 +75,17 @@ taken a b m rest (t ∷ ts) h =
             left = λ x y. elim ((x == a) && (y == b)) as (λ k. ((x == a) && (y == b)) ≡ k
                 → cond (is_at x y t) (t.message ∷ on_link x y (r.front ++ r.back)) (on_link x y (r.front ++ r.back))
                 ≡ cond k rest (cond (is_at x y t) (t.message ∷ on_link x y ts) (on_link x y ts))) [
-              | true ↦ λ g.
-                  let q = and_parts (x == a) (y == b) g in
-                  let none : is_at x y t ≡ false =
-                  ap (λ (n : ℕ). (n == t.from) && (y == t.to)) (eqb-true x a q.0)
-                  ∙ ap (λ (n : ℕ). (a == t.from) && (n == t.to)) (eqb-true y b q.1) ∙ e in
-                  ap (λ (k : Bool). cond k (t.message ∷ on_link x y (r.front ++ r.back)) (on_link x y (r.front ++ r.back))) none
-                  ∙ r.left x y ∙ ap (λ (k : Bool). cond k rest (on_link x y ts)) g
-              | false ↦ λ g.
-                  ap (λ (l : List Message). cond (is_at x y t) (t.message ∷ l) l) (r.left x y ∙ ap (λ (k : Bool). cond k rest (on_link x y ts)) g)
-            ] refl;
+                  | true ↦ λ g.
+                      let q = and_parts (x == a) (y == b) g in
+                      let none : is_at x y t ≡ false =
+                      ap (λ (n : ℕ). (n == t.from) && (y == t.to)) (eqb-true x a q.0)
+                      ∙ ap (λ (n : ℕ). (a == t.from) && (n == t.to)) (eqb-true y b q.1) ∙ e in
+                      ap (λ (k : Bool). cond k (t.message ∷ on_link x y (r.front ++ r.back)) (on_link x y (r.front ++ r.back))) none
+                      ∙ r.left x y ∙ ap (λ (k : Bool). cond k rest (on_link x y ts)) g
+                  | false ↦ λ g.
+                      ap (λ (l : List Message). cond (is_at x y t) (t.message ∷ l) l) (r.left x y
+                      ∙ ap (λ (k : Bool). cond k rest (on_link x y ts)) g)
+                ] refl;
           }
     ] refl h
 
@@ -118,7 +120,8 @@ pub every_in : (P : Mark → Type 0) (ts : List Mark) (t : Mark) → Every P ts 
 every_in P [] t h k = (k, tt)
 every_in P (u ∷ ts) t h k = (h.0, every_in P ts t h.1 k)
 
-pub filter_out : (p : Mark → Bool) (front back : List Mark) (t : Mark) → p t ≡ false → filter p (front ++ t ∷ back) ≡ filter p (front ++ back)
+pub filter_out : (p : Mark → Bool) (front back : List Mark) (t : Mark) → p t ≡ false
+    → filter p (front ++ t ∷ back) ≡ filter p (front ++ back)
 filter_out p [] back t none = ap (λ (k : Bool). cond k (t ∷ filter p back) (filter p back)) none
 filter_out p (u ∷ front) back t none = ap (λ (l : List Mark). cond (p u) (u ∷ l) l) (filter_out p front back t none)
 
@@ -150,7 +153,8 @@ filter_one p (x ∷ front) back t u is h =
 pub filter_in : (p : Mark → Bool) (ts : List Mark) (t : Mark) → filter p (ts ++ t ∷ []) ≡ filter p ts ++ cond (p t) (t ∷ []) []
 filter_in p [] t = refl
 filter_in p (u ∷ ts) t =
-    elim (p u) as (λ k. cond k (u ∷ filter p (ts ++ t ∷ [])) (filter p (ts ++ t ∷ [])) ≡ cond k (u ∷ filter p ts) (filter p ts) ++ cond (p t) (t ∷ []) [])
+    elim (p u) as (λ k. cond k (u ∷ filter p (ts ++ t ∷ [])) (filter p (ts ++ t ∷ [])) ≡ cond k (u ∷ filter p ts) (filter p ts)
+    ++ cond (p t) (t ∷ []) [])
     [ true ↦ ap (λ (l : List Mark). u ∷ l) (filter_in p ts t) | false ↦ filter_in p ts t ]
 
 pub any_out : (p : Mark → Bool) (front back : List Mark) (t : Mark) → p t ≡ false → list_any p (front ++ t ∷ back) ≡ true
@@ -163,7 +167,8 @@ any_out p (u ∷ front) back t none h =
 pub any_in : (p : Mark → Bool) (ts : List Mark) (t : Mark) → list_any p ts ≡ true → list_any p (ts ++ t ∷ []) ≡ true
 any_in p [] t h = absurd (let z : false ≡ true = h in cc)
 any_in p (u ∷ ts) t h =
-    elim (p u) as (λ k. (k || list_any p ts) ≡ true → (k || list_any p (ts ++ t ∷ [])) ≡ true) [ true ↦ λ g. refl | false ↦ λ g. any_in p ts t g ] h
+    elim (p u) as (λ k. (k || list_any p ts) ≡ true → (k || list_any p (ts ++ t ∷ [])) ≡ true)
+    [ true ↦ λ g. refl | false ↦ λ g. any_in p ts t g ] h
 
 pub any_last : (p : Mark → Bool) (ts : List Mark) (t : Mark) → p t ≡ true → list_any p (ts ++ t ∷ []) ≡ true
 any_last p [] t h = ap (λ (k : Bool). k || false) h

@@ -1,17 +1,19 @@
 -- Relays over which data go are a line.
-use Rattle.std.specs.Prelude.{ℕ, ◌≡◌, ◌==◌, ◌⊎◌, ◌<◌, ◌≤◌, ◌+◌, Bool, true, false, cond, not, ◌&&◌, ◌||◌, List, [], ◌∷◌, length, map, find, Option, Some, None, refl}
-use Rattle.std.specs.Prelude.{option_and_then, is_some}
+use Rattle.std.specs.Prelude.{ℕ, ◌≡◌, ◌==◌, ◌<◌, Bool, true, false, cond, not, ◌&&◌, ◌||◌, List, [], ◌∷◌, length, map, find, Option, Some}
+use Rattle.std.specs.Prelude.{None, refl}
+use Rattle.std.specs.Prelude.{option_and_then}
 use Rattle.std.specs.List.{list_any}
-use Rattle.std.proofs.Common.{zero, suc, sym, ◌∙◌, ap, subst, ⊎_elim, inl, inr, arith}
-use Rattle.std.proofs.lemmas.Bool.{cases_Bool, eqb-true, eq-eqb, and_parts, and_from}
+use Rattle.std.proofs.Common.{zero, suc, sym, ◌∙◌, ap, ⊎_elim, arith}
+use Rattle.std.proofs.lemmas.Bool.{eqb-true, eq-eqb, and_parts}
 use Rattle.sccp_couple.specs.declared.section.Section.{Section}
-use Rattle.sccp_couple.specs.Sections.{is_that, section_at, other_of, has_remote, is_established, is_near_of}
+use Rattle.sccp_couple.specs.Sections.{is_that, section_at, has_remote, is_established, is_near_of}
 use Rattle.sccp_couple.specs.Runs.{Pair, Moment}
 use Rattle.sccp_couple.proofs.Fairness.{that_is}
 use Rattle.sccp_couple.proofs.Lookups.{option_cases}
 use Rattle.couple_chain.specs.declared.happening.Happening.{Happening}
-use Rattle.couple_chain.specs.Line.{Leg, leg_with, leg_of, is_from, starts_at, leg_from, or_else, first_leg, next_leg, before, if_joined, legs_from}
-use Rattle.couple_chain.specs.Line.{legs, last_of, Line, line, line_of, line_from, HasNear}
+use Rattle.couple_chain.specs.Line.{Leg, leg_with, leg_of, is_from, starts_at, leg_from, or_else, first_leg, next_leg, before, if_joined}
+use Rattle.couple_chain.specs.Line.{legs_from}
+use Rattle.couple_chain.specs.Line.{last_of, Line, line, line_of, line_from, HasNear}
 use Rattle.couple_chain.specs.World.{Network, World, is_node, after}
 use Rattle.couple_chain.proofs.Ends.{one_node}
 use Rattle.chain_world.proofs.Happens.{IsRegular, regular}
@@ -23,7 +25,10 @@ use Rattle.chain_call.proofs.HopSteps.{OpenAt, Opens}
 -- the leg of a relay over which data go
 abbrev leg_at : ℕ → ℕ → ℕ → Hop → List Hop → Pair → Leg
 leg_at end point remote h hops p = record {
-  node = h.node; pair = p; near = near_section h point remote; far = far_section h (front_point end hops) (Some (front_ref hops));
+  node = h.node;
+  pair = p;
+  near = near_section h point remote;
+  far = far_section h (front_point end hops) (Some (front_ref hops));
 }
 
 is_near : (h : Hop) (point remote : ℕ) → is_near_of point remote (near_section h point remote) ≡ true
@@ -71,13 +76,14 @@ leg_there network w end point remote h hops regular opened =
     let m : Moment = w.moments h.node in
     let s : Section = near_section h point remote in
     let t : Section = far_section h (front_point end hops) (Some (front_ref hops)) in
-    let r = leg_is m regular.kept point remote h.far s (found m regular h point remote opened.near_at) refl in
-    (r.0,
-    ap (option_and_then (leg_of m h.node)) r.1
-    ∙ ap (λ (n : ℕ). leg_with h.node r.0 (section_at m.sections n) (section_at m.sections r.0.far)) r.3
-    ∙ ap (λ (n : ℕ). leg_with h.node r.0 (section_at m.sections h.near) (section_at m.sections n)) r.4
-    ∙ ap (λ (o : Option Section). leg_with h.node r.0 o (section_at m.sections h.far)) opened.near_at
-    ∙ ap (leg_with h.node r.0 (Some s)) opened.far_at)
+    let r = leg_is m regular.kept point remote h.far s (found m regular h point remote opened.near_at) refl in (
+      r.0,
+      ap (option_and_then (leg_of m h.node)) r.1
+          ∙ ap (λ (n : ℕ). leg_with h.node r.0 (section_at m.sections n) (section_at m.sections r.0.far)) r.3
+          ∙ ap (λ (n : ℕ). leg_with h.node r.0 (section_at m.sections h.near) (section_at m.sections n)) r.4
+          ∙ ap (λ (o : Option Section). leg_with h.node r.0 o (section_at m.sections h.far)) opened.near_at
+          ∙ ap (leg_with h.node r.0 (Some s)) opened.far_at,
+    )
 
 -- the legs that follow
 pub record AreLegs (network : Network) (w : World) (end : ℕ) (most : ℕ) (leg : Leg) (h : Hop) (hops : List Hop) : Type 0 where
@@ -91,7 +97,8 @@ open_leg : (network : Network) (w : World) (end point remote : ℕ) (h : Hop) (h
     → is_established (w.moments h.node).sections (near_section h point remote) ≡ true
 open_leg network w end point remote h hops p opened = ap has_remote opened.far_at
 
-legs_there : (network : Network) (w : World) (end point remote : ℕ) (h : Hop) (hops : List Hop) (most : ℕ) (p : Pair) → is_node network end ≡ false
+legs_there : (network : Network) (w : World) (end point remote : ℕ) (h : Hop) (hops : List Hop) (most : ℕ) (p : Pair)
+    → is_node network end ≡ false
     → ((n : ℕ) → IsRegular (w.moments n)) → Opens network (sections_at w) end point remote (h ∷ hops) → length hops < most
     → AreLegs network w end most (leg_at end point remote h hops p) h hops
 legs_there network w end point remote h hops zero p outer regular opens lt = absurd (omega (arith, lt))

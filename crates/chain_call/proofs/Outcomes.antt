@@ -1,11 +1,10 @@
 -- A connection with nothing before it is refused or opened.
-use Rattle.std.specs.Prelude.{ℕ, ◌≡◌, ◌==◌, ◌⊎◌, ◌<◌, ◌≤◌, ◌+◌, ◌*◌, Bool, true, false, cond, not, ◌&&◌, List, [], ◌∷◌, ◌++◌, length, map, filter_map, Option, Some, None, refl}
+use Rattle.std.specs.Prelude.{ℕ, ◌≡◌, ◌==◌, ◌≤◌, ◌+◌, Bool, true, false, cond, ◌&&◌, List, [], ◌∷◌, ◌++◌, length, map, filter_map, Some}
+use Rattle.std.specs.Prelude.{None, refl}
 use Rattle.std.specs.Prelude.{is_none, ◌||◌}
 use Rattle.std.specs.List.{list_any}
-use Rattle.std.proofs.Common.{zero, suc, sym, ◌∙◌, ap, subst, ⊎_elim, inl, inr, arith}
+use Rattle.std.proofs.Common.{suc, sym, ◌∙◌, ap, subst, inl, arith}
 use Rattle.std.proofs.lemmas.Bool.{eq-eqb}
-use Rattle.sccp_address.specs.declared.address.Address.{Address}
-use Rattle.sccp_address.specs.Written.{IsAddress, IsTitle}
 use Rattle.sccp_message.specs.declared.message.Message.{Message}
 use Rattle.sccp_message.specs.declared.message.Message.TheVariants as messages
 use Rattle.sccp_message.specs.Written.{IsMessage}
@@ -15,28 +14,26 @@ use Rattle.sccp_scrc.proofs.Addresses.{few_octets}
 use Rattle.sccp_couple.specs.declared.section.Section.{Section}
 use Rattle.sccp_couple.specs.Sections.{section_at}
 use Rattle.sccp_couple.proofs.Fits.{request_fits}
-use Rattle.couple_chain.specs.Line as lines
-use Rattle.couple_chain.specs.Line.{line}
-use Rattle.couple_chain.specs.World.{Network, World, is_node, start, put, put_on, is_used, offer_fault, unread, is_writable, names as named}
+use Rattle.couple_chain.specs.World.{Network, World, is_node, start, put, put_on, offer_fault, unread, is_writable, names as named}
 use Rattle.chain_world.specs.Kept.{kept, network_of}
 use Rattle.chain_call.specs.Answered.{IsCall}
 use Rattle.chain_call.specs.Course.{Course, beginning, world_at}
 use Rattle.chain_call.specs.Notes.{first_request, first_refusal, or_later}
-use Rattle.chain_call.specs.Steps.{called_of, counter, requested, confirmed, settled, settled_in, carried_on, name_at, refused_or, on_line, if_settled}
-use Rattle.chain_call.specs.Steps.{with_line, answer_to, outcome, offered}
+use Rattle.chain_call.specs.Steps.{called_of, counter, requested, confirmed, settled, settled_in, carried_on, name_at, refused_or, on_line}
+use Rattle.chain_call.specs.Steps.{if_settled}
+use Rattle.chain_call.specs.Steps.{with_line, answer_to, outcome}
 use Rattle.chain_call.specs.declared.call.Call.{Call}
-use Rattle.chain_call.specs.declared.finding.Requested.{Requested}
 use Rattle.chain_call.specs.declared.handed.Handed.{Handed}
 use Rattle.chain_call.specs.declared.note.Note.TheVariants.{Request, Refusal}
 use Rattle.chain_call.specs.declared.outcome.Outcome.{Outcome}
-use Rattle.chain_call.specs.declared.outcome.Outcome.TheVariants.{Unsettled, Unanswered, Refused, Opened as opened}
-use Rattle.chain_call.proofs.Tokens.{sections_at, Holds, Empty}
-use Rattle.chain_call.proofs.Hops.{Hop, Asks, front_ref, waits_more}
-use Rattle.chain_call.proofs.HopSteps.{Opens, Accepts, Crossed}
+use Rattle.chain_call.specs.declared.outcome.Outcome.TheVariants.{Refused, Opened as opened}
+use Rattle.chain_call.proofs.Tokens.{sections_at}
+use Rattle.chain_call.proofs.Hops.{Hop, waits_more}
+use Rattle.chain_call.proofs.HopSteps.{Opens, Crossed}
 use Rattle.chain_call.proofs.Courses.{network_at, after_offer, offer_is, world_offered, no_fault, next_empty, turns_end}
-use Rattle.chain_call.proofs.Requests.{S, Unused, Enters, EntersAt, Asked, Denied, Answer, is_asked, is_denied, Calling, Goes, Fine, request}
+use Rattle.chain_call.proofs.Requests.{S, Enters, Asked, Denied, Answer, is_asked, is_denied, Calling, Goes, Fine, request}
 use Rattle.chain_call.proofs.Confirms.{Opened, Confirming, before, confirm}
-use Rattle.chain_call.proofs.OpenLines.{HasLine, has_line, no_line}
+use Rattle.chain_call.proofs.OpenLines.{has_line, no_line}
 
 pub settled_is : (c : Course) → settled c ≡ settled_in 18446744073709551615 c
 unfolding settled
@@ -65,7 +62,8 @@ no_section s e = absurd (cc)
 
 called_first : (plan : plans.Network) (call : Call) → IsCall plan call →
     (requested call (beginning (kept plan [])) ≡ after_offer call.from call.entry (request_of call) (beginning (kept plan [])))
-    × Calling (after_offer call.from call.entry (request_of call) (beginning (kept plan []))) call.from call.entry call.entry [] (called_of call) 15
+    × Calling (after_offer call.from call.entry (request_of call) (beginning (kept plan []))) call.from call.entry call.entry []
+    (called_of call) 15
 unfolding requested
 called_first plan call is =
     let c : Course = beginning (kept plan []) in
@@ -76,28 +74,30 @@ called_first plan call is =
     let then : Course = after_offer call.from call.entry m c in
     let e : world_at then ≡ put start call.from call.entry m = world_offered call.from call.entry m c none in
     let nothing : (p own : ℕ) (s : Section) → section_at (S then p) own ≡ Some s → None ≡ Some s = λ p own s at.
-    sym (ap (λ v. section_at (sections_at v p) own) e) ∙ at in
-    (offer_is call.from call.entry m c (request_message plan call is) none,
-    record {
-      holds = λ a b. ap (λ (v : World). v.waiting a b) e;
-      asks = record {
-        outer = is.from;
-        waits = tt;
-        all = λ p own s at. no_section s (nothing p own s at);
-        few = λ p. let f = ap (λ v. length (sections_at v p)) e in omega (arith, f);
-        named = λ p own s at near. no_section s (nothing p own s at);
-        first = λ p own s at near point remote. no_section s (nothing p own s at);
-      };
-      left = refl;
-      some = omega arith;
-      enters = refl;
-      inner = is.entry;
-      unused = λ a b outer. ap (λ v. list_any (named 2) (put_on v a b)) e
-          ∙ elim ((a == call.from) && (b == call.entry)) as (λ k. list_any (named 2) (cond k (m ∷ []) []) ≡ false) [ true ↦ refl | false ↦ refl ];
-      offers = refl;
-      deliveries = refl;
-      handed = refl;
-    })
+    sym (ap (λ v. section_at (sections_at v p) own) e) ∙ at in (
+      offer_is call.from call.entry m c (request_message plan call is) none,
+      record {
+        holds = λ a b. ap (λ (v : World). v.waiting a b) e;
+        asks = record {
+          outer = is.from;
+          waits = tt;
+          all = λ p own s at. no_section s (nothing p own s at);
+          few = λ p. let f = ap (λ v. length (sections_at v p)) e in omega (arith, f);
+          named = λ p own s at near. no_section s (nothing p own s at);
+          first = λ p own s at near point remote. no_section s (nothing p own s at);
+        };
+        left = refl;
+        some = omega arith;
+        enters = refl;
+        inner = is.entry;
+        unused = λ a b outer. ap (λ v. list_any (named 2) (put_on v a b)) e
+            ∙ elim ((a == call.from) && (b == call.entry)) as (λ k. list_any (named 2) (cond k (m ∷ []) []) ≡ false)
+            [ true ↦ refl | false ↦ refl ];
+        offers = refl;
+        deliveries = refl;
+        handed = refl;
+      },
+    )
 
 -- ---- the request was refused
 
@@ -137,27 +137,29 @@ asked_then plan from entry y h hops c outer a =
     let w : World = world_at c in
     let m : Message = messages.Cc h.far 2 2 [] in
     let none : offer_fault (network_at c) w y h.node m ≡ None =
-    no_fault (network_at c) w y h.node m a.outer a.waits.0.inner refl (no_use w y (network_at c).nodes (λ to. a.unused y to a.outer)) refl in
+    no_fault (network_at c) w y h.node m a.outer a.waits.0.inner refl
+    (no_use w y (network_at c).nodes (λ to. a.unused y to a.outer)) refl in
     let e : world_at (after_offer y h.node m c) ≡ put w y h.node m = world_offered y h.node m c none in
     let keeps : (p own : ℕ) (s : Section) → section_at (S c p) own ≡ Some s → section_at (S (after_offer y h.node m c) p) own ≡ Some s =
-    λ p own s at. ap (λ v. section_at (sections_at v p) own) e ∙ at in
-    (ap (λ (l : List Handed). confirmed (first_request l) c) a.handed
-    ∙ offer_is y h.node m c (record { addresses = tt; named = tt; sevens_fit = tt }) none,
-    record {
-      outer = outer;
-      holds = λ p q. ap (λ (v : World). v.waiting p q) e
-          ∙ ap (λ (l : List Message). cond ((p == y) && (q == h.node)) (l ++ m ∷ []) (w.waiting p q)) (a.empty y h.node)
-          ∙ ap (λ (l : List Message). cond ((p == y) && (q == h.node)) (m ∷ []) l) (a.empty p q);
-      accepts = record {
-        waits = waits_more (network_at c) (S c) (S (after_offer y h.node m c)) from y (h ∷ hops) keeps a.waits;
-        opens = tt;
-        crossed = crossed_nothing (h ∷ hops);
-        all = λ p own s at. inl (a.all p own s (sym (ap (λ v. section_at (sections_at v p) own) e) ∙ at));
-      };
-      offers = (let o = a.offers in omega (arith, o));
-      deliveries = (let d = a.deliveries in let f = a.few in omega (arith, d, f));
-      handed = a.handed;
-    })
+    λ p own s at. ap (λ v. section_at (sections_at v p) own) e ∙ at in (
+      ap (λ (l : List Handed). confirmed (first_request l) c) a.handed
+          ∙ offer_is y h.node m c (record { addresses = tt; named = tt; sevens_fit = tt }) none,
+      record {
+        outer = outer;
+        holds = λ p q. ap (λ (v : World). v.waiting p q) e
+            ∙ ap (λ (l : List Message). cond ((p == y) && (q == h.node)) (l ++ m ∷ []) (w.waiting p q)) (a.empty y h.node)
+            ∙ ap (λ (l : List Message). cond ((p == y) && (q == h.node)) (m ∷ []) l) (a.empty p q);
+        accepts = record {
+          waits = waits_more (network_at c) (S c) (S (after_offer y h.node m c)) from y (h ∷ hops) keeps a.waits;
+          opens = tt;
+          crossed = crossed_nothing (h ∷ hops);
+          all = λ p own s at. inl (a.all p own s (sym (ap (λ v. section_at (sections_at v p) own) e) ∙ at));
+        };
+        offers = (let o = a.offers in omega (arith, o));
+        deliveries = (let d = a.deliveries in let f = a.few in omega (arith, d, f));
+        handed = a.handed;
+      },
+    )
 
 -- the first of the relays is the one that the end sent its request to
 pub record Front (entry : ℕ) (list : List Hop) (count : ℕ) : Type 0 where
@@ -210,7 +212,14 @@ asked_outcome plan call c y h hops is a =
     (let l = front.long in omega (arith, l, few)) opens in
     record {
       course = after;
-      front = record { first = front.first; rest = front.rest; is = front.is; node = front.node; long = (let l = front.long in omega (arith, l)) };
+      front = record {
+        first = front.first;
+        rest = front.rest;
+        is = front.is;
+        node = front.node;
+        long = (let l = front.long in omega
+            (arith, l));
+      };
       few = few;
       outer = ap (λ (n : Network). is_node n y) (sym same) ∙ a.outer;
       is = record {
@@ -226,10 +235,13 @@ asked_outcome plan call c y h hops is a =
           ap (λ (k : Course). if_settled (with_line call) (settled k)) t.0
           ∙ ap (if_settled (with_line call)) (settled_is then ∙ r.1)
           ∙ ap (on_line call after) line_there.line_is
-          ∙ ap (λ (ns : List ℕ). opened (filter_map (name_at after.plan) ns) line_there.found.end_point (carried_on call line_there.found.end_point after))
+          ∙ ap (λ (ns : List ℕ). opened (filter_map (name_at after.plan) ns) line_there.found.end_point
+          (carried_on call line_there.found.end_point after))
           (line_there.path ∙ ap (map (λ (g : Hop). g.node)) (sym front.is))
-          ∙ ap (λ (k : ℕ). opened (filter_map (name_at after.plan) (map (λ (g : Hop). g.node) (before (h ∷ hops) []))) k (carried_on call k after)) line_there.end_is
-          ∙ ap (λ (k : plans.Network). opened (filter_map (name_at k) (map (λ (g : Hop). g.node) (before (h ∷ hops) []))) y (carried_on call y after)) plan_is;
+          ∙ ap (λ (k : ℕ). opened (filter_map (name_at after.plan) (map (λ (g : Hop). g.node) (before (h ∷ hops) []))) k
+          (carried_on call k after)) line_there.end_is
+          ∙ ap (λ (k : plans.Network). opened (filter_map (name_at k) (map (λ (g : Hop). g.node) (before (h ∷ hops) []))) y
+          (carried_on call y after)) plan_is;
     }
 
 -- it is open to an end that is allowed, over at most so many relays

@@ -1,5 +1,6 @@
 -- A request for a title that a safe plan covers goes to a place that the plan allows.
-use Rattle.std.specs.Prelude.{ℕ, ◌≡◌, ◌==◌, ◌⊎◌, ◌<◌, ◌≤◌, ◌+◌, Bool, true, false, cond, ◌||◌, List, [], ◌∷◌, length, map, filter_map, find, position, replicate, ◌-◌, Option, Some, None, IsSomeAnd, refl}
+use Rattle.std.specs.Prelude.{ℕ, ◌≡◌, ◌==◌, ◌<◌, ◌≤◌, ◌+◌, Bool, true, false, cond, ◌||◌, List, [], ◌∷◌, length, map, filter_map, find}
+use Rattle.std.specs.Prelude.{position, replicate, ◌-◌, Option, Some, None, IsSomeAnd, refl}
 use Rattle.std.specs.Prelude.{nat_le, slice_get}
 use Rattle.std.specs.List.{list_any, cons_option}
 use Rattle.std.specs.Option.{option_map_or}
@@ -27,7 +28,6 @@ use Rattle.sccp_scrc.specs.Arriving.{point_of}
 use Rattle.sccp_scrc.specs.Rewriting.{one_less, spot_of, to_place, to_relay}
 use Rattle.sccp_scrc.proofs.Addresses.{spot-relay}
 use Rattle.sccp_scrc.proofs.Arrivals.{node_again, next_within}
-use Rattle.sccp_couple.specs.declared.way.Way.{Way}
 use Rattle.sccp_couple.specs.declared.way.Way.TheVariants.{Refused, Onward}
 use Rattle.sccp_couple.specs.Ways.{way_of, at_subsystem, translated, after_step}
 use Rattle.couple_chain.specs.World.{Network, is_node}
@@ -95,14 +95,16 @@ abbrev Ends : (ℕ → ℕ → Type 0) → ℕ → Type 0
 Ends allowed far = (ssn : ℕ) × allowed far ssn
 
 -- a route that ends as it may, while nothing is prohibited, is the way of a request
-goes_on : (plan : plans.Network) → IsPlan plan → (allowed : ℕ → ℕ → Type 0) → ((pc ssn : ℕ) → allowed pc ssn → is_node (network_of plan) pc ≡ false)
+goes_on : (plan : plans.Network) → IsPlan plan → (allowed : ℕ → ℕ → Type 0)
+    → ((pc ssn : ℕ) → allowed pc ssn → is_node (network_of plan) pc ≡ false)
     → (k : ℕ) (s : Spot) (called : Address) (n : ℕ) → s.node < length plan.nodes → spot_of s.node called ≡ Some s → called.by_ssn ≡ false
     → k < n → n ≤ 15 → IsSomeAnd (last (route plan s (replicate k []))) (MayEnd allowed)
     → Goes (network_of plan) (Ends allowed) k (point_of plan s.node) called n
 goes_on plan is allowed ends zero s called n within spot by_title left few may = absurd may
 goes_on plan is allowed ends (suc k) s called zero within spot by_title left few may = absurd (omega (arith, left))
 goes_on plan is allowed ends (suc k) s called (suc n) within spot by_title left few may =
-    by_step (step plan s []) refl (step_facts plan is s []) may (λ next within. goes_on plan is allowed ends k next (to_relay called next) n within
+    by_step (step plan s []) refl (step_facts plan is s []) may
+    (λ next within. goes_on plan is allowed ends k next (to_relay called next) n within
     (spot-relay called next) refl (omega (arith, left)) (omega (arith, few)))
   where
     less : one_less (suc n) ≡ n
@@ -121,10 +123,14 @@ goes_on plan is allowed ends (suc k) s called (suc n) within spot by_title left 
         → Goes (network_of plan) (Ends allowed) (suc k) (point_of plan s.node) called (suc n)
     on_to zero next target e facts may later = absurd may
     on_to (suc k) next target e facts may later =
-        inr (inner_at plan s.node facts.node facts.at, point_of plan next.node, to_relay called next,
-        (λ origin slr. way origin slr ∙ ap (after_step plan s.node called (hops_param (suc n))) e),
-        subst (λ (j : ℕ). Goes (network_of plan) (Ends allowed) (suc k) (point_of plan next.node) (to_relay called next) j) (sym less)
-        (later next (next_within plan s next is facts) may))
+        inr (
+          inner_at plan s.node facts.node facts.at,
+          point_of plan next.node,
+          to_relay called next,
+          (λ origin slr. way origin slr ∙ ap (after_step plan s.node called (hops_param (suc n))) e),
+          subst (λ (j : ℕ). Goes (network_of plan) (Ends allowed) (suc k) (point_of plan next.node) (to_relay called next) j) (sym less)
+              (later next (next_within plan s next is facts) may),
+        )
 
     none_held : (cause : ℕ) (shut : List Mark) → Facts plan s [] (steps.Blocked cause shut) → ⊥
     none_held cause shut facts = some_shut facts.node s.ssn cause facts.row.targets shut facts.closed facts.cause_is
@@ -140,23 +146,29 @@ goes_on plan is allowed ends (suc k) s called (suc n) within spot by_title left 
         let outer = ends pc ssn may in
         let other : (pc == point_of plan s.node) ≡ false = ne_eqb pc (point_of plan s.node)
         (λ same. let z : true ≡ false = sym inner ∙ ap (is_node (network_of plan)) (sym same) ∙ outer in cc) in
-        inr (inner, pc, to_place called ssn,
-        (λ origin slr. way origin slr ∙ ap (after_step plan s.node called (hops_param (suc n))) e
-        ∙ ap (λ (b : Bool). cond b (Refused 6) (Onward pc (to_place called ssn) (hops_param (one_less (suc n))))) other),
-        come_any (network_of plan) (Ends allowed) k pc (to_place called ssn) (one_less (suc n)) outer (ssn, may))
+        inr (
+          inner,
+          pc,
+          to_place called ssn,
+          (λ origin slr. way origin slr ∙ ap (after_step plan s.node called (hops_param (suc n))) e
+              ∙ ap (λ (b : Bool). cond b (Refused 6) (Onward pc (to_place called ssn) (hops_param (one_less (suc n))))) other),
+          come_any (network_of plan) (Ends allowed) k pc (to_place called ssn) (one_less (suc n)) outer (ssn, may),
+        )
     kinds (steps.Blocked cause shut) e facts may later = absurd (none_held cause shut facts)
     kinds (steps.NoRow cause) e facts may later = absurd may
     kinds steps.Overgrown e facts may later = absurd may
 
     by_step : (x : Step) → step plan s [] ≡ x → Facts plan s [] (step plan s [])
-        → IsSomeAnd (last (record { spot = s; step = step plan s [] } ∷ onward (next_of (step plan s [])) (λ next. route plan next (replicate k []))))
+        → IsSomeAnd (last (record { spot = s; step = step plan s [] }
+        ∷ onward (next_of (step plan s [])) (λ next. route plan next (replicate k []))))
         (MayEnd allowed)
         → ((next : Spot) → next.node < length plan.nodes → IsSomeAnd (last (route plan next (replicate k []))) (MayEnd allowed)
         → Goes (network_of plan) (Ends allowed) k (point_of plan next.node) (to_relay called next) n)
         → Goes (network_of plan) (Ends allowed) (suc k) (point_of plan s.node) called (suc n)
     by_step x e facts may later =
         kinds x e (subst (Facts plan s []) e facts)
-        (subst (λ (y : Step). IsSomeAnd (last (record { spot = s; step = y } ∷ onward (next_of y) (λ next. route plan next (replicate k [])))) (MayEnd allowed)) e may)
+        (subst (λ (y : Step). IsSomeAnd (last (record { spot = s; step = y }
+        ∷ onward (next_of y) (λ next. route plan next (replicate k [])))) (MayEnd allowed)) e may)
         later
 
 -- ---- the whole outcome
@@ -180,7 +192,8 @@ entry_at : (plan : plans.Network) (pc : ℕ) → is_node (network_of plan) pc �
 entry_at plan pc inner =
     ⊎_elim
     (λ (none : position (has_point pc) plan.nodes ≡ None). absurd (let z : true ≡ false = sym inner ∙ node_not_there plan pc none in cc))
-    (λ (some : (place : ℕ) × (position (has_point pc) plan.nodes ≡ Some place)). record { place = some.0; at = at_place plan pc some.0 some.1 })
+    (λ (some : (place : ℕ) × (position (has_point pc) plan.nodes ≡ Some place)). record
+    { place = some.0; at = at_place plan pc some.0 some.1 })
     (option_cases (position (has_point pc) plan.nodes))
 
 one_more : (o : Option (List ℕ)) (names : List (List ℕ)) (most : ℕ) → length names ≤ most → length (cons_option o names) ≤ suc most
@@ -213,4 +226,5 @@ is_reached plan call bound is safe few fits covered ends =
     let at = (entry_at plan call.entry fits.entry).at in
     let r = answered (Ends (IsAllowed plan s)) plan call fits in
     reached plan call s bound (outcome call (beginning (kept plan []))) r.0
-    (r.1 bound (first_goes plan call bound is safe few fits covered ends (let w = at.within in let f = at.found in omega (arith, w, f)) (ap (point_of plan) at.found ∙ at.point_is)))
+    (r.1 bound (first_goes plan call bound is safe few fits covered ends (let w = at.within in let f = at.found in omega (arith, w, f))
+    (ap (point_of plan) at.found ∙ at.point_is)))

@@ -1,61 +1,70 @@
 -- After the release no section is left, and no link holds a message.
-use Rattle.std.specs.Prelude.{ℕ, ◌≡◌, ◌==◌, ◌⊎◌, ◌<◌, ◌≤◌, ◌+◌, ◌*◌, Bool, true, false, cond, ◌&&◌, List, [], ◌∷◌, ◌++◌, length, filter, map, sum, Option, Some, None, refl}
+use Rattle.std.specs.Prelude.{ℕ, ◌≡◌, ◌==◌, ◌⊎◌, ◌<◌, ◌≤◌, ◌+◌, ◌*◌, Bool, true, false, cond, ◌&&◌, List, [], ◌∷◌, ◌++◌, length, filter}
+use Rattle.std.specs.Prelude.{map, sum, Some, None, refl}
 use Rattle.std.specs.List.{cons_option}
-use Rattle.std.proofs.Common.{zero, suc, sym, ◌∙◌, ap, subst, ⊎_elim, inl, inr, arith, append_assoc, append-nil}
-use Rattle.std.proofs.lemmas.Bool.{cases_eq, cases_Bool, eqb-true, eq-eqb, and_parts}
+use Rattle.std.proofs.Common.{zero, suc, sym, ◌∙◌, ap, subst, ⊎_elim, arith, append_assoc, append-nil}
+use Rattle.std.proofs.lemmas.Bool.{cases_Bool, eqb-true, eq-eqb, and_parts}
 use Rattle.sccp_message.specs.declared.message.Message.{Message}
 use Rattle.sccp_message.specs.declared.message.Message.TheVariants as messages
 use Rattle.sccp_couple.specs.declared.section.Section.{Section}
-use Rattle.sccp_couple.specs.Sections.{section_at, without, changed, released as freed}
+use Rattle.sccp_couple.specs.Sections.{section_at}
 use Rattle.sccp_couple.specs.Events.{Event, Answer, Outcome}
 use Rattle.sccp_couple.specs.Coupling.{coupled, to_one}
 use Rattle.sccp_couple.proofs.Lookups.{own_at}
-use Rattle.couple_chain.specs.World as worlds
 use Rattle.couple_chain.specs.World.{Network, World, is_node, put, messages_to, event_at, handled, left, delivered_of, offer_fault}
 use Rattle.chain_world.specs.Kept.{network_of}
 use Rattle.chain_world.specs.Running.{sections_of}
 use Rattle.chain_call.specs.Course.{Course, world_at}
-use Rattle.chain_call.specs.Notes.{note_of, release_of, data_at, data_in, data_of}
-use Rattle.chain_call.specs.Steps.{delivered, answered, next_of, settled_in}
+use Rattle.chain_call.specs.Notes.{data_at, data_in, data_of}
+use Rattle.chain_call.specs.Steps.{delivered, next_of, settled_in}
 use Rattle.chain_call.specs.declared.handed.Handed.{Handed}
 use Rattle.chain_call.specs.declared.note.Note.{Note}
 use Rattle.chain_call.specs.declared.note.Note.TheVariants.{Release, Other}
 use Rattle.chain_call.proofs.Tokens.{sections_at, Empty, sections_here, sections_there}
-use Rattle.chain_call.proofs.Hops.{Hop, Sections, back_point, back_ref, front_point, front_ref}
-use Rattle.chain_call.proofs.HopSteps.{OpenAt, Opens}
+use Rattle.chain_call.proofs.Hops.{Hop, back_point, back_ref, front_point, front_ref}
 use Rattle.chain_call.proofs.Flows.{Every, rest_at}
-use Rattle.chain_call.proofs.Courses.{network_at, after_offer, offer_is, world_offered, no_fault, after_delivery, after_note, world_delivered}
+use Rattle.chain_call.proofs.Courses.{network_at, after_offer, offer_is, world_offered, no_fault, after_delivery, after_note}
+use Rattle.chain_call.proofs.Courses.{world_delivered}
 use Rattle.chain_call.proofs.Courses.{relay_delivery, end_delivery, turn_on, turn_end}
 use Rattle.chain_call.proofs.DataCourses.{flat_append, option_parts, next_waits, none_waiting}
 use Rattle.chain_call.proofs.Requests.{S}
-use Rattle.chain_call.proofs.Marks.{Mark, is_at, on_link, Marked, Taken, taken, added, sent_added, every_out, filter_one, length_out, length_in}
-use Rattle.chain_call.proofs.Releases.{release_on, Completes, completes_same, complete_silent, complete_at, releases, is_release, Aimed, is_done, is_rlsd, FarIn}
-use Rattle.chain_call.proofs.Freed.{Going, Ended, tail, release_mark, answers, going_ends, ended_ends, going_done, ended_done, going_on, going_out}
+use Rattle.chain_call.proofs.Marks.{Mark, is_at, on_link, Marked, Taken, taken, added, sent_added, every_out, filter_one, length_out}
+use Rattle.chain_call.proofs.Marks.{length_in}
+use Rattle.chain_call.proofs.Releases.{release_on, Completes, completes_same, complete_silent, complete_at, releases, is_release, Aimed}
+use Rattle.chain_call.proofs.Releases.{is_done, is_rlsd, FarIn}
+use Rattle.chain_call.proofs.Freed.{Going, Ended, tail, release_mark, answers, going_ends, ended_ends, going_done, ended_done, going_on}
+use Rattle.chain_call.proofs.Freed.{going_out}
 use Rattle.chain_call.proofs.Freed.{nothing_left}
 
 -- ---- one delivery
 
 -- the world after a delivery to a relay
-relay_world : (c : Course) (a b : ℕ) (m : Message) (rest : List Message) → (world_at c).waiting a b ≡ m ∷ rest → is_node (network_at c) b ≡ true
+relay_world : (c : Course) (a b : ℕ) (m : Message) (rest : List Message) → (world_at c).waiting a b ≡ m ∷ rest
+    → is_node (network_at c) b ≡ true
     → world_at (after_delivery a b c) ≡ handled (left (world_at c) a b m rest) b (event_at (network_at c) b a m)
 relay_world c a b m rest queued inner =
     world_delivered a b c ∙ ap (delivered_of (network_at c) (world_at c) a b) queued
-    ∙ ap (λ (k : Bool). cond k (handled (left (world_at c) a b m rest) b (event_at (network_at c) b a m)) (left (world_at c) a b m rest)) inner
+    ∙ ap (λ (k : Bool). cond k (handled (left (world_at c) a b m rest) b (event_at (network_at c) b a m))
+    (left (world_at c) a b m rest)) inner
 
-end_world : (c : Course) (a b : ℕ) (m : Message) (rest : List Message) → (world_at c).waiting a b ≡ m ∷ rest → is_node (network_at c) b ≡ false
+end_world : (c : Course) (a b : ℕ) (m : Message) (rest : List Message) → (world_at c).waiting a b ≡ m ∷ rest
+    → is_node (network_at c) b ≡ false
     → world_at (after_delivery a b c) ≡ left (world_at c) a b m rest
 end_world c a b m rest queued outer =
     world_delivered a b c ∙ ap (delivered_of (network_at c) (world_at c) a b) queued
-    ∙ ap (λ (k : Bool). cond k (handled (left (world_at c) a b m rest) b (event_at (network_at c) b a m)) (left (world_at c) a b m rest)) outer
+    ∙ ap (λ (k : Bool). cond k (handled (left (world_at c) a b m rest) b (event_at (network_at c) b a m))
+    (left (world_at c) a b m rest)) outer
 
 -- the marks that are left
-rest_marked : (w : World) (a b : ℕ) (m : Message) (rest : List Message) (ts : List Mark) → Marked w ts → (t : Taken a b m rest ts) → (x y : ℕ)
+rest_marked : (w : World) (a b : ℕ) (m : Message) (rest : List Message) (ts : List Mark) → Marked w ts → (t : Taken a b m rest ts)
+    → (x y : ℕ)
     → rest_at w a b rest x y ≡ on_link x y (t.front ++ t.back)
 rest_marked w a b m rest ts marked t x y =
     ap (λ (l : List Message). cond ((x == a) && (y == b)) rest l) (marked x y) ∙ sym (t.left x y)
 
 -- after a relay that answers nothing
-silent_marked : (c : Course) (a b : ℕ) (m : Message) (rest : List Message) (ts : List Mark) → Marked (world_at c) ts → (t : Taken a b m rest ts)
+silent_marked : (c : Course) (a b : ℕ) (m : Message) (rest : List Message) (ts : List Mark) → Marked (world_at c) ts
+    → (t : Taken a b m rest ts)
     → (world_at c).waiting a b ≡ m ∷ rest → is_node (network_at c) b ≡ true
     → (coupled (S c b) (event_at (network_at c) b a m)).sent ≡ [] → Marked (world_at (after_delivery a b c)) (t.front ++ t.back)
 silent_marked c a b m rest ts marked t queued inner silent x y =
@@ -72,10 +81,12 @@ two_sent y a z m n =
     ≡ cons_option (cond k (Some m) None) [] ++ messages_to y (to_one z n)) [ true ↦ refl | false ↦ refl ]
 
 -- after a relay that answers with two messages
-two_marked : (c : Course) (a b : ℕ) (m : Message) (rest : List Message) (ts : List Mark) → Marked (world_at c) ts → (t : Taken a b m rest ts)
+two_marked : (c : Course) (a b : ℕ) (m : Message) (rest : List Message) (ts : List Mark) → Marked (world_at c) ts
+    → (t : Taken a b m rest ts)
     → (world_at c).waiting a b ≡ m ∷ rest → is_node (network_at c) b ≡ true → (o z : ℕ) (p q : Message)
     → (coupled (S c b) (event_at (network_at c) b a m)).sent ≡ to_one o p ++ to_one z q
-    → Marked (world_at (after_delivery a b c)) (((t.front ++ t.back) ++ record { from = b; to = o; message = p } ∷ []) ++ record { from = b; to = z; message = q } ∷ [])
+    → Marked (world_at (after_delivery a b c)) (((t.front ++ t.back) ++ record { from = b; to = o; message = p } ∷ [])
+    ++ record { from = b; to = z; message = q } ∷ [])
 two_marked c a b m rest ts marked t queued inner o z p q sent x y =
     let w : World = world_at c in
     let u : List Message = rest_at w a b rest x y in
@@ -89,11 +100,13 @@ two_marked c a b m rest ts marked t queued inner o z p q sent x y =
       | false ↦ refl
     ]
     ∙ ap (λ (l : List Message). cond (x == b) (l ++ messages_to y (to_one z q)) l)
-    (ap (λ (l : List Message). cond (x == b) (l ++ messages_to y (to_one o p)) l) (rest_marked w a b m rest ts marked t x y) ∙ sent_added x y b o p us)
+    (ap (λ (l : List Message). cond (x == b) (l ++ messages_to y (to_one o p)) l) (rest_marked w a b m rest ts marked t x y)
+    ∙ sent_added x y b o p us)
     ∙ sent_added x y b z q (us ++ record { from = b; to = o; message = p } ∷ [])
 
 -- after an end
-end_marked : (c : Course) (a b : ℕ) (m : Message) (rest : List Message) (ts : List Mark) → Marked (world_at c) ts → (t : Taken a b m rest ts)
+end_marked : (c : Course) (a b : ℕ) (m : Message) (rest : List Message) (ts : List Mark) → Marked (world_at c) ts
+    → (t : Taken a b m rest ts)
     → (world_at c).waiting a b ≡ m ∷ rest → is_node (network_at c) b ≡ false → Marked (world_at (after_delivery a b c)) (t.front ++ t.back)
 end_marked c a b m rest ts marked t queued outer x y =
     ap (λ (v : World). v.waiting x y) (end_world c a b m rest queued outer) ∙ rest_marked (world_at c) a b m rest ts marked t x y
@@ -146,7 +159,8 @@ record Completed (c : Course) (a b d n : ℕ) (front back : List Mark) : Type 0 
   pub offers : then.offers ≡ c.offers
   pub deliveries : then.deliveries ≡ c.deliveries + 1
 
-completed : (c : Course) (a b d n : ℕ) (rest : List Message) (ts : List Mark) → Marked (world_at c) ts → (t : Taken a b (messages.Rlc d n) rest ts)
+completed : (c : Course) (a b d n : ℕ) (rest : List Message) (ts : List Mark) → Marked (world_at c) ts
+    → (t : Taken a b (messages.Rlc d n) rest ts)
     → (world_at c).waiting a b ≡ messages.Rlc d n ∷ rest
     → ((own : ℕ) (s : Section) → is_node (network_at c) b ≡ false → section_at (S c b) own ≡ Some s → ⊥)
     → Completed c a b d n t.front t.back
@@ -186,14 +200,18 @@ completed c a b d n rest ts marked t queued ends =
     })
     (cases_Bool (is_node (network_at c) b))
 
-quiet_on : (turns : ℕ) (c then : Course) (l : ℕ × ℕ) → next_of c ≡ Some l → c.deliveries < 64 * c.offers → delivered l.0 l.1 c ≡ then → then.plan ≡ c.plan
+quiet_on : (turns : ℕ) (c then : Course) (l : ℕ × ℕ) → next_of c ≡ Some l → c.deliveries < 64 * c.offers → delivered l.0 l.1 c ≡ then
+    → then.plan ≡ c.plan
     → ((q r : ℕ) → data_at q r then.handed ≡ data_at q r c.handed) → Ends turns then → Ends (suc turns) c
-quiet_on turns c then l next lt step plan_is stay r =
-    (r.0, turn_on turns c l next lt ∙ ap (settled_in turns) step ∙ r.1, record {
-      plan_is = r.2.plan_is ∙ plan_is;
-      none = r.2.none;
-      data_stay = λ q k. r.2.data_stay q k ∙ stay q k;
-    })
+quiet_on turns c then l next lt step plan_is stay r = (
+  r.0,
+  turn_on turns c l next lt ∙ ap (settled_in turns) step ∙ r.1,
+  record {
+    plan_is = r.2.plan_is ∙ plan_is;
+    none = r.2.none;
+    data_stay = λ q k. r.2.data_stay q k ∙ stay q k;
+  },
+)
 
 -- what is left of the turns, from any state of completions
 abbrev LaterEnded : ℕ → ℕ → ℕ → Type 0
@@ -201,7 +219,8 @@ LaterEnded turns from end = (c : Course) (ts : List Mark) (back : List Hop) → 
     → Marked (world_at c) ts → length ts < turns → c.deliveries + length ts ≤ 64 * c.offers → Ends turns c
 
 ended_one : (turns : ℕ) (c : Course) (ts : List Mark) (from end : ℕ) (back : List Hop) (a b d n : ℕ) (rest : List Message)
-    → Ended (network_at c) (S c) ts from end back → Marked (world_at c) ts → length ts < suc turns → c.deliveries + length ts ≤ 64 * c.offers
+    → Ended (network_at c) (S c) ts from end back → Marked (world_at c) ts → length ts < suc turns
+    → c.deliveries + length ts ≤ 64 * c.offers
     → LaterEnded turns from end → Taken a b (messages.Rlc d n) rest ts → (world_at c).waiting a b ≡ messages.Rlc d n ∷ rest
     → next_of c ≡ Some (a, b) → Ends (suc turns) c
 ended_one turns c ts from end back a b d n rest g marked enough few later t queued next =
@@ -220,7 +239,8 @@ ended_one turns c ts from end back a b d n rest g marked enough few later t queu
 
 none_there : (front back : List Mark) (t : Mark) → is_release t ≡ true → filter is_release (front ++ t ∷ back) ≡ [] → ⊥
 none_there [] back t is h =
-    let k : t ∷ filter is_release back ≡ [] = sym (ap (λ (k : Bool). cond k (t ∷ filter is_release back) (filter is_release back)) is) ∙ h in cc
+    let k : t ∷ filter is_release back ≡ [] = sym (ap (λ (k : Bool). cond k (t ∷ filter is_release back) (filter is_release back)) is)
+    ∙ h in cc
 none_there (x ∷ front) back t is h =
     elim (is_release x) as (λ k. cond k (x ∷ filter is_release (front ++ t ∷ back)) (filter is_release (front ++ t ∷ back)) ≡ [] → ⊥) [
       | true ↦ λ g. let z : x ∷ filter is_release (front ++ t ∷ back) ≡ [] = g in cc
@@ -228,22 +248,27 @@ none_there (x ∷ front) back t is h =
     ] h
 
 ended_turn : (turns : ℕ) (c : Course) (ts : List Mark) (from end : ℕ) (back : List Hop) → LaterEnded turns from end
-    → Ended (network_at c) (S c) ts from end back → Marked (world_at c) ts → length ts < suc turns → c.deliveries + length ts ≤ 64 * c.offers
+    → Ended (network_at c) (S c) ts from end back → Marked (world_at c) ts → length ts < suc turns
+    → c.deliveries + length ts ≤ 64 * c.offers
     → Ends (suc turns) c
 ended_turn turns c ts from end back later g marked enough few =
     ⊎_elim
     (λ (none : next_of c ≡ None).
-    let e : ts ≡ [] = empty_marks (world_at c) ts marked (none_waiting c none) in
-    (c, turn_end turns c none, record {
-      plan_is = refl;
-      none = nothing_left (network_at c) (S c) from end back (subst (λ (l : List Mark). Ended (network_at c) (S c) l from end back) e g);
-      data_stay = λ q r. refl;
-    }))
+    let e : ts ≡ [] = empty_marks (world_at c) ts marked (none_waiting c none) in (
+      c,
+      turn_end turns c none,
+      record {
+        plan_is = refl;
+        none = nothing_left (network_at c) (S c) from end back (subst (λ (l : List Mark). Ended (network_at c) (S c) l from end back) e g);
+        data_stay = λ q r. refl;
+      },
+    ))
     (λ (some : (l : ℕ × ℕ) × (next_of c ≡ Some l)).
     let q = next_waits c some.0 some.1 in
     let t = taken some.0.0 some.0.1 q.0 q.1 ts (sym (marked some.0.0 some.0.1) ∙ q.2) in
     by some.0.0 some.0.1 q.0 q.1 t q.2 some.1
-    (every_out (Aimed from back) t.front t.back (record { from = some.0.0; to = some.0.1; message = q.0 }) (subst (Every (Aimed from back)) t.is g.aimed)).0)
+    (every_out (Aimed from back) t.front t.back (record { from = some.0.0; to = some.0.1; message = q.0 })
+    (subst (Every (Aimed from back)) t.is g.aimed)).0)
     (option_parts (next_of c))
   where
     by : (a b : ℕ) (m : Message) (rest : List Message) → Taken a b m rest ts → (world_at c).waiting a b ≡ m ∷ rest → next_of c ≡ Some (a, b)
@@ -261,7 +286,8 @@ pub ended : (turns : ℕ) (c : Course) (ts : List Mark) (from end : ℕ) (back :
     → Marked (world_at c) ts → length ts < turns → c.deliveries + length ts ≤ 64 * c.offers → Ends turns c
 ended zero c ts from end back g marked enough few = absurd (omega (arith, enough))
 ended (suc turns) c ts from end back g marked enough few =
-    ended_turn turns c ts from end back (λ c ts back g marked enough few. ended turns c ts from end back g marked enough few) g marked enough few
+    ended_turn turns c ts from end back
+    (λ c ts back g marked enough few. ended turns c ts from end back g marked enough few) g marked enough few
 
 -- ---- the release and completions
 
@@ -392,7 +418,8 @@ going_release turns c ts from end back (h ∷ hops) rest k t queued next = going
 going_release turns c ts from end (h ∷ back) [] rest k t queued next = going_last turns c ts from end back h rest k t queued next
 going_release turns c ts from end [] [] rest k t queued next = let some = k.some in absurd (omega (arith, some))
 
-going_turn : (turns : ℕ) (c : Course) (ts : List Mark) (from end : ℕ) (back hops : List Hop) → Turn turns c ts from end back hops → Ends (suc turns) c
+going_turn : (turns : ℕ) (c : Course) (ts : List Mark) (from end : ℕ) (back hops : List Hop) → Turn turns c ts from end back hops
+    → Ends (suc turns) c
 going_turn turns c ts from end back hops k =
     ⊎_elim
     (λ (none : next_of c ≡ None).
@@ -417,7 +444,8 @@ going_turn turns c ts from end back hops k =
     by a b m rest t queued next (is_rlsd d s e) =
         let u : Mark = record { from = a; to = b; message = m } in
         let rel : is_release u ≡ true = ap releases e in
-        let one = filter_one is_release t.front t.back u (release_mark from end back hops) rel (sym (ap (filter is_release) t.is) ∙ k.going.one) in
+        let one = filter_one is_release t.front t.back u (release_mark from end back hops) rel (sym (ap (filter is_release) t.is)
+        ∙ k.going.one) in
         subst (λ (v : Mark). Taken v.from v.to v.message rest ts → (world_at c).waiting v.from v.to ≡ v.message ∷ rest
         → next_of c ≡ Some (v.from, v.to) → Ends (suc turns) c) (sym one.0)
         (λ t queued next. going_release turns c ts from end back hops rest k t queued next) t queued next
@@ -449,4 +477,5 @@ no_sections network w h = by network.nodes
   where
     by : (nodes : List ℕ) → sum (map (λ node. length (sections_at w node)) nodes) ≡ 0
     by [] = refl
-    by (n ∷ nodes) = let e = ap (λ l. length l) (nothing (sections_at w n) (h n)) in ap (λ (k : ℕ). sum (k ∷ map (λ node. length (sections_at w node)) nodes)) e ∙ by nodes
+    by (n ∷ nodes) = let e = ap (λ l. length l) (nothing (sections_at w n) (h n)) in ap
+        (λ (k : ℕ). sum (k ∷ map (λ node. length (sections_at w node)) nodes)) e ∙ by nodes

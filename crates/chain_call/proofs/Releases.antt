@@ -1,23 +1,21 @@
 -- A release on its way over open relays: what each relay does with it and with its completion.
-use Rattle.std.specs.Prelude.{ℕ, ◌≡◌, ◌==◌, ◌⊎◌, ◌+◌, ◌*◌, ◌≤◌, Bool, true, false, cond, not, ◌&&◌, ◌||◌, List, [], ◌∷◌, ◌++◌, length, filter, Option, Some, None, is_none, refl}
+use Rattle.std.specs.Prelude.{ℕ, ◌≡◌, ◌==◌, ◌⊎◌, Bool, true, false, cond, ◌&&◌, List, [], ◌∷◌, ◌++◌, Option, Some, None, is_none, refl}
 use Rattle.std.specs.Prelude.{option_and_then}
 use Rattle.std.specs.List.{list_any}
-use Rattle.std.proofs.Common.{suc, sym, ◌∙◌, ap, subst, ⊎_elim, inl, inr, arith}
+use Rattle.std.proofs.Common.{sym, ◌∙◌, ap, ⊎_elim, inl, inr}
 use Rattle.std.proofs.lemmas.Bool.{cases_eq, cases_Bool, eqb-true, eq-eqb, and_parts, and_from}
 use Rattle.sccp_message.specs.declared.message.Message.{Message}
 use Rattle.sccp_message.specs.declared.message.Message.TheVariants as messages
 use Rattle.sccp_couple.specs.declared.section.Section.{Section}
 use Rattle.sccp_couple.specs.declared.way.Way.{Way}
 use Rattle.sccp_couple.specs.Sections.{is_that, section_at, known, if_from, without, changed, released, has_remote}
-use Rattle.sccp_couple.specs.Events.{Answer, Outcome}
+use Rattle.sccp_couple.specs.Events.{Answer}
 use Rattle.sccp_couple.specs.Coupling.{coupled, to_one, toward, only_sends, on_release, on_complete, release}
-use Rattle.sccp_couple.proofs.Fairness.{that_is}
-use Rattle.sccp_couple.proofs.Lookups.{option_cases, without_same, without_else, without_cases, changed_same, changed_else, changed_none, changed_cases}
-use Rattle.couple_chain.specs.World.{Network, is_node}
-use Rattle.chain_call.proofs.Flows.{Every}
-use Rattle.chain_call.proofs.Hops.{Hop, Sections, back_point, back_ref, front_point, front_ref, near_section, far_section, Apart, IsApart, Among}
-use Rattle.chain_call.proofs.HopSteps.{event_with, OpenAt, Opens, Crossed}
-use Rattle.chain_call.proofs.Marks.{Mark, any_in, any_out}
+use Rattle.sccp_couple.proofs.Lookups.{option_cases, without_same, without_else, without_cases}
+use Rattle.couple_chain.specs.World.{Network}
+use Rattle.chain_call.proofs.Hops.{Hop, Sections, front_point, front_ref, near_section, far_section, Apart}
+use Rattle.chain_call.proofs.HopSteps.{event_with, OpenAt, Opens}
+use Rattle.chain_call.proofs.Marks.{Mark, any_out}
 
 -- ---- what a relay does
 
@@ -38,7 +36,8 @@ release_on network S end point remote h hops way o =
     let after : List Section = changed released h.far (without h.near l) in
     ap (on_release l point h.near remote 0 [])
     (ap (option_and_then (if_from point)) o.near_at ∙ ap (λ (b : Bool). cond b (Some s) None) (eq-eqb point point refl))
-    ∙ ap (λ (b : Bool). cond b (release l s done 0 [] (Some h.far)) (only_sends l (to_one point (messages.Err remote 1)))) (eq-eqb remote remote refl)
+    ∙ ap (λ (b : Bool). cond b (release l s done 0 [] (Some h.far)) (only_sends l (to_one point (messages.Err remote 1))))
+    (eq-eqb remote remote refl)
     ∙ ap (λ (x : Option Section). cond (has_remote x)
     (record { sections = after; sent = done ++ toward x (λ far own. messages.Rlsd far own 0 []) })
     (record { sections = without h.far (without h.near l); sent = done })) o.far_at
@@ -90,7 +89,8 @@ completes_without S T a b d n s here there at own alone = record {
       (cases_eq q s.own))
       (λ (e : p ≡ b → ⊥). none_some t (sym none ∙ ap (λ l. section_at l q) (there p e) ∙ f))
       (cases_eq p b);
-  gone = λ t f point remote other. ap (λ l. section_at l d) here ∙ ap (section_at (without s.own (S b))) (sym own) ∙ without_same (S b) s.own;
+  gone = λ t f point remote other. ap (λ l. section_at l d) here ∙ ap (section_at (without s.own (S b))) (sym own)
+      ∙ without_same (S b) s.own;
 }
 
 -- a completion is never answered
@@ -243,7 +243,8 @@ apart_far h (g ∷ hops) p d apart (inr k) e f = apart_far h hops p d apart.1 k 
 
 pub last_done : (S T : Sections) (from a b d n : ℕ) (front back : List Mark) (y m : ℕ) (h : Hop) (hops : List Hop) → Completes S T a b d n
     → Apart h hops → (h.node ≡ from → ⊥) → (b ≡ from) ⊎ FarIn b d hops
-    → LastHalf S (front ++ record { from = a; to = b; message = messages.Rlc d n } ∷ back) y m (h ∷ hops) → LastHalf T (front ++ back) y m (h ∷ hops)
+    → LastHalf S (front ++ record { from = a; to = b; message = messages.Rlc d n } ∷ back) y m (h ∷ hops)
+    → LastHalf T (front ++ back) y m (h ∷ hops)
 last_done S T from a b d n front back y m h hops done apart outer aimed last =
     let stays : section_at (T h.node) h.far ≡ Some (loose h y m) =
     ⊎_elim

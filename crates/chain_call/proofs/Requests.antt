@@ -1,9 +1,10 @@
 -- A request on its way: it comes to an end, or a refusal comes back.
-use Rattle.std.specs.Prelude.{ℕ, ◌≡◌, ◌==◌, ◌⊎◌, ◌<◌, ◌≤◌, ◌+◌, ◌*◌, Bool, true, false, cond, not, ◌&&◌, List, [], ◌∷◌, ◌++◌, length, Option, Some, None, refl}
-use Rattle.std.specs.Prelude.{nat_le, nat_lt, ◌-◌}
+use Rattle.std.specs.Prelude.{ℕ, ◌≡◌, ◌==◌, ◌⊎◌, ◌≤◌, ◌+◌, Bool, true, false, cond, not, List, [], ◌∷◌, ◌++◌, length, Option, Some, None}
+use Rattle.std.specs.Prelude.{refl}
+use Rattle.std.specs.Prelude.{nat_le, ◌-◌}
 use Rattle.std.specs.List.{list_any}
 use Rattle.std.proofs.Common.{zero, suc, sym, ◌∙◌, ap, subst, ⊎_elim, inl, inr, arith}
-use Rattle.std.proofs.lemmas.Bool.{cases_eq, cases_Bool, eqb-true, eq-eqb, and_parts, le-leb, lt-leb, leb-false}
+use Rattle.std.proofs.lemmas.Bool.{cases_eq, cases_Bool, le-leb, lt-leb, leb-false}
 use Rattle.sccp_address.specs.declared.address.Address.{Address}
 use Rattle.sccp_layout.specs.Parameter.{Parameter, parameter}
 use Rattle.sccp_layout.specs.Table as names
@@ -15,35 +16,31 @@ use Rattle.plan_model.specs.declared.hop.Step.{Step}
 use Rattle.plan_model.specs.declared.hop.Step.TheVariants as steps
 use Rattle.plan_model.specs.declared.spot.Spot.{Spot}
 use Rattle.plan_model.specs.Steps.{step}
-use Rattle.sccp_base.specs.Bits.{bits}
 use Rattle.sccp_base.specs.Marks.{holds}
 use Rattle.sccp_base.specs.declared.mark.Mark.TheVariants.{Subsystem}
 use Rattle.sccp_scrc.specs.Arriving.{point_of, subsystems_of}
-use Rattle.sccp_scrc.specs.Rewriting.{one_less, spot_of, to_place, to_relay}
+use Rattle.sccp_scrc.specs.Rewriting.{one_less, spot_of, to_place}
 use Rattle.sccp_couple.specs.declared.section.Section.{Section}
 use Rattle.sccp_couple.specs.declared.way.Way.{Way}
 use Rattle.sccp_couple.specs.declared.way.Way.TheVariants.{Refused, Onward}
-use Rattle.sccp_couple.specs.Sections.{section_at, first_new, second_new, with_pair, is_near_of}
+use Rattle.sccp_couple.specs.Sections.{section_at, first_new, second_new}
 use Rattle.sccp_couple.specs.Events.{Event, Outcome}
-use Rattle.sccp_couple.specs.Coupling.{coupled, to_one, only_sends, couple}
+use Rattle.sccp_couple.specs.Coupling.{coupled, to_one, couple}
 use Rattle.sccp_couple.specs.Invariant.{OwnDiffer}
-use Rattle.sccp_couple.specs.Ways.{way_of, request_way, at_subsystem, translated, after_step, is_used_up}
+use Rattle.sccp_couple.specs.Ways.{way_of, at_subsystem, translated, after_step}
 use Rattle.sccp_couple.proofs.Fresh.{fresh}
-use Rattle.couple_chain.specs.World as worlds
-use Rattle.couple_chain.specs.World.{Network, World, is_node, put_on, event_at, handled, left, names as named, after}
+use Rattle.couple_chain.specs.World.{Network, World, is_node, put_on, event_at, handled, left, names as named}
 use Rattle.couple_chain.proofs.Worlds.{put_left, put_there}
-use Rattle.chain_world.specs.Kept.{network_of}
 use Rattle.chain_world.proofs.Happens.{regular}
 use Rattle.chain_call.specs.Course.{Course, world_at}
-use Rattle.chain_call.specs.Notes.{note_of}
-use Rattle.chain_call.specs.Steps.{delivered, next_of, settled_in}
-use Rattle.chain_call.specs.declared.note.Note.{Note}
+use Rattle.chain_call.specs.Steps.{delivered, settled_in}
 use Rattle.chain_call.specs.declared.note.Note.TheVariants.{Request, Refusal}
 use Rattle.chain_call.specs.declared.handed.Handed.{Handed}
 use Rattle.chain_call.proofs.Tokens.{sections_at, Holds, Empty, at_link, at_relay, at_end, left_empty, moves, sections_here, sections_there}
 use Rattle.chain_call.proofs.Hops.{Hop, Sections, back_point, back_ref, Waits, AllAmong, Asks, asks_on, waits_more}
-use Rattle.chain_call.proofs.HopSteps.{not_before, event_with, request_refused, request_onward, refusal_back, Ends, Refuses, refuses_on}
-use Rattle.chain_call.proofs.Courses.{network_at, after_delivery, after_note, world_delivered, relay_delivery, end_delivery, next_single, next_empty}
+use Rattle.chain_call.proofs.HopSteps.{not_before, event_with, request_refused, request_onward, refusal_back, Refuses, refuses_on}
+use Rattle.chain_call.proofs.Courses.{network_at, after_delivery, after_note, world_delivered, relay_delivery, end_delivery, next_single}
+use Rattle.chain_call.proofs.Courses.{next_empty}
 use Rattle.chain_call.proofs.Courses.{turn_on, turns_end}
 
 -- ---- one message from one relay to the next
@@ -138,19 +135,21 @@ counted_ssn plan node n (Some ssn) =
     elim (not (list_any (λ own. own == ssn) (subsystems_of plan node))) as (λ b. Counted n
     (cond b (Refused 19) (cond (holds [] (Subsystem (point_of plan node) ssn)) (Refused 10) (Refused 6)))) [
       | true ↦ tt
-      | false ↦ elim (holds [] (Subsystem (point_of plan node) ssn)) as (λ b. Counted n (cond b (Refused 10) (Refused 6))) [ true ↦ tt | false ↦ tt ]
+      | false ↦ elim (holds [] (Subsystem (point_of plan node) ssn)) as (λ b. Counted n (cond b (Refused 10) (Refused 6)))
+          [ true ↦ tt | false ↦ tt ]
     ]
 
-pub way_counts : (plan : plans.Network) (node n slr : ℕ) (called : Address) → Counted n (way_of plan node [] (messages.Cr slr 2 called (hops_param n)))
+pub way_counts : (plan : plans.Network) (node n slr : ℕ) (called : Address)
+    → Counted n (way_of plan node [] (messages.Cr slr 2 called (hops_param n)))
 way_counts plan node n slr called =
     elim called.by_ssn as (λ b. Counted n (cond b (at_subsystem plan node [] called.ssn)
     (cond (nat_le n 1) (Refused 16) (translated plan node [] called (hops_param n) (spot_of node called))))) [
       | true ↦ counted_ssn plan node n called.ssn
       | false ↦ elim (nat_le n 1) as (λ b. nat_le n 1 ≡ b
           → Counted n (cond b (Refused 16) (translated plan node [] called (hops_param n) (spot_of node called)))) [
-        | true ↦ λ e. tt
-        | false ↦ λ e. counted_spot plan node n called (spot_of node called) e
-      ] refl
+            | true ↦ λ e. tt
+            | false ↦ λ e. counted_spot plan node n called (spot_of node called) e
+          ] refl
     ]
 
 pub one_less_is : (n : ℕ) → suc n ≤ 15 → one_less (suc n) ≡ n
@@ -185,20 +184,21 @@ refusal (suc turns) c from y [] cause r enough =
     let o = out c y from m r.holds r.outer in
     let d = r.deliveries in
     let e = r.offers in
-    let after : Course = after_note y from (Refusal cause) c in
-    (after,
-    turn_on turns c (y, from) (next_single y from m c r.holds) (omega (arith, d, e))
-    ∙ ap (settled_in turns) (end_delivery y from m [] c (at_link (world_at c) y from m r.holds) r.outer)
-    ∙ turns_end turns after (next_empty after o.empty) (omega (arith, d, enough)),
-    record {
-      plan_is = refl;
-      empty = o.empty;
-      none = λ p own s at. r.refuses.all p own s (sym (ap (λ l. section_at l own) (o.same p)) ∙ at);
-      point = y;
-      handed = ap (λ (l : List Handed). l ++ record { from = y; to = from; note = Refusal cause } ∷ []) r.handed;
-      offers = e;
-      deliveries = omega (arith, d);
-    })
+    let after : Course = after_note y from (Refusal cause) c in (
+      after,
+      turn_on turns c (y, from) (next_single y from m c r.holds) (omega (arith, d, e))
+          ∙ ap (settled_in turns) (end_delivery y from m [] c (at_link (world_at c) y from m r.holds) r.outer)
+          ∙ turns_end turns after (next_empty after o.empty) (omega (arith, d, enough)),
+      record {
+        plan_is = refl;
+        empty = o.empty;
+        none = λ p own s at. r.refuses.all p own s (sym (ap (λ l. section_at l own) (o.same p)) ∙ at);
+        point = y;
+        handed = ap (λ (l : List Handed). l ++ record { from = y; to = from; note = Refusal cause } ∷ []) r.handed;
+        offers = e;
+        deliveries = omega (arith, d);
+      },
+    )
 refusal (suc turns) c from y (h ∷ hops) cause r enough =
     let m : Message = messages.Cref h.far cause [] in
     let stands = r.refuses.waits.0 in
@@ -214,10 +214,11 @@ refusal (suc turns) c from y (h ∷ hops) cause r enough =
       offers = e;
       deliveries = omega (arith, d);
       handed = r.handed;
-    }) (omega (arith, enough)) in
-    (rest.0,
-    turn_on turns c (y, h.node) (next_single y h.node m c r.holds) (omega (arith, d, e)) ∙ ap (settled_in turns) move.step ∙ rest.1,
-    rest.2)
+    }) (omega (arith, enough)) in (
+      rest.0,
+      turn_on turns c (y, h.node) (next_single y h.node m c r.holds) (omega (arith, d, e)) ∙ ap (settled_in turns) move.step ∙ rest.1,
+      rest.2,
+    )
 
 -- ---- the request goes on
 
@@ -283,7 +284,8 @@ differ_at c y = (regular (network_at c) c.history y).kept.coupling.differ
 
 -- what the turns of a request lead to
 abbrev pub Leads : (ℕ → Type 0) → ℕ → Course → ℕ → ℕ → ℕ → List Hop → Address → ℕ → Type 0
-Leads allowed turns c from entry y hops called n = (after : Course) × (settled_in turns c ≡ Some after) × (answer : Answer after c.plan from entry)
+Leads allowed turns c from entry y hops called n = (after : Course) × (settled_in turns c ≡ Some after)
+    × (answer : Answer after c.plan from entry)
     × ((k : ℕ) → Goes (network_at c) allowed k y called n → Fine allowed (length hops + k) answer)
 
 abbrev Later : (ℕ → Type 0) → ℕ → ℕ → ℕ → ℕ → Type 0
@@ -310,12 +312,14 @@ request_turn allowed n turns c from entry y hops called later r enough =
     come_out hops outer (suc k) (inl goes) = (goes.1, omega arith)
     come_out hops outer (suc k) (inr goes) = absurd (let z : true ≡ false = sym goes.0 ∙ outer in cc)
 
-    not_refused : (n : ℕ) → is_node (network_at c) y ≡ true → (cause : ℕ) → (network_at c).way y (back_point from hops) (m hops n) ≡ Refused cause
+    not_refused : (n : ℕ) → is_node (network_at c) y ≡ true → (cause : ℕ)
+        → (network_at c).way y (back_point from hops) (m hops n) ≡ Refused cause
         → (k : ℕ) → Goes (network_at c) allowed k y called n → ⊥
     not_refused n inner cause is zero goes = let z : true ≡ false = sym inner ∙ goes.0 in cc
     not_refused n inner cause is (suc k) (inl goes) = let z : true ≡ false = sym inner ∙ goes.0 in cc
     not_refused n inner cause is (suc k) (inr goes) =
-        let z : Refused cause ≡ Onward goes.1 goes.2 (hops_param (one_less n)) = sym is ∙ goes.3 (back_point from hops) (back_ref hops) in cc
+        let z : Refused cause ≡ Onward goes.1 goes.2 (hops_param (one_less n)) = sym is
+        ∙ goes.3 (back_point from hops) (back_ref hops) in cc
 
     further : (n : ℕ) → is_node (network_at c) y ≡ true → (to : ℕ) (next : Address) (params : List Parameter)
         → (network_at c).way y (back_point from hops) (m hops (suc n)) ≡ Onward to next params → one_less (suc n) ≡ n
@@ -345,27 +349,30 @@ request_turn allowed n turns c from entry y hops called later r enough =
         let l = r.left in
         let e = r.offers in
         let s = r.some in
-        let after : Course = after_note h.node y (Request h.far) c in
-        (after,
-        turn_on turns c (h.node, y) (next_single h.node y k c r.holds) (omega (arith, d, l, e))
-        ∙ ap (settled_in turns) (end_delivery h.node y k [] c (at_link (world_at c) h.node y k r.holds) outer)
-        ∙ turns_end turns after (next_empty after o.empty) (omega (arith, d, l, enough)),
-        is_asked y h hops (record {
-          enters = r.enters;
-          plan_is = refl;
-          outer = outer;
-          empty = o.empty;
-          waits = waits_more (network_at c) (S c) (S after) from y (h ∷ hops)
-              (λ p own s at. ap (λ l. section_at l own) (o.same p) ∙ at) r.asks.waits;
-          all = λ p own s at. r.asks.all p own s (sym (ap (λ l. section_at l own) (o.same p)) ∙ at);
-          few = omega (arith, l, s);
-          handed = ap (λ (l : List Handed). l ++ record { from = h.node; to = y; note = Request h.far } ∷ []) r.handed;
-          unused = o.unused r.unused;
-          offers = e;
-          deliveries = omega (arith, d);
-        }), λ k goes. come_out (h ∷ hops) outer k goes)
+        let after : Course = after_note h.node y (Request h.far) c in (
+          after,
+          turn_on turns c (h.node, y) (next_single h.node y k c r.holds) (omega (arith, d, l, e))
+              ∙ ap (settled_in turns) (end_delivery h.node y k [] c (at_link (world_at c) h.node y k r.holds) outer)
+              ∙ turns_end turns after (next_empty after o.empty) (omega (arith, d, l, enough)),
+          is_asked y h hops (record {
+            enters = r.enters;
+            plan_is = refl;
+            outer = outer;
+            empty = o.empty;
+            waits = waits_more (network_at c) (S c) (S after) from y (h ∷ hops)
+                (λ p own s at. ap (λ l. section_at l own) (o.same p) ∙ at) r.asks.waits;
+            all = λ p own s at. r.asks.all p own s (sym (ap (λ l. section_at l own) (o.same p)) ∙ at);
+            few = omega (arith, l, s);
+            handed = ap (λ (l : List Handed). l ++ record { from = h.node; to = y; note = Request h.far } ∷ []) r.handed;
+            unused = o.unused r.unused;
+            offers = e;
+            deliveries = omega (arith, d);
+          }),
+          λ k goes. come_out (h ∷ hops) outer k goes,
+        )
 
-    by_way : (n : ℕ) → Later allowed turns from entry n → Calling c from entry y hops called n → is_node (network_at c) y ≡ true → (way : Way)
+    by_way : (n : ℕ) → Later allowed turns from entry n → Calling c from entry y hops called n → is_node (network_at c) y ≡ true
+        → (way : Way)
         → (network_at c).way y (back_point from hops) (m hops n) ≡ way → Counted n way
         → Leads allowed (suc turns) c from entry y hops called n
     by_way n later r inner (Refused cause) is counts =
@@ -379,7 +386,8 @@ request_turn allowed n turns c from entry y hops called later r enough =
         (ap (λ w. coupled (S c y) (event_with x (m hops n) w)) is
         ∙ request_refused (S c y) x (back_ref hops) 2 cause called (hops_param n) none) in
         let then : Course = after_delivery x y c in
-        let keeps : (p : ℕ) → S then p ≡ S c p = λ p. ⊎_elim (λ (k : p ≡ y). ap (S then) k ∙ move.here ∙ ap (S c) (sym k)) (λ k. move.there p k)
+        let keeps : (p : ℕ) → S then p ≡ S c p = λ p. ⊎_elim (λ (k : p ≡ y). ap (S then) k ∙ move.here ∙ ap (S c) (sym k))
+        (λ k. move.there p k)
         (cases_eq p y) in
         let rest = refusal turns then from y hops cause (record {
           outer = r.asks.outer;
@@ -392,10 +400,12 @@ request_turn allowed n turns c from entry y hops called later r enough =
           offers = e;
           deliveries = omega (arith, d, l, s);
           handed = r.handed;
-        }) (omega (arith, enough)) in
-        (rest.0,
-        turn_on turns c (x, y) (next_single x y (m hops n) c r.holds) (omega (arith, d, l, e)) ∙ ap (settled_in turns) move.step ∙ rest.1,
-        is_denied cause rest.2, λ k goes. not_refused n inner cause is k goes)
+        }) (omega (arith, enough)) in (
+          rest.0,
+          turn_on turns c (x, y) (next_single x y (m hops n) c r.holds) (omega (arith, d, l, e)) ∙ ap (settled_in turns) move.step ∙ rest.1,
+          is_denied cause rest.2,
+          λ k goes. not_refused n inner cause is k goes,
+        )
     by_way zero later r inner (Onward to next params) is counts = absurd (let z : true ≡ false = counts.0 in cc)
     by_way (suc n) later r inner (Onward to next params) is counts =
         let x : ℕ = back_point from hops in
@@ -410,7 +420,8 @@ request_turn allowed n turns c from entry y hops called later r enough =
         let more : 1 ≤ n = (let z = leb-false (suc n) 1 counts.0 in omega (arith, z)) in
         let move = moved c x y (m hops (suc n)) to (messages.Cr h.far 2 next (hops_param n)) _ r.holds inner
         (ap (λ w. coupled list (event_with x (m hops (suc n)) w)) is
-        ∙ request_onward list x (back_ref hops) 2 to called next (hops_param (suc n)) params none (lt-leb 4095 (length list) (omega (arith, few, l)))
+        ∙ request_onward list x (back_ref hops) 2 to called next (hops_param (suc n)) params none
+        (lt-leb 4095 (length list) (omega (arith, few, l)))
         ∙ ap (λ ps. couple list (first_new list) (second_new list) x (back_ref hops) to (λ far. messages.Cr far 2 next ps))
         (counts.1 ∙ ap hops_param less)) in
         let then : Course = after_delivery x y c in
@@ -426,10 +437,13 @@ request_turn allowed n turns c from entry y hops called later r enough =
           offers = e;
           deliveries = omega (arith, d);
           handed = r.handed;
-        }) (omega (arith, enough)) in
-        (rest.0,
-        turn_on turns c (x, y) (next_single x y (m hops (suc n)) c r.holds) (omega (arith, d, l, e)) ∙ ap (settled_in turns) move.step ∙ rest.1,
-        rest.2, λ k goes. further n inner to next params is less rest.2 rest.3 k goes)
+        }) (omega (arith, enough)) in (
+          rest.0,
+          turn_on turns c (x, y) (next_single x y (m hops (suc n)) c r.holds) (omega (arith, d, l, e)) ∙ ap (settled_in turns) move.step
+              ∙ rest.1,
+          rest.2,
+          λ k goes. further n inner to next params is less rest.2 rest.3 k goes,
+        )
 
     at_node : (k : ℕ) → is_node (network_at c) y ≡ true → Leads allowed (suc turns) c from entry y hops called n
     at_node k inner = by_way n later r inner ((network_at c).way y (back_point from hops) (m hops n)) refl
@@ -445,4 +459,5 @@ request allowed (suc n) (suc turns) c from entry y hops called r enough =
     (λ k e c y hops called r enough.
     let same : n ≡ k = omega (arith, e) in
     subst (λ (j : ℕ). Leads allowed turns c from entry y hops called j) same
-    (request allowed n turns c from entry y hops called (subst (λ (j : ℕ). Calling c from entry y hops called j) (sym same) r) enough)) r enough
+    (request allowed n turns c from entry y hops called (subst (λ (j : ℕ). Calling c from entry y hops called j)
+    (sym same) r) enough)) r enough

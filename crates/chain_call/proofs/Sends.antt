@@ -1,16 +1,12 @@
 -- An end sends octets over open relays, and they come out at the other end.
-use Rattle.std.specs.Prelude.{ℕ, ◌≡◌, ◌==◌, ◌⊎◌, ◌<◌, ◌≤◌, ◌+◌, ◌*◌, Bool, true, false, cond, not, ◌&&◌, List, [], ◌∷◌, ◌++◌, length, map, Option, Some, None, refl}
-use Rattle.std.specs.Prelude.{option_and_then}
-use Rattle.std.proofs.Common.{zero, suc, sym, ◌∙◌, ap, subst, ⊎_elim, inl, inr, arith, append_assoc, append-nil}
-use Rattle.std.proofs.lemmas.Bool.{cases_eq, cases_Bool, eqb-true, eq-eqb, ne_eqb, and_parts}
+use Rattle.std.specs.Prelude.{ℕ, ◌≡◌, ◌==◌, ◌<◌, ◌≤◌, ◌+◌, ◌*◌, Bool, true, false, cond, ◌&&◌, List, [], ◌∷◌, ◌++◌, length, Some, None}
+use Rattle.std.specs.Prelude.{refl}
+use Rattle.std.proofs.Common.{sym, ◌∙◌, ap, subst, inl, arith, append_assoc, append-nil}
+use Rattle.std.proofs.lemmas.Bool.{eqb-true, eq-eqb, and_parts}
 use Rattle.sccp_message.specs.declared.message.Message.{Message}
 use Rattle.sccp_message.specs.declared.message.Message.TheVariants as messages
 use Rattle.sccp_message.specs.Written.{IsMessage}
-use Rattle.sccp_couple.specs.declared.section.Section.{Section}
-use Rattle.sccp_couple.specs.declared.way.Way.{Way}
-use Rattle.sccp_couple.specs.Sections.{section_at, known, if_from, is_established, has_remote, other_of}
 use Rattle.sccp_couple.specs.Events.{Piece}
-use Rattle.sccp_couple.specs.Coupling.{coupled, only_sends, to_one, on_data, toward}
 use Rattle.couple_chain.specs.Line.{pieces_for}
 use Rattle.couple_chain.specs.World.{Network, World, is_node, put, offer_fault}
 use Rattle.chain_world.specs.Kept.{network_of}
@@ -18,12 +14,11 @@ use Rattle.chain_call.specs.Course.{Course, world_at}
 use Rattle.chain_call.specs.Notes.{data_at}
 use Rattle.chain_call.specs.Steps.{offered, has_more, sent_by, settled_in}
 use Rattle.chain_call.proofs.Tokens.{sections_at, Empty}
-use Rattle.chain_call.proofs.Hops.{Hop, Sections, front_point, front_ref, near_section, far_section, Apart, IsApart}
-use Rattle.chain_call.proofs.HopSteps.{event_with, OpenAt, Opens}
-use Rattle.chain_call.proofs.Flows.{Stop, next_point, next_ref, NoStop, NoKey, StopAt, Carries, queue, under, each, weight, OnWay, AllOnWay, Every}
+use Rattle.chain_call.proofs.Hops.{Sections}
+use Rattle.chain_call.proofs.Flows.{Stop, NoStop, NoKey, Carries, queue, under, each, weight, OnWay, AllOnWay, Every}
 use Rattle.chain_call.proofs.Flows.{every_append, pieces_append, pieces_here, pieces_there, under_grown, differ_by}
 use Rattle.chain_call.proofs.Courses.{network_at, after_offer, offer_is, world_offered, no_fault}
-use Rattle.chain_call.proofs.DataCourses.{payloads, flat_append, Flowing, Through, carries_same, flow}
+use Rattle.chain_call.proofs.DataCourses.{payloads, flat_append, Flowing, carries_same, flow}
 use Rattle.chain_call.proofs.Requests.{S}
 
 -- ---- one octet is offered
@@ -32,10 +27,6 @@ data_message : (d : ℕ) (more : Bool) (payload : List ℕ) → IsMessage (messa
 data_message d more payload = record { addresses = tt; named = tt; sevens_fit = tt }
 
 -- a link with one more message
-put_waiting : (w : World) (from to : ℕ) (m : Message) (x y : ℕ)
-    → (put w from to m).waiting x y ≡ cond ((x == from) && (y == to)) (w.waiting from to ++ m ∷ []) (w.waiting x y)
-put_waiting w from to m x y = refl
-
 put_here : (w : World) (from to d : ℕ) (more : Bool) (payload : List ℕ)
     → queue (put w from to (messages.Dt1 d more payload)) from to d ≡ queue w from to d ++ record { more = more; payload = payload } ∷ []
 put_here w from to d more payload =
@@ -71,9 +62,10 @@ pub record Sends (c : Course) (point end last : ℕ) (s : Stop) (stops : List St
 no_stop : (network : Network) (T : Sections) (point end last here : ℕ) (stops : List Stop) → is_node network here ≡ false
     → Carries network T point end last stops → NoStop here 0 stops
 no_stop network T point end last here [] outer h = tt
-no_stop network T point end last here (s ∷ stops) outer h =
-    ((λ e f. let z : false ≡ true = sym outer ∙ ap (is_node network) (sym e) ∙ h.0.inner in absurd (cc)),
-    no_stop network T s.node end last here stops outer h.1)
+no_stop network T point end last here (s ∷ stops) outer h = (
+  (λ e f. let z : false ≡ true = sym outer ∙ ap (is_node network) (sym e) ∙ h.0.inner in absurd (cc)),
+  no_stop network T s.node end last here stops outer h.1,
+)
 
 -- a number for each octet
 abbrev pub each_of : ℕ → List ℕ → ℕ
@@ -103,29 +95,36 @@ offer_one c point end last s stops more octet sends =
     no_fault network w point s.node m sends.sender f.carries.0.inner refl refl refl in
     let e : world_at (after_offer point s.node m c) ≡ put w point s.node m = world_offered point s.node m c none in
     let differ = differ_by network (S c) end last point (s ∷ stops) f.outer f.carries in
-    let free : NoKey point 0 end last (s ∷ stops) =
-    (no_stop network (S c) point end last point (s ∷ stops) sends.sender f.carries, λ g h. let z = sends.last_is in absurd (omega (arith, h, z))) in
+    let free : NoKey point 0 end last (s ∷ stops) = (
+      no_stop network (S c) point end last point (s ∷ stops) sends.sender f.carries,
+      λ g h. let z = sends.last_is in absurd
+          (omega (arith, h, z)),
+    ) in
     let keep : (x y d : ℕ) → (y ≡ point → d ≡ 0 → ⊥) → (y ≡ s.node → d ≡ s.ref → ⊥) → queue (put w point s.node m) x y d ≡ queue w x y d =
     λ x y d g h. put_there w point s.node s.ref more (octet ∷ []) x y d h in
-    let r = under_grown w (put w point s.node m) end last point 0 point (record { more = more; payload = octet ∷ [] }) (s ∷ stops) keep free differ
-    (put_here w point s.node s.ref more (octet ∷ [])) in
-    (offer_is point s.node m c (data_message s.ref more (octet ∷ [])) none,
-    record {
-      plan_is = refl;
-      all = λ x y. subst (Every (OnWay point end last (s ∷ stops) x y)) (sym (ap (λ (v : World). v.waiting x y) e)) (on x y);
-      same = λ p. ap (λ v. sections_at v p) e;
-      more = ap (λ (v : World). payloads (under v point end last (s ∷ stops))) e ∙ ap payloads r.0
-          ∙ flat_append (λ p. p.payload) (under w point end last (s ∷ stops)) (record { more = more; payload = octet ∷ [] } ∷ []);
-      weighs = ap (λ (v : World). weight v point end last (s ∷ stops)) e ∙ r.1 ∙ ap (λ (n : ℕ). weight w point end last (s ∷ stops) + n) (one_each (length stops + 2));
-      handed = refl;
-      offers = refl;
-      deliveries = refl;
-    })
+    let r = under_grown w (put w point s.node m) end last point 0 point (record { more = more; payload = octet ∷ [] })
+    (s ∷ stops) keep free differ
+    (put_here w point s.node s.ref more (octet ∷ [])) in (
+      offer_is point s.node m c (data_message s.ref more (octet ∷ [])) none,
+      record {
+        plan_is = refl;
+        all = λ x y. subst (Every (OnWay point end last (s ∷ stops) x y)) (sym (ap (λ (v : World). v.waiting x y) e)) (on x y);
+        same = λ p. ap (λ v. sections_at v p) e;
+        more = ap (λ (v : World). payloads (under v point end last (s ∷ stops))) e ∙ ap payloads r.0
+            ∙ flat_append (λ p. p.payload) (under w point end last (s ∷ stops)) (record { more = more; payload = octet ∷ [] } ∷ []);
+        weighs = ap (λ (v : World). weight v point end last (s ∷ stops)) e ∙ r.1
+            ∙ ap (λ (n : ℕ). weight w point end last (s ∷ stops) + n) (one_each (length stops + 2));
+        handed = refl;
+        offers = refl;
+        deliveries = refl;
+      },
+    )
   where
     one_each : (n : ℕ) → length (s ∷ stops) + 1 ≡ each_of (length (s ∷ stops) + 1) (octet ∷ [])
     one_each n = omega arith
 
-    on : (x y : ℕ) → Every (OnWay point end last (s ∷ stops) x y) ((put (world_at c) point s.node (messages.Dt1 s.ref more (octet ∷ []))).waiting x y)
+    on : (x y : ℕ) → Every (OnWay point end last (s ∷ stops) x y)
+        ((put (world_at c) point s.node (messages.Dt1 s.ref more (octet ∷ []))).waiting x y)
     on x y =
         let w : World = world_at c in
         let m : Message = messages.Dt1 s.ref more (octet ∷ []) in
@@ -147,7 +146,8 @@ offer_one c point end last s stops more octet sends =
 sends_still : (c after : Course) (point end last : ℕ) (s : Stop) (stops : List Stop) (octets : List ℕ) → Sends c point end last s stops
     → Grew c after point end last (s ∷ stops) octets → Sends after point end last s stops
 sends_still c after point end last s stops octets sends grew =
-    let network : (p : ℕ) → is_node (network_at after) p ≡ is_node (network_at c) p = λ p. ap (λ k. is_node (network_of k) p) grew.plan_is in
+    let network : (p : ℕ) → is_node (network_at after) p ≡ is_node (network_at c) p =
+    λ p. ap (λ k. is_node (network_of k) p) grew.plan_is in
     record {
       sender = network point ∙ sends.sender;
       last_is = sends.last_is;
@@ -195,10 +195,11 @@ empty_under : (w : World) (point end last : ℕ) (stops : List Stop) → Empty w
 empty_under w point end last [] h = let e = ap (pieces_for (Some last)) (h point end) in (ap payloads e, ap (each 1) e)
 empty_under w point end last (s ∷ stops) h =
     let e = ap (pieces_for (Some s.ref)) (h point s.node) in
-    let r = empty_under w s.node end last stops h in
-    (flat_append (λ p. p.payload) (under w s.node end last stops) (queue w point s.node s.ref)
-    ∙ ap (λ (l : List ℕ). l ++ payloads (queue w point s.node s.ref)) r.0 ∙ ap payloads e,
-    (let a = r.1 in let b = ap (each (length stops + 2)) e in omega (arith, a, b)))
+    let r = empty_under w s.node end last stops h in (
+      flat_append (λ p. p.payload) (under w s.node end last stops) (queue w point s.node s.ref)
+          ∙ ap (λ (l : List ℕ). l ++ payloads (queue w point s.node s.ref)) r.0 ∙ ap payloads e,
+      (let a = r.1 in let b = ap (each (length stops + 2)) e in omega (arith, a, b)),
+    )
 
 each_few : (n : ℕ) (octets : List ℕ) → n ≤ 16 → each_of n octets ≤ 16 * length octets
 each_few n [] h = omega arith
@@ -238,14 +239,17 @@ carry turns octets c point end last s stops empty sender last_is outer carries f
     let offers = g.offers in
     let deliveries = g.deliveries in
     let r = flow turns then point end last (s ∷ stops) still.flowing (omega (arith, weighs, zero_before, bound, enough))
-    (omega (arith, weighs, zero_before, bound, offers, deliveries, spent)) in
-    (r.0, r.1, record {
-      plan_is = r.2.plan_is ∙ g.plan_is;
-      empty = r.2.empty;
-      same = λ p. r.2.same p ∙ g.same p;
-      come = r.2.come ∙ ap (λ (l : List ℕ). data_at end last then.handed ++ l) (g.more ∙ ap (λ (l : List ℕ). l ++ octets) nothing.0)
-          ∙ ap (λ l. data_at end last l ++ octets) g.handed;
-      others = λ q k n. r.2.others q k n ∙ ap (data_at q k) g.handed;
-      offers = r.2.offers ∙ g.offers;
-      deliveries = (let a = r.3 in let b = r.2.offers in omega (arith, a, b, weighs, zero_before, bound, offers, deliveries, spent));
-    })
+    (omega (arith, weighs, zero_before, bound, offers, deliveries, spent)) in (
+      r.0,
+      r.1,
+      record {
+        plan_is = r.2.plan_is ∙ g.plan_is;
+        empty = r.2.empty;
+        same = λ p. r.2.same p ∙ g.same p;
+        come = r.2.come ∙ ap (λ (l : List ℕ). data_at end last then.handed ++ l) (g.more ∙ ap (λ (l : List ℕ). l ++ octets) nothing.0)
+            ∙ ap (λ l. data_at end last l ++ octets) g.handed;
+        others = λ q k n. r.2.others q k n ∙ ap (data_at q k) g.handed;
+        offers = r.2.offers ∙ g.offers;
+        deliveries = (let a = r.3 in let b = r.2.offers in omega (arith, a, b, weighs, zero_before, bound, offers, deliveries, spent));
+      },
+    )

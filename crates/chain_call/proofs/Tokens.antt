@@ -1,14 +1,14 @@
 -- A world in which one link holds one message, and what its delivery does.
-use Rattle.std.specs.Prelude.{ℕ, ◌≡◌, ◌==◌, Bool, true, false, cond, ◌&&◌, List, [], ◌∷◌, ◌++◌, Option, Some, None, refl}
-use Rattle.std.proofs.Common.{sym, ◌∙◌, ap, subst, ⊎_elim}
-use Rattle.std.proofs.lemmas.Bool.{cases_eq, eqb-true, eq-eqb, ne_eqb}
+use Rattle.std.specs.Prelude.{ℕ, ◌≡◌, ◌==◌, Bool, true, false, cond, ◌&&◌, List, [], ◌∷◌, ◌++◌, refl}
+use Rattle.std.proofs.Common.{sym, ◌∙◌, ap, ⊎_elim}
+use Rattle.std.proofs.lemmas.Bool.{cases_eq, eq-eqb, ne_eqb}
 use Rattle.sccp_message.specs.declared.message.Message.{Message}
 use Rattle.sccp_couple.specs.declared.section.Section.{Section}
 use Rattle.sccp_couple.specs.Events.{Event, Answer}
 use Rattle.sccp_couple.specs.Coupling.{coupled, to_one}
-use Rattle.couple_chain.specs.World.{Network, World, is_node, put_on, messages_to, event_at, handled, left, delivered_of, delivered}
+use Rattle.couple_chain.specs.World.{Network, World, is_node, messages_to, event_at, handled, left, delivered_of, delivered}
 use Rattle.couple_chain.proofs.Sending.{to_point}
-use Rattle.couple_chain.proofs.Worlds.{put_left, put_there, moment_here, moment_there}
+use Rattle.couple_chain.proofs.Worlds.{moment_here, moment_there}
 
 -- the sections of a relay
 abbrev pub sections_at : World → ℕ → List Section
@@ -66,13 +66,6 @@ moves u y z n event empty sent a b =
     ∙ ap (λ (xs : List Message). cond (a == y) xs []) (to_point z b n)
     ∙ ap (λ (c : Bool). cond (a == y) (cond c (n ∷ []) []) []) (eq_sym z b)
     ∙ elim (a == y) as (λ c. cond c (cond (b == z) (n ∷ []) []) [] ≡ cond (c && (b == z)) (n ∷ []) []) [ true ↦ refl | false ↦ refl ]
-
--- without an answer they stay empty
-pub rests : (u : World) (y : ℕ) (event : Event) → Empty u → (coupled (sections_at u y) event).sent ≡ [] → Empty (handled u y event)
-rests u y event empty sent a b =
-    ap (λ (xs : List Message). cond (a == y) (xs ++ messages_to b (coupled (sections_at u y) event).sent) xs) (empty a b)
-    ∙ ap (λ (s : List Answer). cond (a == y) (messages_to b s) []) sent
-    ∙ elim (a == y) as (λ c. cond {A = List Message} c [] [] ≡ []) [ true ↦ refl | false ↦ refl ]
 
 -- the sections afterwards
 pub sections_here : (u : World) (y : ℕ) (event : Event) → sections_at (handled u y event) y ≡ (coupled (sections_at u y) event).sections

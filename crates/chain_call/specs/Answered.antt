@@ -29,7 +29,10 @@ IsAnswered octets (Opened names far through) = through ≡ Some (record { forth 
 -- the title that is called, at the relay that the request is sent to
 abbrev pub spot_called : Network → Call → Spot
 spot_called plan call = record {
-  node = node_of plan.nodes call.entry; selector = call.selector; ssn = unwrap_or call.ssn 0; digits = call.digits;
+  node = node_of plan.nodes call.entry;
+  selector = call.selector;
+  ssn = unwrap_or call.ssn 0;
+  digits = call.digits;
 }
 
 -- no place that the plan allows for the title is at a relay
