@@ -208,3 +208,39 @@ pub next_by : (network : Network) (history : List Happening) (o : Option (ℕ ×
     → o ≡ next_link network (after network history) history
 next_by network history None some none = sym (next_none network history none)
 next_by network history (Some p) some none = sym (next_is network history p some)
+
+-- ---- what is said of the link that is named
+
+none_in : (w : World) (links : List (ℕ × ℕ)) (p : ℕ × ℕ) → least_in w links ≡ None → list_any (is_pair p.0 p.1) links ≡ true
+    → holds w p ≡ true → ⊥
+none_in w [] p none h held = false_not_true h
+none_in w (l ∷ links) p none h held =
+    elim (holds w l) as (λ c. holds w l ≡ c → cond c (Some (lesser (least_in w links) l.0 l.1)) (least_in w links) ≡ None → ⊥) [
+      | true ↦ λ here e. let z : Some (lesser (least_in w links) l.0 l.1) ≡ None = e in cc
+      | false ↦ λ here e.
+          elim (is_pair p.0 p.1 l) as (λ c. is_pair p.0 p.1 l ≡ c → (c || list_any (is_pair p.0 p.1) links) ≡ true → ⊥) [
+            | true ↦ λ f k. false_not_true (sym here ∙ ap (holds w) (pair_is p l f) ∙ held)
+            | false ↦ λ f k. none_in w links p e k held
+          ] refl h
+    ] refl none
+
+held_parts : (ms : List Message) → is_some_message ms ≡ true → (m : Message) × (rest : List Message) × (ms ≡ m ∷ rest)
+held_parts [] h = absurd (false_not_true h)
+held_parts (m ∷ rest) h = (m, rest, refl)
+
+none_held : (ms : List Message) → (is_some_message ms ≡ true → ⊥) → ms ≡ []
+none_held [] h = refl
+none_held (m ∷ ms) h = absurd (h refl)
+
+-- it holds a message
+pub next_holds : (network : Network) (history : List Happening) (p : ℕ × ℕ) → next_link network (after network history) history ≡ Some p
+    → (m : Message) × (rest : List Message) × ((after network history).waiting p.0 p.1 ≡ m ∷ rest)
+next_holds network history p e =
+    held_parts ((after network history).waiting p.0 p.1) (least_holds (after network history) (links_from network start history) p e)
+
+-- if none is named, no link holds one
+pub none_waits : (network : Network) (history : List Happening) → next_link network (after network history) history ≡ None
+    → IsSettled (after network history)
+none_waits network history e a b =
+    none_held ((after network history).waiting a b) (λ held. none_in (after network history) (links_from network start history) (a, b) e
+    (among network history (a, b) held) held)

@@ -3,3 +3,4 @@ pub mod Notes
 pub mod Course
 pub mod Links
 pub mod Steps
+pub mod Answered
