@@ -19,6 +19,7 @@ use Rattle.plan_order.specs.declared.found.Found.TheVariants.{Steps, Nowhere, Ga
 use Rattle.plan_order.specs.Sets.{is_in, SameSet, Differs}
 use Rattle.plan_order.specs.Steps.{during, IsSafeFor, IsSafeStep, IsReached, IsStep}
 use Rattle.plan_order.specs.Orders.{IsDeadEnd}
+use Rattle.plan_order.specs.Refusing.{Refuses}
 use Rattle.plan_order.specs.Searching.{IsSplit, outcome_of, IsOutcome, IsNextStep, IsClosed, IsKnown, IsWayOn, IsFoundIf}
 use Rattle.plan_order.specs.Searching.{without}
 use Rattle.plan_order.proofs.Members.{in-left, in-right, in-All, All-in, in-among}
@@ -49,19 +50,21 @@ outcome_lawful old new done step (Broken i j spot turns hops kind) bad =
 outcome_lawful old new done step TooWide wide = wide
 
 -- what is known after a step that was too wide
-pub known_wide : (old new : Network) (before after : Known) → after.dead ≡ before.dead → after.wide ≡ true
+pub known_wide : (old new : Network) (before after : Known) → after.dead ≡ before.dead
+    → after.refusals ≡ before.refusals → after.wide ≡ true
     → MixedReachAtLeast old new old.limits.classes → IsKnown old new before → IsKnown old new after
-known_wide old new before after same wide classes known = record {
+known_wide old new before after same kept wide classes known = record {
   classes = λ h. classes;
   apart = subst (AllPairs (λ (a : List ℕ) (b : List ℕ). SameSet a b → ⊥)) (sym same) known.apart;
   ends = λ h. absurd (true≢false (sym wide ∙ h));
+  refused = subst (All (Refuses old new)) (sym kept) known.refused;
 }
 
 -- and after one more dead end
 pub known_more : (old new : Network) (before after : Known) (done : List ℕ) → after.dead ≡ before.dead ++ done ∷ []
-    → after.wide ≡ before.wide → (Any (λ set. SameSet set done) before.dead → ⊥) → All (Differs old new) done
+    → after.refusals ≡ before.refusals → after.wide ≡ before.wide → (Any (λ set. SameSet set done) before.dead → ⊥) → All (Differs old new) done
     → (before.wide ≡ false → IsDeadEnd old new done) → IsKnown old new before → IsKnown old new after
-known_more old new before after done same wide fresh differ dead known = record {
+known_more old new before after done same kept wide fresh differ dead known = record {
   classes = λ h. known.classes (sym wide ∙ h);
   apart = subst (AllPairs (λ (a : List ℕ) (b : List ℕ). SameSet a b → ⊥)) (sym same)
       (pairs_append (λ (a : List ℕ) (b : List ℕ). SameSet a b → ⊥) before.dead (done ∷ []) known.apart
@@ -73,6 +76,7 @@ known_more old new before after done same wide fresh differ dead known = record 
       (known.ends (sym wide ∙ h))
       (All-cons (λ (set : List ℕ). All (Differs old new) set × IsDeadEnd old new set) done [] (differ, dead (sym wide ∙ h))
       (All-nil (λ (set : List ℕ). All (Differs old new) set × IsDeadEnd old new set))));
+  refused = subst (All (Refuses old new)) (sym kept) known.refused;
 }
   where
     at : ℕ → List ℕ → List ℕ

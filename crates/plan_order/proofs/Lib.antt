@@ -10,5 +10,6 @@ pub mod Mirrors
 pub mod Pushed
 pub mod Turning
 pub mod Findings
+pub mod Fitting
 pub mod Refusals
 pub mod Firsts

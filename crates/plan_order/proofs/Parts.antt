@@ -28,7 +28,7 @@ may_past count done step n past =
     get_or_past (during count done step) n Either
     (subst (λ (k : ℕ). k ≤ n) (sym (length-map-range_with_len (holding done step) 0 count)) past)
 
-abbrev held_by : Bool → Bool → Holding
+abbrev pub held_by : Bool → Bool → Holding
 held_by done step = if done then New else (if step then Either else Old)
 
 weaker : (d s d' s' : Bool) (w : Which) → (d ≡ true → d' ≡ true) → (d ≡ false → s ≡ false → (d' ≡ false) × (s' ≡ false))

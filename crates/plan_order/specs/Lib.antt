@@ -2,4 +2,5 @@
 pub mod Sets
 pub mod Steps
 pub mod Orders
+pub mod Refusing
 pub mod Searching

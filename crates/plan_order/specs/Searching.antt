@@ -15,6 +15,7 @@ use Rattle.plan_order.specs.declared.found.Found.TheVariants.{Steps, Nowhere, Ga
 use Rattle.plan_order.specs.Sets.{is_in, SameSet, Differs}
 use Rattle.plan_order.specs.Steps.{during, IsSafeFor, IsSafeStep, IsReached, IsStep, AreSteps, sets_of}
 use Rattle.plan_order.specs.Orders.{GoesOn, IsDeadEnd, IsRefusal}
+use Rattle.plan_order.specs.Refusing.{Refuses}
 
 -- a relay that is not of the set
 abbrev pub is_out : List ℕ → ℕ → Bool
@@ -77,11 +78,12 @@ IsFirst old new done left known None = known.wide ≡ false → All (λ node. Is
 abbrev pub IsClosed : Network → Network → List ℕ → ℕ → Type 0
 IsClosed old new done node = (IsSafeStep old new done (node ∷ []) → ⊥) ⊎ IsDeadEnd old new (done ++ node ∷ [])
 
--- What a search has met: dead ends, and whether some step was too wide. After such a step nothing is said of dead ends.
+-- What a search has met: dead ends, refusals, and whether some step was too wide. After such a step nothing is said of dead ends.
 pub record IsKnown (old new : Network) (known : Known) : Type 0 where
   pub classes : known.wide ≡ true → MixedReachAtLeast old new old.limits.classes
   pub apart : AllPairs (λ a b. SameSet a b → ⊥) known.dead
   pub ends : known.wide ≡ false → All (λ set. All (Differs old new) set × IsDeadEnd old new set) known.dead
+  pub refused : All (Refuses old new) known.refusals
 
 -- sets of some relays of these, one after the other, without repeats
 abbrev pub AreAmong : List ℕ → List (List ℕ) → Type 0

@@ -9,11 +9,13 @@
 mod answer;
 mod found;
 mod growing;
+mod held;
 mod known;
 mod laws;
 mod ordering;
 mod outcome;
 mod plans;
+mod refusing;
 mod rows;
 mod safe_step;
 mod seeking;

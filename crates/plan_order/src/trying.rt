@@ -10,6 +10,7 @@ use crate::outcome::{Outcome, outcome_of};
 use crate::plans::Plans;
 use crate::rows::count_of;
 use crate::sets::is_in;
+use crate::refusing::{is_refused, keep};
 use plan_change::{Change, mixture};
 use plan_mixed::Holding;
 use sccp_base::{List, OutOfMemory};
@@ -55,23 +56,50 @@ pub(crate) fn walk(
     change
 }
 
-/// What a step comes to.
+/// Keeps the bad route of a step as a refusal, if the step has one.
+fn keep_route(
+    alloc: Global,
+    plans: &Plans<'_>,
+    done: &[u8],
+    step: &[u8],
+    change: &Change,
+    known: &mut Known,
+) -> Result<(), OutOfMemory>
+    requires known { IsKnown plans.now.old.now plans.now.new.now known.old }
+    requires lawful { IsLawfulUnder (during (length plans.now.old.now.nodes) done.now step.now) plans.now.old.now plans.now.new.now change.now }
+    ensures known { OnOk result (IsKnown plans.now.old.now plans.now.new.now known.new) }
+    ensures wide { OnOk result (known.new.wide ≡ known.old.wide) }
+{
+    match change {
+        Change::Broken { hops, .. } => keep(alloc, plans, hops.as_slice(), known),
+        Change::Kept { .. } => Ok(()),
+        Change::TooWide => Ok(()),
+    }
+}
+
+/// What a step comes to. If it is refused, its bad route is kept.
 fn outcome(
     alloc: Global,
     plans: &Plans<'_>,
     done: &[u8],
     step: &[u8],
+    known: &mut Known,
 ) -> Result<Outcome, OutOfMemory>
     requires same { SameNodes plans.now.old.now plans.now.new.now }
-    ensures { IfOk result (IsOutcome plans.now.old.now plans.now.new.now done.now step.now) }
+    requires known { IsKnown plans.now.old.now plans.now.new.now known.old }
+    ensures known { OnOk result (IsKnown plans.now.old.now plans.now.new.now known.new) }
+    ensures wide { OnOk result (known.new.wide ≡ known.old.wide) }
+    ensures outcome { IfOk result (IsOutcome plans.now.old.now plans.now.new.now done.now step.now) }
 {
     let change = walk(alloc, plans, done, step)?;
     let told = outcome_of(&change);
+    let kept = keep_route(alloc, plans, done, step, &change, known);
     drop(change);
+    kept?;
     Ok(told)
 }
 
-/// The bound of a step, if it is safe. A step that is too wide is noted.
+/// The bound of a step, if it is safe. A step that is known to be refused is not walked. One that is too wide is noted.
 pub(crate) fn bound_of(
     alloc: Global,
     plans: &Plans<'_>,
@@ -85,7 +113,10 @@ pub(crate) fn bound_of(
     ensures narrow { OnOk result (known.new.wide ≡ false → known.old.wide ≡ false) }
     ensures bound { IfOk result (IsBoundOf plans.now.old.now plans.now.new.now done.now step.now known.new) }
 {
-    match outcome(alloc, plans, done, step)? {
+    if is_refused(known.refusals.as_slice(), done, step) {
+        return Ok(None);
+    }
+    match outcome(alloc, plans, done, step, known)? {
         Outcome::Safe(bound) => Ok(Some(bound)),
         Outcome::Refused => Ok(None),
         Outcome::Wide => {
