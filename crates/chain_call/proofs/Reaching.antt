@@ -56,7 +56,7 @@ among_points (x ∷ xs) (suc i) node h =
     ap (λ (b : Bool). (x.pc == node.pc) || b) (among_points xs i node h)
     ∙ elim (x.pc == node.pc) as (λ b. (b || true) ≡ true) [ true ↦ refl | false ↦ refl ]
 
-inner_at : (plan : plans.Network) (place : ℕ) (node : Node) → slice_get plan.nodes place ≡ Some node
+pub inner_at : (plan : plans.Network) (place : ℕ) (node : Node) → slice_get plan.nodes place ≡ Some node
     → is_node (network_of plan) (point_of plan place) ≡ true
 inner_at plan place node at =
     ap (λ o. is_node (network_of plan) (option_map_or (λ (n : Node). n.pc) o 0)) at ∙ among_points plan.nodes place node at
