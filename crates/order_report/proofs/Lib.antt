@@ -1,0 +1,3 @@
+-- The lemmas of this crate, one file a subject.
+pub mod RetoldLemmas
+pub mod InOrder

@@ -1,0 +1,3 @@
+-- The definitions of this crate, one file a subject.
+pub mod Orders
+pub mod Retold
