@@ -9,6 +9,7 @@ mod ImportLemmas
 mod LeavingLemmas
 mod LoadLemmas
 mod MarginLemmas
+mod OrderLemmas
 mod ReplayLemmas
 mod RouteLemmas
 mod RunLemmas
@@ -16,5 +17,6 @@ mod SegmentLemmas
 mod SendOnLemmas
 mod ShowHexLemmas
 mod ShowLemmas
+mod TwoPlansLemmas
 mod UnusedLemmas
 mod VerifyLemmas

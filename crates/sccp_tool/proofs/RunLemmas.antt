@@ -7,7 +7,7 @@ use Rattle.sccp_work.specs.Moment.{Moment}
 use Rattle.sccp_tool.specs.Run.{work_of, Cause, SureCause, TellsAnswer, TellsJourneys, HasNamedFiles, UsageCause, ExactlyWhere, ComesWhere}
 use Rattle.sccp_tool.specs.Run.{RefusedWhere}
 use Rattle.sccp_tool.specs.Task.{Task, ShowHex, Show, Verify, Route, Replay, Load, Cuts, Import, Change, Connect, SendOn, Covers, Unused}
-use Rattle.sccp_tool.specs.Task.{Margin, Capture}
+use Rattle.sccp_tool.specs.Task.{Margin, Capture, Order}
 use Rattle.sccp_work.specs.Verdict.{IsOnVerdict}
 use Rattle.sccp_work.specs.Work.{Work, Ends, HasFiles}
 use Rattle.sccp_work.specs.declared.status.Status.{Status}
@@ -22,6 +22,7 @@ use Rattle.sccp_tool.proofs.ConnectLemmas.{connect_causes}
 use Rattle.sccp_tool.proofs.CoversLemmas.{covers_causes}
 use Rattle.sccp_tool.proofs.LoadLemmas.{load_causes}
 use Rattle.sccp_tool.proofs.MarginLemmas.{margin_causes}
+use Rattle.sccp_tool.proofs.OrderLemmas.{order_causes}
 use Rattle.sccp_tool.proofs.ReplayLemmas.{replay_causes}
 use Rattle.sccp_tool.proofs.RouteLemmas.{route_causes}
 use Rattle.sccp_tool.proofs.SendOnLemmas.{send_on_causes}
@@ -64,6 +65,7 @@ causes (Some (Covers file)) = covers_causes file
 causes (Some (Unused file)) = unused_causes file
 causes (Some (Margin file losses)) = margin_causes file losses
 causes (Some (Capture plan file)) = capture_causes plan file
+causes (Some (Order old new)) = order_causes old new
 
 if_some : {C : Type 0} (o : Option C) (P : C → Type 0) → ((c : C) → o ≡ Some c → P c) → IfSome o P
 if_some None P f = tt

@@ -14,6 +14,7 @@ use Rattle.sccp_tool.specs.Change.{change_words}
 use Rattle.sccp_tool.specs.Connect.{connect_words}
 use Rattle.sccp_tool.specs.Load.{load_words}
 use Rattle.sccp_tool.specs.Margin.{margin_words}
+use Rattle.sccp_tool.specs.Order.{order_words}
 use Rattle.sccp_tool.specs.Route.{route_words}
 use Rattle.sccp_tool.specs.SendOn.{send_on_words}
 use Rattle.sccp_tool.specs.Show.{show_words}
@@ -40,6 +41,7 @@ plan_command_of limits name words =
     else if bytes_eq name (codes "unused") then unused_words limits words
     else if bytes_eq name (codes "margin") then margin_words limits words
     else if bytes_eq name (codes "change") then change_words limits words
+    else if bytes_eq name (codes "order") then order_words limits words
     else if bytes_eq name (codes "route") then route_words limits words
     else further_plan_command_of limits name words
 

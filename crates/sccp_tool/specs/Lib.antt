@@ -8,6 +8,7 @@ pub mod Import
 pub mod Load
 pub mod Margin
 pub mod MarginTallies
+pub mod Order
 pub mod Parsed
 pub mod Promise
 pub mod Replay
@@ -21,5 +22,6 @@ pub mod Starts
 pub mod Tallies
 pub mod Task
 pub mod Texts
+pub mod TwoPlans
 pub mod Unused
 pub mod Verify

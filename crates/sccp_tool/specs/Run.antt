@@ -14,6 +14,7 @@ use Rattle.sccp_work.specs.Limit.{IsThere}
 use Rattle.sccp_work.specs.Plans.{TextCause}
 use Rattle.sccp_tool.specs.Load.{load_work, LoadCause, LoadTells}
 use Rattle.sccp_tool.specs.Margin.{margin_work, MarginCause, MarginSure, MarginTells}
+use Rattle.sccp_tool.specs.Order.{order_work, OrderCause, OrderSure, OrderTells}
 use Rattle.sccp_replay.specs.Replay.{replay_work}
 use Rattle.sccp_replay.specs.ReplayEnds.{ReplayCause, ReplaySure, ReplayTells, LaterPlansThere}
 use Rattle.sccp_tool.specs.Route.{route_work}
@@ -21,7 +22,7 @@ use Rattle.sccp_tool.specs.SendOn.{send_on_work, SendOnTells}
 use Rattle.sccp_tool.specs.Show.{show_work, ShowCause}
 use Rattle.sccp_tool.specs.ShowHex.{show_hex_work, ShowHexCause}
 use Rattle.sccp_tool.specs.Task.{Task, ShowHex, Show, Verify, Route, Replay, Load, Cuts, Import, Change, Connect, SendOn, Covers, Unused}
-use Rattle.sccp_tool.specs.Task.{Margin, Capture}
+use Rattle.sccp_tool.specs.Task.{Margin, Capture, Order}
 use Rattle.sccp_tool.specs.Texts.{usage}
 use Rattle.sccp_replay.specs.Trace.{lines_in}
 use Rattle.sccp_tool.specs.Unused.{unused_work, UnusedCause, UnusedSure, UnusedTells}
@@ -47,6 +48,7 @@ work_of (Some (Covers file)) = covers_work file
 work_of (Some (Unused file)) = unused_work file
 work_of (Some (Margin file losses)) = margin_work file losses
 work_of (Some (Capture plan file)) = capture_work plan file
+work_of (Some (Order old new)) = order_work old new
 
 -- words of no shape
 abbrev pub UsageCause : Status → Type 0
@@ -71,6 +73,7 @@ Cause c (Some (Covers file)) answer = CoversCause (Some c) file answer
 Cause c (Some (Unused file)) answer = UnusedCause (Some c) file answer
 Cause c (Some (Margin file losses)) answer = MarginCause (Some c) file losses answer
 Cause c (Some (Capture plan file)) answer = CaptureCause (Some c) plan file answer
+Cause c (Some (Order old new)) answer = OrderCause (Some c) old new answer
 
 -- if this holds, the answer is given, but for a fault or want of memory before it
 abbrev pub SureCause : Contents → Option Task → Status → Type 0
@@ -81,12 +84,13 @@ SureCause c (Some (Connect file calling)) answer = VerifySure (Some c) file answ
 SureCause c (Some (Covers file)) answer = CoversSure (Some c) file answer
 SureCause c (Some (Unused file)) answer = UnusedSure (Some c) file answer
 SureCause c (Some (Margin file losses)) answer = MarginSure (Some c) file losses answer
+SureCause c (Some (Order old new)) answer = OrderSure (Some c) old new answer
 SureCause c task answer = Cause c task answer
 
 -- What the sink took gives the verdict on a plan, on each of its covers by itself, or those on two plans and the answer on their
--- mixture. Or it gives what no covered title of a plan uses, or the margins of its covers. Of DATA messages it is a trace without
--- a faulty line. Of a long message that leaves a relay it is octets that carry its data in segments. Of a load it is counts that
--- add up.
+-- mixture, or on an order. Or it gives what no covered title of a plan uses, or the margins of its covers. Of DATA messages it is a
+-- trace without a faulty line. Of a long message that leaves a relay it is octets that carry its data in segments. Of a load it is
+-- counts that add up.
 abbrev pub TellsAnswer : Contents → Option Task → Status → Option (List ℕ) → Option (List ℕ) → Type 0
 TellsAnswer c (Some (Verify file)) given taken taken' = VerifyTells (Some c) file given taken taken'
 TellsAnswer c (Some (Replay plan trace workers)) given taken taken' = ReplayTells c plan given taken taken'
@@ -98,6 +102,7 @@ TellsAnswer c (Some (SendOn file incoming)) given taken taken' = SendOnTells (So
 TellsAnswer c (Some (Covers file)) given taken taken' = CoversTells (Some c) file given taken taken'
 TellsAnswer c (Some (Unused file)) given taken taken' = UnusedTells (Some c) file given taken taken'
 TellsAnswer c (Some (Margin file losses)) given taken taken' = MarginTells (Some c) file losses given taken taken'
+TellsAnswer c (Some (Order old new)) given taken taken' = OrderTells (Some c) old new given taken taken'
 TellsAnswer c task given taken taken' = Unit {0}
 
 -- What the sink took of a replay gives the bound of the first plan and, of each message that was routed, its whole journey. Of a
@@ -123,6 +128,7 @@ HasNamedFiles c (Some (Covers file)) = IsThere c file.name
 HasNamedFiles c (Some (Unused file)) = IsThere c file.name
 HasNamedFiles c (Some (Margin file losses)) = IsThere c file.name
 HasNamedFiles c (Some (Capture plan file)) = IsThere c plan.name × IsThere c file
+HasNamedFiles c (Some (Order old new)) = IsThere c old.name × IsThere c new.name
 HasNamedFiles c task = Unit {0}
 
 -- this answer is given exactly if the cause holds, but for a fault or want of memory before it

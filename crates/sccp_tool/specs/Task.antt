@@ -37,3 +37,5 @@ pub data Task : Type 0 where
   Margin : PlanFile → LossLimit → Task
   -- prints the lines of the capture of the second file, for the nodes of the plan of the first one
   Capture : PlanFile → List ℕ → Task
+  -- gives an order in which relays can be given the second of the plans of these files, the old one and the new one
+  Order : PlanFile → PlanFile → Task

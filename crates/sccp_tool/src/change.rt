@@ -1,10 +1,13 @@
 //! The command that says whether relays may hold either of two plans.
 ghost use Rattle.std.specs.Prelude.{◌≡◌, IfOk};
-ghost use Rattle.sccp_tool.specs.Change.{change_of, change_words, change_work, change_status, old_word, new_word, IsAnswered};
+ghost use Rattle.sccp_tool.specs.Change.{change_of, change_words, change_work, change_status, IsAnswered};
 ghost use Rattle.sccp_tool.specs.Commands.{texts};
 ghost use Rattle.sccp_work.specs.Ending.{Works};
 ghost use Rattle.sccp_work.specs.Moment.{moment};
+ghost use Rattle.sccp_work.specs.declared.status.Status.TheVariants.{OtherNodes};
 ghost use Rattle.sccp_tool.specs.Parsed.{task_in};
+ghost use Rattle.sccp_tool.specs.Texts.{other_nodes};
+ghost use Rattle.sccp_tool.specs.TwoPlans.{old_word, new_word};
 
 use crate::answer::Answer;
 use crate::command::Command;
@@ -18,9 +21,10 @@ use sccp_work::{PlanPath, Status, Stop, print_last, with_accepted};
 use std::alloc::Global;
 use trace_text::is_file_name;
 
-const OLD: &[u8] = b"old ";
+/// The words before what is printed of the old plan, and of the new one.
+pub const OLD: &[u8] = b"old ";
 
-const NEW: &[u8] = b"new ";
+pub const NEW: &[u8] = b"new ";
 
 const OTHER_NODES: &[u8] = b"other nodes\n";
 
@@ -51,7 +55,7 @@ fn change_of<'a>(limits: Limits, old: &'a str, new: &'a str) -> Option<Command<'
 
 /// Prints whether relays may hold either of the plans of two files. The first file that has no accepted plan gives the
 /// answer.
-#[tactic(auto, unfolding(crate::specs::Change::old_word, crate::specs::Change::new_word))]
+#[tactic(auto, unfolding(crate::specs::TwoPlans::old_word, crate::specs::TwoPlans::new_word))]
 pub fn change<F: Files, K: Sink>(
     alloc: Global,
     old: &PlanPath<'_>,
@@ -79,8 +83,19 @@ pub fn change<F: Files, K: Sink>(
     }
 }
 
-/// The answer on two accepted plans.
+/// The answer on two plans of other nodes.
 #[tactic(auto, unfolding(crate::specs::Texts::other_nodes))]
+pub fn other_nodes(alloc: Global) -> Result<Answer, OutOfMemory>
+    ensures status { IfOk result (λ answer. answer.status ≡ OtherNodes) }
+    ensures text { IfOk result (λ answer. answer.text ≡ other_nodes) }
+{
+    Ok(Answer {
+        status: Status::OtherNodes,
+        text: Octets::from_vec(Vec::from_slice(alloc, OTHER_NODES)?),
+    })
+}
+
+/// The answer on two accepted plans.
 fn answer_on(alloc: Global, old: &Accepted, new: &Accepted) -> Result<Answer, OutOfMemory>
     ensures { IfOk result (λ answer. IsAnswered old.now.plan new.now.plan answer.status answer.text) }
 {
@@ -89,10 +104,7 @@ fn answer_on(alloc: Global, old: &Accepted, new: &Accepted) -> Result<Answer, Ou
             status: status_of_change(&change),
             text: change_text(alloc, old.plan(), new.plan(), &change)?,
         }),
-        Err(ChangeFault::OtherNodes) => Ok(Answer {
-            status: Status::OtherNodes,
-            text: Octets::from_vec(Vec::from_slice(alloc, OTHER_NODES)?),
-        }),
+        Err(ChangeFault::OtherNodes) => other_nodes(alloc),
         Err(ChangeFault::OutOfMemory) => Err(OutOfMemory),
     }
 }

@@ -12,6 +12,7 @@ use crate::import::import_words;
 use crate::load::load_words;
 use crate::losses::Losses;
 use crate::margin::margin_words;
+use crate::order::order_words;
 use crate::replay::replay_words;
 use crate::route::route_words;
 use crate::send_on::{Incoming, send_on_words};
@@ -59,6 +60,8 @@ pub enum Command<'a> {
     Margin(PlanPath<'a>, Losses),
     /// To print the lines of the capture of the second file under the plan of the first one.
     Capture(PlanPath<'a>, &'a str),
+    /// To give an order in which relays can be given the second of the plans of these files, the old one and the new one.
+    Order(PlanPath<'a>, PlanPath<'a>),
 }
 
 /// What the words ask for, or none if they have none of the shapes. After the word `wide` a plan is read under the wide limits.
@@ -129,6 +132,8 @@ fn plan_command_of<'a>(
         Ok(margin_words(limits, words))
     } else if name == "change" {
         Ok(change_words(limits, words))
+    } else if name == "order" {
+        Ok(order_words(limits, words))
     } else if name == "route" {
         Ok(route_words(limits, words))
     } else {

@@ -1,12 +1,11 @@
 -- What a call has to do, in the order in which it does it, and how far it can get.
 use Rattle.std.specs.Prelude.{◌≡◌, ◌⊎◌, ℕ, List, [], ◌++◌, Option, Some}
 use Rattle.std.specs.Io.{StartsWith}
-use Rattle.plan_change.specs.declared.answer.Change.{Change}
 use Rattle.plan_model.specs.Network.{Network}
 use Rattle.plan_verify.specs.declared.verdict.Verdict.{Verdict}
 use Rattle.sccp_io.specs.Files.{Contents, Reads}
 use Rattle.sccp_work.specs.Numbers.{Batch, AreNumbers}
-use Rattle.sccp_work.specs.Questions.{Question, verdict_on, mixture_of, Reply, IsTrueOf}
+use Rattle.sccp_work.specs.Questions.{Question, verdict_on, Reply, IsTrueOf}
 use Rattle.sccp_work.specs.declared.status.Status.{Status}
 
 -- the work that is left
@@ -27,10 +26,6 @@ pub data Work : Type 0 where
 -- the plan is verified, and what follows depends on the verdict
 abbrev pub judge : Network → (Verdict → Work) → Work
 judge plan next = ask (verdict_on plan) next
-
--- two plans are compared, and what follows depends on whether relays may hold either
-abbrev pub mix : Network → Network → (Change → Work) → Work
-mix old new next = ask (mixture_of old new) next
 
 -- the whole work of an answer and its text
 abbrev pub answered : Status × List ℕ → Work

@@ -1,6 +1,7 @@
 use Rattle.std.proofs.Common.{Err, refl}
 use Rattle.std.proofs.lemmas.Result.{err_from_is_err_and}
-use Rattle.sccp_tool.specs.Change.{old_word, new_word, mixed_work}
+use Rattle.sccp_tool.specs.Change.{mixed_work}
+use Rattle.sccp_tool.specs.TwoPlans.{old_word, new_word}
 use Rattle.sccp_work.specs.AcceptedPlan.{with_accepted}
 use Rattle.sccp_work.specs.Moment.{Moment, moment}
 use Rattle.sccp_work.specs.declared.stop.Stop.TheVariants.{Memory}
