@@ -126,10 +126,11 @@ class Unsafe(Exception):
 
 
 class Walk:
-    """How titles go on under some plans, any of which each relay may hold."""
+    """How titles go on under some plans, any of which each relay may hold, or those that are given for its place."""
 
-    def __init__(self, plans):
+    def __init__(self, plans, may=None):
         self.plans = plans
+        self.may = may
         self.seen = {}
         self.way = set()
 
@@ -141,7 +142,7 @@ class Walk:
             return self.seen[spot]
         self.way.add(spot)
         most, ends = 1, set()
-        for plan in self.plans:
+        for plan in self.may[spot.node] if self.may else self.plans:
             for made in steps_of(plan, spot):
                 if made[0] == "sent":
                     hops, further = self.of(made[1])
@@ -156,10 +157,13 @@ class Walk:
         return self.seen[spot]
 
 
-def is_safe(plans):
-    """The bound if every title that all plans cover is brought where it should, and None if one is not."""
+def is_safe(plans, may=None):
+    """The bound if every title that all plans cover is brought where it should, and None if one is not.
+
+    Each relay may hold any of the plans, or those that `may` has for its place.
+    """
     CHOICES.clear()
-    walk = Walk(plans)
+    walk = Walk(plans, may)
     bound = 0
     for cover in plans[0].covers:
         for spot in spots_of(cover):
