@@ -13,6 +13,7 @@ unused PLAN
 margin PLAN LOSSES
 margin PLAN LOSSES subsystems
 change OLD NEW
+order OLD NEW
 replay PLAN TRACE WORKERS
 load NUMBER SIZE WORKERS
 send-on PLAN NODE ORIGIN SIZE HEX

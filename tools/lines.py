@@ -17,7 +17,7 @@ for one of a replay, not of `cuts`. A line of no form gives {"form": "text", "te
   number      a whole number, as an int
   text        the name of a relay or of a file, a point code such as "2-0-1", a selector such as "4:0:1:4", or words
   octets      a text of hexadecimal digits in upper case, two for each octet, or "" if there are none; digits of a title likewise
-  list        of names (via), of marks (held, marks), of numbers (place.rows), or of texts (shapes)
+  list        of names (via, nodes), of marks (held, marks), of numbers (place.rows), or of texts (shapes)
   mark        {"kind": "point", "point": "2-0-1"}, or the same with "sccp"; one of kind "subsystem" also has "ssn": 6
   yes or no   a bool; what is absent (`-`) is None
 
@@ -30,8 +30,8 @@ Fields in [] are only there if the line has them. A.B is the key B of the dict A
   bad_plan           [which] FAULT                                every command that reads a plan
   bad_trace_line     line fault                                   show, import, replay
   unknown_node       [line]                                       route, connect, send-on; with a line: replay
-  accepted           [which] bound                                verify, margin; with which ("old" or "new"): change
-  refused            [which] KIND cover steady                    verify, margin, replay, load, connect; with which: change
+  accepted           [which] bound                                verify, margin; with which ("old" or "new"): change, order
+  refused            [which] KIND cover steady                    verify, margin, replay, load, connect; with which: change, order
   too_wide           [which] [limit]                              the same, and unused
   cover_accepted     cover bound                                  covers
   cover_refused      KIND cover steady                            covers
@@ -49,11 +49,16 @@ Fields in [] are only there if the line has them. A.B is the key B of the dict A
   cover_survives_any cover                                        margin
   covers_survive     points                                       margin: if each cover survives them
   margins_counted    least stopped too_wide                       margin: otherwise
-  hop                [which] node title held step ..              verify, covers, margin, route, replay, load, connect, change
+  hop                [which] node title held step ..              verify, covers, margin, route, replay, load, connect, change, order
   change_accepted    bound                                        change
   change_refused     KIND old_cover new_cover                     change
   change_too_wide    [limit]                                      change
-  other_nodes                                                     change
+  other_nodes                                                     change, order
+  order              steps                                        order: how many
+  step               number nodes bound                           order: nodes are its relays
+  no_order                                                        order
+  stuck              node KIND old_cover new_cover                order
+  undecided                                                       order
   plan_accepted      [line] plan file bound                       replay: the first plan (no line), and later ones
   plan_refused       line file KIND cover steady                  replay: a later plan; so are the next three
   plan_too_wide      line file [limit]
@@ -109,7 +114,7 @@ service.way: "sent" with service.to, "closed" with service.mark, or "via" with s
 service.point, service.ssn and service.arrived; "local" with service.ssn; "lost" with service.cause; "management"; "cut"; or None.
 
 read_groups puts hops into the list "hops" of the record before them, if that is accepted, refused, cover_refused, cover_stopped,
-change_accepted, change_refused or plan_refused; other hops, as those of `route`, become {"form": "route", "hops": [..]}. The lines of a
+change_accepted, change_refused, stuck or plan_refused; other hops, as those of `route`, become {"form": "route", "hops": [..]}. The lines of a
 message become the list "parts" of the record message. The records sends go into the list "sends" of the record before them, if it is of the
 same line of the trace.
 """
@@ -197,7 +202,7 @@ TYPES = {
     "node": NAME, "next": NAME, "place.node": NUMBER,
     "point": POINT, "to": POINT, "origin": POINT,
     "octets": OCTETS, "data": OCTETS, "whole": OCTETS, "arrived": OCTETS, "digits": DIGITS, "prefix": DIGITS,
-    "held": MARKS, "marks": MARKS, "mark": Type(MARK, read_mark, mark_text), "via": NAMES,
+    "held": MARKS, "marks": MARKS, "mark": Type(MARK, read_mark, mark_text), "via": NAMES, "nodes": NAMES,
     "selector": SELECTOR,
     "file": Type("[!-~]{1,255}"),
     "name": Type("[0-9A-F]{2}"),
@@ -267,10 +272,11 @@ def causes(table, other):
     return f"({'|'.join(with_texts)}|{{cause:{other}}}{{text:=null:}})"
 
 
-EVERY = "show-hex show cuts route verify covers unused margin change replay load send-on connect import capture wide"
-FILES = "show route verify covers unused margin change replay send-on connect import capture"
+EVERY = "show-hex show cuts route verify covers unused margin change order replay load send-on connect import capture wide"
+FILES = "show route verify covers unused margin change order replay send-on connect import capture"
 COMMANDS = frozenset(EVERY.split())
 JUDGED = "verify margin replay load connect"
+OF_TWO = "change order"
 SHOWN = "show-hex show"
 
 # Each form: its name, and each of its patterns after the commands that print such lines.
@@ -278,12 +284,12 @@ TABLE = [
     ("usage", (EVERY, "usage: {shapes}")),
     ("too_long", (FILES, "too long<PASSED>")),
     ("read_fault", (FILES, "read fault")),
-    ("bad_plan", ("route verify covers unused margin replay send-on connect import capture", "<BAD_PLAN>"), ("change", "<WHICH><BAD_PLAN>")),
+    ("bad_plan", ("route verify covers unused margin replay send-on connect import capture", "<BAD_PLAN>"), (OF_TWO, "<WHICH><BAD_PLAN>")),
     ("bad_trace_line", ("show import replay", "bad trace line {line} {fault:line_fault}")),
     ("unknown_node", ("route connect send-on", "unknown node"), ("replay", "{line} unknown node")),
-    ("accepted", ("verify margin", "accepted bound {bound}"), ("change", "<WHICH>accepted bound {bound}")),
-    ("refused", (JUDGED, "refused <KIND> cover {cover} <STEADY>"), ("change", "<WHICH>refused <KIND> cover {cover} <STEADY>")),
-    ("too_wide", (f"{JUDGED} unused", "too wide<PASSED>"), ("change", "<WHICH>too wide<PASSED>")),
+    ("accepted", ("verify margin", "accepted bound {bound}"), (OF_TWO, "<WHICH>accepted bound {bound}")),
+    ("refused", (JUDGED, "refused <KIND> cover {cover} <STEADY>"), (OF_TWO, "<WHICH>refused <KIND> cover {cover} <STEADY>")),
+    ("too_wide", (f"{JUDGED} unused", "too wide<PASSED>"), (OF_TWO, "<WHICH>too wide<PASSED>")),
     ("cover_accepted", ("covers", "cover {cover} accepted bound {bound}")),
     ("cover_refused", ("covers", "cover {cover} refused <KIND> <STEADY>")),
     ("cover_too_wide", ("covers", "cover {cover} too wide<PASSED>"), ("margin", "cover {cover} too wide at {points}")),
@@ -301,11 +307,16 @@ TABLE = [
     ("cover_survives_any", ("margin", "cover {cover} survives any")),
     ("covers_survive", ("margin", "all survive {points}")),
     ("margins_counted", ("margin", "least {least} stopped {stopped} too wide {too_wide}")),
-    ("hop", (f"{JUDGED} covers route change", "<HOP>"), ("change", "<WHICH><HOP>")),
+    ("hop", (f"{JUDGED} covers route {OF_TWO}", "<HOP>"), (OF_TWO, "<WHICH><HOP>")),
     ("change_accepted", ("change", "change accepted bound {bound}")),
     ("change_refused", ("change", "change refused <KIND> covers {old_cover} {new_cover}")),
     ("change_too_wide", ("change", "change too wide<PASSED>")),
-    ("other_nodes", ("change", "other nodes")),
+    ("other_nodes", (OF_TWO, "other nodes")),
+    ("order", ("order", "order {steps}")),
+    ("step", ("order", "step {number} {nodes} bound {bound}")),
+    ("no_order", ("order", "no order")),
+    ("stuck", ("order", "stuck {node} <KIND> covers {old_cover} {new_cover}")),
+    ("undecided", ("order", "undecided")),
     ("plan_accepted", ("replay", "({line} plan {plan}|plan {plan:=1:1}) {file} accepted bound {bound}")),
     ("plan_refused", ("replay", "{line} plan {file} refused <KIND> cover {cover} <STEADY>")),
     ("plan_too_wide", ("replay", "{line} plan {file} too wide<PASSED>")),
@@ -537,7 +548,7 @@ def write_line(record):
 
 # ---- Lines that belong together
 
-HAVE_HOPS = ("accepted", "refused", "cover_refused", "cover_stopped", "change_accepted", "change_refused", "plan_refused", "route")
+HAVE_HOPS = ("accepted", "refused", "cover_refused", "cover_stopped", "change_accepted", "change_refused", "stuck", "plan_refused", "route")
 OF_MESSAGES = [name for name, (commands, _), *_ in TABLE if commands == SHOWN and name != "message"]
 
 

@@ -76,6 +76,21 @@ TYPED = {
                 held=[POINT, SCCP, SUBSYSTEM], step="overgrown")),
         ("new bad plan limit covers", record("bad_plan", which="new", fault="limit", of="covers")),
     ],
+    "order": [
+        ("old accepted bound 2", record("accepted", which="old", bound=2)),
+        ("new refused overgrown cover 1 steady no", record("refused", which="new", kind="overgrown", cover=1, steady=False)),
+        ("order 0", record("order", steps=0)),
+        ("step 1 a bound 0", record("step", number=1, nodes=["a"], bound=0)),
+        ("step 12 b,sixteen_octets-_ bound 14", record("step", number=12, nodes=["b", "sixteen_octets-_"], bound=14)),
+        ("no order", record("no_order")),
+        ("stuck a loop 0 covers 2 255", record("stuck", node="a", kind="loop", hop=0, old_cover=2, new_cover=255)),
+        ("stuck b forbidden 2-0-1/6 covers 0 0",
+         record("stuck", node="b", kind="forbidden", point="2-0-1", ssn=6, old_cover=0, new_cover=0)),
+        ("stuck order no row 1 covers 0 0", record("stuck", node="order", kind="no row", cause=1, old_cover=0, new_cover=0)),
+        ("new at a 4:0:1:4 6 49A held none no row 1", hop("no row", cause=1) | {"which": "new"}),
+        ("undecided", record("undecided")),
+        ("other nodes", record("other_nodes")),
+    ],
     "covers": [
         ("cover 0 refused loop 0 steady yes", record("cover_refused", cover=0, kind="loop", hop=0, steady=True)),
         ("cover 255 refused forbidden 2-0-3/6 steady no",
@@ -279,7 +294,12 @@ FAULTY = {
         "cover 0 accepted bound 2", "least 1 stopped 2", "least any stopped 2 too wide 0", "all accepted bound 2",
     ],
     "change": [
-        "accepted bound 2", "too wide", "refused long cover 0 steady yes", "bad plan no cover",
+        "accepted bound 2", "too wide", "refused long cover 0 steady yes", "bad plan no cover", "order 1", "no order",
+    ],
+    "order": [
+        "accepted bound 2", "order", "order 01", "order a", "step a bound 1", "step 1 bound 1", "step 1 a", "step 1 a, bound 1",
+        "step 1 a b bound 1", "no order 1", "stuck a", "stuck loop 0 covers 2 2", "stuck a loop 0 covers 2", "stuck a loop covers 2 2",
+        "stuck a,b long covers 2 2", "undecided 1", "change accepted bound 2",
     ],
     "replay": [
         "plan 2 plan.toml accepted bound 1", "plan 1 a b accepted bound 1", "plan 1 accepted bound 1", "2 by 1 via a, ended 2-0-1/6 09",
@@ -482,6 +502,9 @@ class Streams(unittest.TestCase):
         mixed = ["old accepted bound 1", "new accepted bound 2", "change accepted bound 2", "old " + first, "new " + second]
         old, new, kept, *hops = map(read, mixed)
         self.assertEqual([old, new, {**kept, "hops": hops}], groups("change", *mixed))
+        none = ["no order", "step 1 c bound 2", "stuck a long covers 0 0", "new " + first, "stuck b long covers 0 1", "old " + second]
+        no_order, done, stuck, of_stuck, last, of_last = map(read, none)
+        self.assertEqual([no_order, done, {**stuck, "hops": [of_stuck]}, {**last, "hops": [of_last]}], groups("order", *none))
         later = ["2 by 1 via a cut", f"3 plan b.toml {bad}", first, second, "4 pause a 2-0-1", "4 sends 1-0-1 0A", "4 sends 1-0-2 0A",
                  "end 4"]
         cut, refused, one, two, pause, sent, more, end = map(read, later)
