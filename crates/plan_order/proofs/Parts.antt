@@ -48,7 +48,7 @@ pub lets_more : (old new : Network) (done step done' step' : List ℕ) → SameN
     → LetsMore old new (during (length old.nodes) done step) (during (length old.nodes) done' step')
 lets_more old new done step done' step' same part n w holds =
     ⊎_elim (λ differs. inl (⊎_elim (inside differs) past (cases_lt n (length old.nodes)))) (λ alike. inr alike.1)
-        (differs_told old new same n)
+    (differs_told old new same n)
   where
     count : ℕ
     count = length old.nodes
