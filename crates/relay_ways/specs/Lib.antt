@@ -9,3 +9,5 @@ pub mod Handling
 pub mod Explained
 pub mod Settled
 pub mod Markings
+pub mod Candidates
+pub mod WhyNot

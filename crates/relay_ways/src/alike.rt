@@ -11,7 +11,7 @@ use sccp_layout::Param;
 use sccp_message::Message;
 
 /// The type code, or 0 if the message is not connectionless.
-fn code(message: &Message) -> u8
+pub(crate) fn code(message: &Message) -> u8
     ensures { result ≡ code_of message.now }
 {
     match message {
@@ -26,7 +26,7 @@ fn code(message: &Message) -> u8
 }
 
 /// The octet of the class or of the return cause.
-fn number(message: &Message) -> u8
+pub(crate) fn number(message: &Message) -> u8
     ensures { result ≡ number_of message.now }
 {
     match message {
@@ -39,7 +39,7 @@ fn number(message: &Message) -> u8
 }
 
 /// The calling address.
-fn calling(message: &Message) -> Option<&Address>
+pub(crate) fn calling(message: &Message) -> Option<&Address>
     ensures { option_copied result ≡ calling_of message.now }
 {
     match message {
@@ -66,13 +66,13 @@ fn params(message: &Message) -> Option<&List<Param>>
     }
 }
 
-fn same_flag(a: bool, b: bool) -> bool
+pub(crate) fn same_flag(a: bool, b: bool) -> bool
     ensures { result ≡ same_flag a b }
 {
     if a { b } else { !b }
 }
 
-fn same_number(a: Option<u8>, b: Option<u8>) -> bool
+pub(crate) fn same_number(a: Option<u8>, b: Option<u8>) -> bool
     ensures { result ≡ same_optional a b }
 {
     match a {
@@ -97,7 +97,7 @@ fn same_code(a: Option<PointCode>, b: Option<PointCode>) -> bool
 }
 
 /// Whether both are the same, or one is absent and the other the point that the message goes to.
-fn same_point(to: PointCode, a: Option<PointCode>, b: Option<PointCode>) -> bool
+pub(crate) fn same_point(to: PointCode, a: Option<PointCode>, b: Option<PointCode>) -> bool
     ensures { result ≡ same_point to a b }
 {
     match a {
@@ -140,7 +140,7 @@ fn is_absent(title: &Title) -> bool
     }
 }
 
-fn same_address(a: &Address, b: &Address) -> bool
+pub(crate) fn same_address(a: &Address, b: &Address) -> bool
     ensures { result ≡ same_address a.now b.now }
 {
     same_flag(a.national, b.national)
@@ -151,7 +151,7 @@ fn same_address(a: &Address, b: &Address) -> bool
 }
 
 /// Whether the title is the same, or is left out of an address that routes on its subsystem number.
-fn same_called_title(a: &Address, b: &Address) -> bool
+pub(crate) fn same_called_title(a: &Address, b: &Address) -> bool
     ensures { result ≡ (if same_title a.now.title b.now.title then true else a.now.by_ssn && is_absent b.now.title) }
 {
     if same_title(&a.title, &b.title) {
@@ -201,7 +201,7 @@ fn same_params(a: &[Param], b: &[Param]) -> bool
 }
 
 /// Whether both have the same parameters, or none can have any.
-fn have_same_params(a: &Message, b: &Message) -> bool
+pub(crate) fn have_same_params(a: &Message, b: &Message) -> bool
     ensures { IsTrue result ↔ (params_of a.now ≡ params_of b.now) }
 {
     match params(a) {

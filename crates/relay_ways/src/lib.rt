@@ -8,24 +8,35 @@
 
 mod alike;
 mod all_ways;
+mod candidate;
+mod changing;
 mod condition;
 mod explaining;
 mod explanation;
 mod handling;
 mod laws;
+mod leading;
 mod markings;
 mod outcomes;
+mod reason;
+mod reasoning;
 mod settling;
+mod turn_steps;
 mod turns;
 mod way;
+mod would_send;
 
 pub use alike::is_alike;
 pub use all_ways::ways;
+pub use candidate::Candidate;
 pub use condition::Condition;
 pub use explaining::explain;
 pub use explanation::Explanation;
 pub use handling::{Handling, Taken};
 pub use laws::{markings_are_least, turns_are_steps};
-pub use markings::begins;
+pub use markings::{begins, next_marking};
+pub use reason::Reason;
+pub use reasoning::why_not;
 pub use settling::settled;
 pub use way::{Sending, Way};
+pub use would_send::candidates;

@@ -63,3 +63,18 @@ pub fn begins(
         }
     }
 }
+
+/// Whether another marking begins with one more condition, after those that the last marking meets, which are one condition; and the
+/// conditions that the last marking meets then. The error is want of memory.
+pub fn next_marking(
+    alloc: Global,
+    so_far: &Option<Condition>,
+    condition: &Condition,
+) -> Result<(bool, Condition), OutOfMemory>
+    ensures { IfOk result (λ next. next ≡ (begins so_far.now condition.now, joined so_far.now condition.now)) }
+{
+    match with(alloc, so_far, condition)? {
+        Some(joined) => Ok((false, joined)),
+        None => Ok((true, copied(alloc, condition)?)),
+    }
+}
