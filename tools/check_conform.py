@@ -421,7 +421,7 @@ class Replayed(Scene):
         if word == "resume":
             held -= {("point", pc), ("sccp", pc)} | {mark for mark in held if mark[0] == "subsystem" and mark[1] == pc}
         else:
-            held.add(("point" if word == "pause" else "sccp", pc))
+            held |= {("sccp", pc)} | ({("point", pc)} if word == "pause" else set())
         self.lines.append(f"{word} {self.nodes[node].name} {relays.point_text(pc)}")
 
     def arrives(self, octets):
@@ -482,7 +482,8 @@ def replay(draw, check, title):
         if draw.random() < .4:
             s.happens(draw)
         else:
-            firsts[len(s.lines) + 1] = s.arrives(draw_unit(draw, number))
+            line = len(s.lines) + 1
+            firsts[line] = s.arrives(draw_unit(draw, number))
     check.write("trace.txt", "".join(line + "\n" for line in s.lines).encode())
     printed, status = check.call("replay", "plan.toml", "trace.txt", "1")
     text = text_of(s.events)
@@ -500,14 +501,14 @@ def replay(draw, check, title):
     explained = 0
     for line in check.compare(title, plan, text):
         words = line.split()
-        if "explained" in words[1:]:
+        if kind_of(line) == "explained":
             explained += 1
             origin = s.events[int(words[0]) - 1][0]
             marking = s.markings[int(words[0]) - 1][s.at[origin]]
             rest = " ".join(words[words.index("explained"):]).split(" or ")
             if not any(relays.meets(marking, condition_of(way.split())) for way in rest):
                 check.differs(title, plan, text, f"the marks that the replay held do not meet {line}")
-        elif "unexplained" in words[4:]:
+        elif kind_of(line) == "unexplained":
             check.differs(title, plan, text, f"of a replay: {line}")
     return explained
 
