@@ -14,11 +14,11 @@ use Rattle.sccp_message.specs.Unitdata.{called_of}
 use Rattle.sccp_address.specs.declared.address.Address.{Address}
 use Rattle.plan_model.specs.Network.{Network}
 use Rattle.relay_watch.specs.Arrivals.{IsWaiting, AreWaiting, most_waiting, joined, kept, given_up, ended, given_if, source, begins}
-use Rattle.relay_watch.specs.Judging.{IsFoundAt, IsFoundBy, IsFound, IsSaid, IsJudged, place_of, line_if}
+use Rattle.relay_watch.specs.Judging.{IsFoundAt, IsFoundBy, IsFound, IsSaid, place_of}
+use Rattle.relay_watch.specs.declared.answered.Answered.{Answered}
 use Rattle.relay_watch.specs.declared.event.Event.{Event}
 use Rattle.relay_watch.specs.declared.found.Found.{Found}
 use Rattle.relay_watch.specs.declared.judged.Judged.{Judged}
-use Rattle.relay_watch.specs.declared.line.Line.{Line}
 use Rattle.relay_watch.specs.declared.waiting.Waiting.{Waiting}
 
 -- ---- too many wait, or not
@@ -67,9 +67,9 @@ read_inside : (plan : Network) (ws : List Waiting) (e : Event) (found : Option F
 read_inside plan ws e found (Err fault) is = nothing_inside ws found is
 read_inside plan ws e found (Ok m) is = called_inside plan ws e m found (called_of m) is
 
-pub place_inside : (plan : Network) (ws : List Waiting) (e : Event) (r : Result Message DecodeFault) (j : Judged) → IsSaid plan ws e r j
-    → IfSome j.place (λ p. p < length ws)
-place_inside plan ws e r j said =
+pub place_inside : (plan : Network) (ws : List Waiting) (xs : List Answered) (e : Event) (r : Result Message DecodeFault) (j : Judged)
+    → IsSaid plan ws xs e r j → IfSome j.place (λ p. p < length ws)
+place_inside plan ws xs e r j said =
     subst (λ (o : Option ℕ). IfSome o (λ p. p < length ws)) (sym said.place_is) (read_inside plan ws e said.found r said.search)
 
 -- the same with one more behind
@@ -132,17 +132,18 @@ still_waiting old (Some p) new are inside is =
       );
     }
 
--- the line and what waits
-pub judged_as : (plan : Network) (old : List Waiting) (e : Event) (j : Judged) (given : Option Waiting) (next : List Waiting)
-    → AreWaiting old → IsSaid plan old e (reading e.octets) j → next ≡ ended (old ++ option_to_list j.begins) j.place
-    → given ≡ given_if (old ++ option_to_list j.begins) j.place
-    → IsJudged plan old e (record { verdict = j.verdict; given_up = given }) next
-judged_as plan old e j given next are said left g =
-    let end = ends_as old j.place j.begins are.few (place_inside plan old e (reading e.octets) j said) in
+-- what waits afterwards, and the arrival that is given up
+pub record Leaves (plan : Network) (old : List Waiting) (e : Event) (j : Judged) (found : Option Found) (given : Option Waiting)
+    (next : List Waiting) : Type 0 where
+  pub given_is : given ≡ given_up (joined old (place_of found) (begins plan e (reading e.octets)))
+  pub left : next ≡ kept (joined old (place_of found) (begins plan e (reading e.octets)))
+
+pub leaves : (plan : Network) (old : List Waiting) (xs : List Answered) (e : Event) (j : Judged) (given : Option Waiting) (next : List Waiting)
+    → AreWaiting old → (said : IsSaid plan old xs e (reading e.octets) j) → next ≡ ended (old ++ option_to_list j.begins) j.place
+    → given ≡ given_if (old ++ option_to_list j.begins) j.place → Leaves plan old e j said.found given next
+leaves plan old xs e j given next are said left g =
+    let end = ends_as old j.place j.begins are.few (place_inside plan old xs e (reading e.octets) j said) in
     record {
-      found = said.found;
-      search = said.search;
-      verdict_is = said.verdict_is;
       given_is = g ∙ end.1 ∙ ap given_up (both said.place_is said.begins_is);
       left = left ∙ end.0 ∙ ap kept (both said.place_is said.begins_is);
     }
@@ -150,13 +151,3 @@ judged_as plan old e j given next are said left g =
     both : j.place ≡ place_of said.found → j.begins ≡ begins plan e (reading e.octets)
         → joined old j.place j.begins ≡ joined old (place_of said.found) (begins plan e (reading e.octets))
     both p b = λ i. joined old (p i) (b i)
-
--- the same of an answer
-pub if_settled : {E : Type 0} (r : Result Line E) (plan : Network) (old : List Waiting) (e : Event) (j : Judged) (next : List Waiting)
-    → AreWaiting old → IsSaid plan old e (reading e.octets) j
-    → OnOk r (next ≡ ended (old ++ option_to_list j.begins) j.place) → IfOk r (λ line. line ≡ line_if old j)
-    → IfOk r (λ line. IsJudged plan old e line next)
-if_settled (Ok line) plan old e j next are said left is =
-    subst (λ (l : Line). IsJudged plan old e l next) (sym is)
-    (judged_as plan old e j (given_if (old ++ option_to_list j.begins) j.place) next are said left refl)
-if_settled (Err x) plan old e j next are said left is = tt

@@ -1,6 +1,6 @@
 mod Worked
 mod Data
-mod Unanswered
+mod DueLemmas
 mod Plain
 mod Reasoned
 mod Left
@@ -10,3 +10,6 @@ mod Once
 mod Waited
 mod Places
 mod Said
+mod Watched
+mod WhyLemmas
+mod KeptLemmas

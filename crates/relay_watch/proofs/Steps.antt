@@ -20,13 +20,14 @@ use Rattle.relay_watch.specs.Arrivals.{left_at, joined, kept, given_up}
 use Rattle.relay_watch.specs.Judging.{IsFoundAt, IsFoundBy, IsFound, IsJudged, place_of}
 use Rattle.relay_watch.specs.Reasons.{IsFirst, IsNoReason}
 use Rattle.relay_watch.specs.Runs.{lacks_reason, explains, gives_up, names}
-use Rattle.relay_watch.specs.Verdicts.{own_ssn, if_own, without_reason, of_sent, of_unsent, by_source, by_called, verdict_of}
+use Rattle.relay_watch.specs.Verdicts.{own_ssn, if_own, said_by, without_reason, of_sent, of_unsent, by_source, by_called, verdict_of}
 use Rattle.relay_watch.specs.declared.event.Event.{Event}
 use Rattle.relay_watch.specs.declared.found.Found.{Found}
 use Rattle.relay_watch.specs.declared.line.Line.{Line}
 use Rattle.relay_watch.specs.declared.verdict.Verdict.{Verdict}
 use Rattle.relay_watch.specs.declared.verdict.Verdict.TheVariants as verdicts
 use Rattle.relay_watch.specs.declared.waiting.Waiting.{Waiting}
+use Rattle.relay_watch.specs.declared.why.Why.{Why}
 
 -- ---- the verdict
 
@@ -38,9 +39,9 @@ number_in verdicts.Connection = None
 number_in verdicts.Other = None
 number_in verdicts.Arrived = None
 number_in (verdicts.Explained by ways) = Some by
-number_in verdicts.Management = None
+number_in (verdicts.Management status) = None
 number_in (verdicts.Own ssn) = None
-number_in verdicts.Unexplained = None
+number_in (verdicts.Unexplained why) = None
 
 abbrev pub ways_in : Verdict → List Explanation
 ways_in (verdicts.Undecodable fault) = []
@@ -48,27 +49,27 @@ ways_in verdicts.Connection = []
 ways_in verdicts.Other = []
 ways_in verdicts.Arrived = []
 ways_in (verdicts.Explained by ways) = ways
-ways_in verdicts.Management = []
+ways_in (verdicts.Management status) = []
 ways_in (verdicts.Own ssn) = []
-ways_in verdicts.Unexplained = []
+ways_in (verdicts.Unexplained why) = []
 
-own_reason : (o : Option ℕ) → number_in (if_own o) ≡ None
-own_reason None = refl
-own_reason (Some ssn) = refl
+own_reason : (o : Option ℕ) (why : Why) → number_in (if_own o why) ≡ None
+own_reason None why = refl
+own_reason (Some ssn) why = refl
 
-unsent_reason : (a : Address) (o : Option ℕ) → number_in (of_unsent a o) ≡ None
-unsent_reason a None = refl
-unsent_reason a (Some node) = by (is_management a) where
-  by : (b : Bool) → number_in (if b then verdicts.Management else verdicts.Arrived) ≡ None
+unsent_reason : (m : Message) (a : Address) (o : Option ℕ) → number_in (of_unsent m a o) ≡ None
+unsent_reason m a None = refl
+unsent_reason m a (Some node) = by (is_management a) where
+  by : (b : Bool) → number_in (if b then verdicts.Management (said_by m) else verdicts.Arrived) ≡ None
   by true = refl
   by false = refl
 
-without : (plan : Network) (node : ℕ) (m : Message) (a : Address) → number_in (without_reason plan node m a) ≡ None
-without plan node m a = by (is_management a) where
+without : (plan : Network) (node : ℕ) (m : Message) (a : Address) (why : Why) → number_in (without_reason plan node m a why) ≡ None
+without plan node m a why = by (is_management a) where
   by : (b : Bool)
-      → number_in (if b then verdicts.Management else if_own (option_and_then (own_ssn plan node) (calling_of m))) ≡ None
+      → number_in (if b then verdicts.Management (said_by m) else if_own (option_and_then (own_ssn plan node) (calling_of m)) why) ≡ None
   by true = refl
-  by false = own_reason (option_and_then (own_ssn plan node) (calling_of m))
+  by false = own_reason (option_and_then (own_ssn plan node) (calling_of m)) why
 
 -- a message that a relay sent, and the first arrival that explains it
 pub record Explaining (plan : Network) (old : List Waiting) (e : Event) (f : Found) : Type 0 where
@@ -82,16 +83,16 @@ not_both : (f : Found) (o : Option Found) → o ≡ None → o ≡ Some f → �
 not_both f o p q = cc
 
 -- what was found is in the verdict
-source_says : (plan : Network) (old : List Waiting) (e : Event) (m : Message) (a : Address) (found : Option Found) (o : Option ℕ)
+source_says : (plan : Network) (old : List Waiting) (e : Event) (m : Message) (a : Address) (found : Option Found) (why : Why) (o : Option ℕ)
     → reading e.octets ≡ Ok m → source plan e ≡ o → IsFoundAt plan old e m found o
-    → ((f : Found) → found ≡ Some f → (by_source plan e m a found o ≡ verdicts.Explained f.by f.ways) × Explaining plan old e f)
-    × (found ≡ None → number_in (by_source plan e m a found o) ≡ None)
-source_says plan old e m a found None reads there is = (
+    → ((f : Found) → found ≡ Some f → (by_source plan e m a found why o ≡ verdicts.Explained f.by f.ways) × Explaining plan old e f)
+    × (found ≡ None → number_in (by_source plan e m a found why o) ≡ None)
+source_says plan old e m a found why None reads there is = (
   λ f some. absurd (not_both f found is some),
-  λ none. unsent_reason a (target plan e),
+  λ none. unsent_reason m a (target plan e),
 )
-source_says plan old e m a None (Some node) reads there is = (λ f some. absurd cc, λ none. without plan node m a)
-source_says plan old e m a (Some g) (Some node) reads there is = (
+source_says plan old e m a None why (Some node) reads there is = (λ f some. absurd cc, λ none. without plan node m a why)
+source_says plan old e m a (Some g) why (Some node) reads there is = (
   λ f some.
       let same : g ≡ f = cc in
       subst (λ (x : Found). (verdicts.Explained g.by g.ways ≡ verdicts.Explained x.by x.ways) × Explaining plan old e x) same
@@ -99,19 +100,19 @@ source_says plan old e m a (Some g) (Some node) reads there is = (
   λ none. absurd cc,
 )
 
-called_says : (plan : Network) (old : List Waiting) (e : Event) (m : Message) (found : Option Found) (o : Option Address)
+called_says : (plan : Network) (old : List Waiting) (e : Event) (m : Message) (found : Option Found) (why : Why) (o : Option Address)
     → reading e.octets ≡ Ok m → IsFoundBy plan old e m found o
-    → ((f : Found) → found ≡ Some f → (by_called plan e m found o ≡ verdicts.Explained f.by f.ways) × Explaining plan old e f)
-    × (found ≡ None → number_in (by_called plan e m found o) ≡ None)
-called_says plan old e m found None reads is = (λ f some. absurd (not_both f found is some), λ none. refl)
-called_says plan old e m found (Some a) reads is = source_says plan old e m a found (source plan e) reads refl is
+    → ((f : Found) → found ≡ Some f → (by_called plan e m found why o ≡ verdicts.Explained f.by f.ways) × Explaining plan old e f)
+    × (found ≡ None → number_in (by_called plan e m found why o) ≡ None)
+called_says plan old e m found why None reads is = (λ f some. absurd (not_both f found is some), λ none. refl)
+called_says plan old e m found why (Some a) reads is = source_says plan old e m a found why (source plan e) reads refl is
 
-pub found_says : (plan : Network) (old : List Waiting) (e : Event) (found : Option Found) (r : Result Message DecodeFault)
+pub found_says : (plan : Network) (old : List Waiting) (e : Event) (found : Option Found) (why : Why) (r : Result Message DecodeFault)
     → reading e.octets ≡ r → IsFound plan old e found r
-    → ((f : Found) → found ≡ Some f → (verdict_of plan e found r ≡ verdicts.Explained f.by f.ways) × Explaining plan old e f)
-    × (found ≡ None → number_in (verdict_of plan e found r) ≡ None)
-found_says plan old e found (Err fault) reads is = (λ f some. absurd (not_both f found is some), λ none. refl)
-found_says plan old e found (Ok m) reads is = called_says plan old e m found (called_of m) reads is
+    → ((f : Found) → found ≡ Some f → (verdict_of plan e found why r ≡ verdicts.Explained f.by f.ways) × Explaining plan old e f)
+    × (found ≡ None → number_in (verdict_of plan e found why r) ≡ None)
+found_says plan old e found why (Err fault) reads is = (λ f some. absurd (not_both f found is some), λ none. refl)
+found_says plan old e found why (Ok m) reads is = called_says plan old e m found why (called_of m) reads is
 
 not_some : (n : ℕ) (o : Option ℕ) → o ≡ None → o ≡ Some n → ⊥
 not_some n o p q = cc
@@ -127,14 +128,14 @@ pub record Names (plan : Network) (old : List Waiting) (e : Event) (by : ℕ) (w
 pub line_names : (plan : Network) (old : List Waiting) (e : Event) (line : Line) (next : List Waiting) (by : ℕ) (ways : List Explanation)
     → (h : IsJudged plan old e line next) → line.verdict ≡ verdicts.Explained by ways → Names plan old e by ways h.found
 line_names plan old e line next by ways h v =
-    cases h.found (found_says plan old e h.found (reading e.octets) refl h.search) (sym h.verdict_is ∙ v)
+    cases h.found (found_says plan old e h.found h.why (reading e.octets) refl h.search) (sym h.verdict_is ∙ v)
   where
     cases : (o : Option Found)
-        → ((f : Found) → o ≡ Some f → (verdict_of plan e o (reading e.octets) ≡ verdicts.Explained f.by f.ways) × Explaining plan old e f)
-        × (o ≡ None → number_in (verdict_of plan e o (reading e.octets)) ≡ None)
-        → verdict_of plan e o (reading e.octets) ≡ verdicts.Explained by ways → Names plan old e by ways o
+        → ((f : Found) → o ≡ Some f → (verdict_of plan e o h.why (reading e.octets) ≡ verdicts.Explained f.by f.ways) × Explaining plan old e f)
+        × (o ≡ None → number_in (verdict_of plan e o h.why (reading e.octets)) ≡ None)
+        → verdict_of plan e o h.why (reading e.octets) ≡ verdicts.Explained by ways → Names plan old e by ways o
     cases None says w =
-        absurd (not_some by (number_in (verdict_of plan e None (reading e.octets))) (says.1 refl) (ap number_in w))
+        absurd (not_some by (number_in (verdict_of plan e None h.why (reading e.octets))) (says.1 refl) (ap number_in w))
     cases (Some f) says w =
         let k = says.0 f refl in
         let same : Some f.by ≡ Some by = ap number_in (sym k.0 ∙ w) in
@@ -148,24 +149,24 @@ nothing_found plan old e line next node sent h lacks there reads =
     by_read (reading e.octets) h.found refl reads h.search (sym (ap lacks_reason h.verdict_is) ∙ lacks)
   where
     by_found : (a : Address) (o : Option Found) → IsFoundAt plan old e sent o (Some node)
-        → lacks_reason (of_sent plan node sent a o) ≡ true → All (IsNoReason plan node e.destination sent) old
+        → lacks_reason (of_sent plan node sent a o h.why) ≡ true → All (IsNoReason plan node e.destination sent) old
     by_found a None is k = is
     by_found a (Some f) is k = absurd cc
 
     by_address : (c : Option Address) (o : Option Found) → IsFoundBy plan old e sent o c
-        → lacks_reason (by_called plan e sent o c) ≡ true → All (IsNoReason plan node e.destination sent) old
+        → lacks_reason (by_called plan e sent o h.why c) ≡ true → All (IsNoReason plan node e.destination sent) old
     by_address None o is k = absurd cc
     by_address (Some a) o is k =
         by_found a o (subst (IsFoundAt plan old e sent o) there is)
-        (subst (λ (s : Option ℕ). lacks_reason (by_source plan e sent a o s) ≡ true) there k)
+        (subst (λ (s : Option ℕ). lacks_reason (by_source plan e sent a o h.why s) ≡ true) there k)
 
     by_read : (r : Result Message DecodeFault) (o : Option Found) → reading e.octets ≡ r → r ≡ Ok sent → IsFound plan old e o r
-        → lacks_reason (verdict_of plan e o r) ≡ true → All (IsNoReason plan node e.destination sent) old
+        → lacks_reason (verdict_of plan e o h.why r) ≡ true → All (IsNoReason plan node e.destination sent) old
     by_read (Err fault) o at is search k = absurd cc
     by_read (Ok m) o at is search k =
         let same : m ≡ sent = cc in
         by_address (called_of sent) o (subst (λ (x : Message). IsFoundBy plan old e x o (called_of x)) same search)
-        (subst (λ (x : Message). lacks_reason (by_called plan e x o (called_of x)) ≡ true) same k)
+        (subst (λ (x : Message). lacks_reason (by_called plan e x o h.why (called_of x)) ≡ true) same k)
 
 -- ---- the arrival that begins to wait
 
@@ -296,14 +297,14 @@ not_explained : (plan : Network) (old : List Waiting) (e : Event) (line : Line) 
     → (h : IsJudged plan old e line next) → explains w.number line.verdict ≡ false → Among w old
     → Among w (left_at old (place_of h.found))
 not_explained plan old e line next w h free at =
-    by h.found (found_says plan old e h.found (reading e.octets) refl h.search).0 (sym (ap (explains w.number) h.verdict_is) ∙ free)
+    by h.found (found_says plan old e h.found h.why (reading e.octets) refl h.search).0 (sym (ap (explains w.number) h.verdict_is) ∙ free)
   where
     off : {b : Bool} → b ≡ true → b ≡ false → ⊥
     off p q = cc
 
     by : (o : Option Found)
-        → ((f : Found) → o ≡ Some f → (verdict_of plan e o (reading e.octets) ≡ verdicts.Explained f.by f.ways) × Explaining plan old e f)
-        → explains w.number (verdict_of plan e o (reading e.octets)) ≡ false → Among w (left_at old (place_of o))
+        → ((f : Found) → o ≡ Some f → (verdict_of plan e o h.why (reading e.octets) ≡ verdicts.Explained f.by f.ways) × Explaining plan old e f)
+        → explains w.number (verdict_of plan e o h.why (reading e.octets)) ≡ false → Among w (left_at old (place_of o))
     by None says k = at
     by (Some f) says k =
         let s = says f refl in

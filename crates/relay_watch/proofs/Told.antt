@@ -19,7 +19,7 @@ use Rattle.relay_watch.specs.declared.verdict.Verdict.{Verdict}
 use Rattle.relay_watch.specs.declared.verdict.Verdict.TheVariants.{Explained}
 use Rattle.relay_watch.specs.declared.waiting.Waiting.{Waiting}
 use Rattle.relay_watch.proofs.Steps.{line_names, nothing_found, Begun, begun, among_before, among_after, new_after}
-use Rattle.relay_watch.proofs.Unanswered.{never}
+use Rattle.relay_watch.proofs.DueLemmas.{never}
 
 -- one that waited before the first event explains the message of this one
 pub record FromWaiting (plan : Network) (old : List Waiting) (e : Event) (by : ℕ) (ways : List Explanation) : Type 0 where

@@ -3,6 +3,8 @@ use Rattle.std.specs.Prelude.{◌≡◌, true, ℕ, List, [], ◌∷◌, Some, N
 use Rattle.std.proofs.Common.{refl}
 use Rattle.sccp_message.specs.Reading.{reading, message_in}
 use Rattle.sccp_layout.specs.Splitting.{parts_by}
+use Rattle.sccp_manage.specs.Statuses.{status as status_message}
+use Rattle.sccp_manage.specs.declared.status.StatusKind.TheVariants.{Test}
 use Rattle.sccp_address.specs.Reading.{address_of}
 use Rattle.plan_rules.specs.Rule.{rule}
 use Rattle.plan_rules.specs.declared.target.Target.TheVariants.{Relay, Final}
@@ -14,6 +16,7 @@ use Rattle.relay_watch.specs.declared.event.Event.{Event}
 use Rattle.relay_watch.specs.declared.found.Found.{Found}
 use Rattle.relay_watch.specs.declared.verdict.Verdict.TheVariants as verdicts
 use Rattle.relay_watch.specs.declared.waiting.Waiting.{Waiting}
+use Rattle.relay_watch.specs.declared.why.Why.TheVariants.{Again, NoArrival}
 
 -- Relay a at 1-0-2 has subsystem 8. It hands 49 to relay b at 1-0-3, else to subsystem 6 at 2-0-3.
 
@@ -60,7 +63,7 @@ arrives : begins plan (event 1 2049 2050 titled) (reading titled) ≡ Some (wait
 unfolding message_in parts_by address_of
 arrives = refl
 
-arrived : verdict_of plan (event 1 2049 2050 titled) None (reading titled) ≡ verdicts.Arrived
+arrived : verdict_of plan (event 1 2049 2050 titled) None NoArrival (reading titled) ≡ verdicts.Arrived
 unfolding message_in parts_by address_of
 arrived = refl
 
@@ -70,20 +73,20 @@ unfolding message_in parts_by address_of
 only_delivered = refl
 
 -- what relay a sends is explained, if an arrival is found
-sent : verdict_of plan (event 2 2050 2051 titled) (Some (found 0 1)) (reading titled) ≡ verdicts.Explained 1 []
+sent : verdict_of plan (event 2 2050 2051 titled) (Some (found 0 1)) NoArrival (reading titled) ≡ verdicts.Explained 1 []
 unfolding message_in parts_by address_of
 sent = refl
 
 -- otherwise it is management's, or its own user's, or unexplained
-by_management : verdict_of plan (event 2 2050 2049 status) None (reading status) ≡ verdicts.Management
+by_management : verdict_of plan (event 2 2050 2049 status) None NoArrival (reading status) ≡ verdicts.Management (Some (status_message Test 6 4097))
 unfolding message_in parts_by address_of
 by_management = refl
 
-by_user : verdict_of plan (event 2 2050 2049 numbered) None (reading numbered) ≡ verdicts.Own 8
+by_user : verdict_of plan (event 2 2050 2049 numbered) None NoArrival (reading numbered) ≡ verdicts.Own 8
 unfolding message_in parts_by address_of
 by_user = refl
 
-unexplained : verdict_of plan (event 2 2050 2051 titled) None (reading titled) ≡ verdicts.Unexplained
+unexplained : verdict_of plan (event 2 2050 2051 titled) None (Again 1) (reading titled) ≡ verdicts.Unexplained (Again 1)
 unfolding message_in parts_by address_of
 unexplained = refl
 

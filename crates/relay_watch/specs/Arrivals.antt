@@ -31,6 +31,16 @@ is_management a = option_map_or (λ ssn. a.by_ssn && (ssn == 1)) a.ssn false
 abbrev pub may_be_answered : Message → Address → Bool
 may_be_answered m a = if a.by_ssn then asks_for_return m && not (is_management a) else true
 
+-- A message that is not judged where it arrives: it is for management, or connection-oriented, or none at all.
+
+abbrev pub is_other_by : Option Address → Bool
+is_other_by None = true
+is_other_by (Some a) = is_management a
+
+abbrev pub is_other : Result Message DecodeFault → Bool
+is_other (Err fault) = true
+is_other (Ok m) = is_other_by (called_of m)
+
 -- the data of a message, none if its type has no data
 abbrev pub data_of : Message → List ℕ
 data_of m = unwrap_or (payload_of m) []

@@ -7,14 +7,18 @@ use Rattle.sccp_message.specs.declared.message.Message.{Message}
 use Rattle.sccp_message.specs.Reading.{reading}
 use Rattle.sccp_message.specs.Unitdata.{called_of}
 use Rattle.plan_model.specs.Network.{Network}
-use Rattle.relay_watch.specs.Arrivals.{source, target, begins, begins_at, joined, kept, given_up, given_if}
+use Rattle.relay_watch.specs.Arrivals.{source, target, is_management, is_other, begins, begins_at, joined, kept, given_up}
 use Rattle.relay_watch.specs.Reasons.{IsSearched}
-use Rattle.relay_watch.specs.Verdicts.{verdict_of, by_source}
+use Rattle.relay_watch.specs.Verdicts.{without_reason, of_sent, verdict_of, by_source}
+use Rattle.relay_watch.specs.Whys.{SaysWhy, IsWhyFrom, IsWhyOf}
+use Rattle.relay_watch.specs.declared.answered.Answered.{Answered}
 use Rattle.relay_watch.specs.declared.event.Event.{Event}
 use Rattle.relay_watch.specs.declared.found.Found.{Found}
 use Rattle.relay_watch.specs.declared.judged.Judged.{Judged}
 use Rattle.relay_watch.specs.declared.line.Line.{Line}
+use Rattle.relay_watch.specs.declared.verdict.Verdict.{Verdict}
 use Rattle.relay_watch.specs.declared.waiting.Waiting.{Waiting}
+use Rattle.relay_watch.specs.declared.why.Why.{Why}
 
 -- A reason is looked for if a relay of the plan sent the message, and the message is connectionless.
 
@@ -34,21 +38,50 @@ IsFound plan waiting e found (Ok m) = IsFoundBy plan waiting e m found (called_o
 abbrev pub place_of : Option Found → Option ℕ
 place_of found = option_map (λ f. f.place) found
 
+-- The verdict on a message with a called address, and why it is unexplained if it is: without an arrival that explains it, by what was
+-- found, and by the relay that sent it.
+
+pub record IsWithout (plan : Network) (waiting : List Waiting) (answered : List Answered) (node to : ℕ) (m : Message) (a : Address)
+    (v : Verdict) : Type 0 where
+  pub why : Why
+  pub is : v ≡ without_reason plan node m a why
+  pub says : SaysWhy plan waiting answered node to m v
+
+pub record IsOfSent (plan : Network) (waiting : List Waiting) (answered : List Answered) (node to : ℕ) (m : Message) (a : Address)
+    (found : Option Found) (v : Verdict) : Type 0 where
+  pub why : Why
+  pub is : v ≡ of_sent plan node m a found why
+  pub says : SaysWhy plan waiting answered node to m v
+
+pub record IsVerdict (plan : Network) (waiting : List Waiting) (answered : List Answered) (e : Event) (m : Message) (a : Address)
+    (found : Option Found) (place : Option ℕ) (v : Verdict) : Type 0 where
+  pub why : Why
+  pub is : v ≡ by_source plan e m a found why place
+  pub says : IsWhyFrom plan waiting answered e.destination m v place
+
 -- what is said of a message with a called address before anything changes
-pub record IsSaidAt (plan : Network) (waiting : List Waiting) (e : Event) (m : Message) (a : Address) (j : Judged) : Type 0 where
+pub record IsSaidAt (plan : Network) (waiting : List Waiting) (answered : List Answered) (e : Event) (m : Message) (a : Address) (j : Judged)
+    : Type 0 where
   pub found : Option Found
   pub search : IsFoundAt plan waiting e m found (source plan e)
-  pub verdict_is : j.verdict ≡ by_source plan e m a found (source plan e)
+  pub why : Why
+  pub verdict_is : j.verdict ≡ by_source plan e m a found why (source plan e)
+  pub says_why : IsWhyFrom plan waiting answered e.destination m j.verdict (source plan e)
   pub place_is : j.place ≡ place_of found
   pub begins_is : j.begins ≡ begins_at plan e m a (target plan e)
+  pub other_is : j.other ≡ is_management a
 
 -- the same of an event, by what reading gives
-pub record IsSaid (plan : Network) (waiting : List Waiting) (e : Event) (r : Result Message DecodeFault) (j : Judged) : Type 0 where
+pub record IsSaid (plan : Network) (waiting : List Waiting) (answered : List Answered) (e : Event) (r : Result Message DecodeFault)
+    (j : Judged) : Type 0 where
   pub found : Option Found
   pub search : IsFound plan waiting e found r
-  pub verdict_is : j.verdict ≡ verdict_of plan e found r
+  pub why : Why
+  pub verdict_is : j.verdict ≡ verdict_of plan e found why r
+  pub says_why : IsWhyOf plan waiting answered e r j.verdict
   pub place_is : j.place ≡ place_of found
   pub begins_is : j.begins ≡ begins plan e r
+  pub other_is : j.other ≡ is_other r
 
 -- The line of an event. A message that a relay sent is explained by the first of the waiting arrivals because of which the plan
 -- lets it send that message, and this one waits no more. Then the event itself begins to wait, if something may be sent because of
@@ -56,10 +89,7 @@ pub record IsSaid (plan : Network) (waiting : List Waiting) (e : Event) (r : Res
 pub record IsJudged (plan : Network) (old : List Waiting) (e : Event) (line : Line) (new : List Waiting) : Type 0 where
   pub found : Option Found
   pub search : IsFound plan old e found (reading e.octets)
-  pub verdict_is : line.verdict ≡ verdict_of plan e found (reading e.octets)
+  pub why : Why
+  pub verdict_is : line.verdict ≡ verdict_of plan e found why (reading e.octets)
   pub given_is : line.given_up ≡ given_up (joined old (place_of found) (begins plan e (reading e.octets)))
   pub left : new ≡ kept (joined old (place_of found) (begins plan e (reading e.octets)))
-
--- the line of what is said of an event
-abbrev pub line_if : List Waiting → Judged → Line
-line_if old j = record { verdict = j.verdict; given_up = given_if (old ++ option_to_list j.begins) j.place }

@@ -4,3 +4,8 @@ pub mod Reasons
 pub mod Verdicts
 pub mod Judging
 pub mod Runs
+pub mod Kept
+pub mod Keepings
+pub mod Whys
+pub mod Watching
+pub mod Settling

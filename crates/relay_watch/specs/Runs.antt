@@ -74,9 +74,9 @@ lacks_reason Connection = false
 lacks_reason Other = false
 lacks_reason Arrived = false
 lacks_reason (Explained by ways) = false
-lacks_reason Management = true
+lacks_reason (Management status) = true
 lacks_reason (Own ssn) = true
-lacks_reason Unexplained = true
+lacks_reason (Unexplained why) = true
 
 -- a line explains its message by the arrival with that number, or gives that one up
 abbrev pub explains : ℕ → Verdict → Bool

@@ -5,7 +5,10 @@ use Rattle.std.specs.Option.{option_and_then}
 use Rattle.sccp_address.specs.declared.address.Address.{Address}
 use Rattle.sccp_message.specs.declared.fault.DecodeFault.{DecodeFault}
 use Rattle.sccp_message.specs.declared.message.Message.{Message}
+use Rattle.sccp_message.specs.declared.message.Message.TheVariants.{Udt, Xudt, Ludt}
 use Rattle.sccp_message.specs.Unitdata.{called_of}
+use Rattle.sccp_manage.specs.Statuses.{status_of}
+use Rattle.sccp_manage.specs.declared.status.StatusMessage.{StatusMessage}
 use Rattle.plan_model.specs.Network.{Network, point_of}
 use Rattle.sccp_scrc.specs.Arriving.{subsystems_of}
 use Rattle.relay_ways.specs.Alike.{calling_of}
@@ -14,6 +17,7 @@ use Rattle.relay_watch.specs.declared.event.Event.{Event}
 use Rattle.relay_watch.specs.declared.found.Found.{Found}
 use Rattle.relay_watch.specs.declared.verdict.Verdict.{Verdict}
 use Rattle.relay_watch.specs.declared.verdict.Verdict.TheVariants as verdicts
+use Rattle.relay_watch.specs.declared.why.Why.{Why}
 
 -- no point code, or this one
 abbrev pub is_point : ℕ → Option ℕ → Bool
@@ -29,35 +33,42 @@ abbrev pub own_ssn : Network → ℕ → Address → Option ℕ
 own_ssn plan node calling =
     if calling.by_ssn && is_point (point_of plan node) calling.pc then option_and_then (equipped plan node) calling.ssn else None
 
-abbrev pub if_own : Option ℕ → Verdict
-if_own None = verdicts.Unexplained
-if_own (Some ssn) = verdicts.Own ssn
+abbrev pub if_own : Option ℕ → Why → Verdict
+if_own None why = verdicts.Unexplained why
+if_own (Some ssn) why = verdicts.Own ssn
+
+-- what a message for SCCP management says, if its type carries data of management
+abbrev pub said_by : Message → Option StatusMessage
+said_by (Udt class called calling payload) = status_of payload
+said_by (Xudt class hops called calling payload params) = status_of payload
+said_by (Ludt class hops called calling payload params) = status_of payload
+said_by m = None
 
 -- no arrival explains the message: management sent it, or a user of the relay, or it is unexplained
-abbrev pub without_reason : Network → ℕ → Message → Address → Verdict
-without_reason plan node m a =
-    if is_management a then verdicts.Management else if_own (option_and_then (own_ssn plan node) (calling_of m))
+abbrev pub without_reason : Network → ℕ → Message → Address → Why → Verdict
+without_reason plan node m a why =
+    if is_management a then verdicts.Management (said_by m) else if_own (option_and_then (own_ssn plan node) (calling_of m)) why
 
 -- of a message that the relay at this place sent
-abbrev pub of_sent : Network → ℕ → Message → Address → Option Found → Verdict
-of_sent plan node m a None = without_reason plan node m a
-of_sent plan node m a (Some f) = verdicts.Explained f.by f.ways
+abbrev pub of_sent : Network → ℕ → Message → Address → Option Found → Why → Verdict
+of_sent plan node m a None why = without_reason plan node m a why
+of_sent plan node m a (Some f) why = verdicts.Explained f.by f.ways
 
 -- of a message that no relay of the plan sent, by the relay that it is for
-abbrev pub of_unsent : Address → Option ℕ → Verdict
-of_unsent a None = verdicts.Other
-of_unsent a (Some node) = if is_management a then verdicts.Management else verdicts.Arrived
+abbrev pub of_unsent : Message → Address → Option ℕ → Verdict
+of_unsent m a None = verdicts.Other
+of_unsent m a (Some node) = if is_management a then verdicts.Management (said_by m) else verdicts.Arrived
 
-abbrev pub by_source : Network → Event → Message → Address → Option Found → Option ℕ → Verdict
-by_source plan e m a found None = of_unsent a (target plan e)
-by_source plan e m a found (Some node) = of_sent plan node m a found
+abbrev pub by_source : Network → Event → Message → Address → Option Found → Why → Option ℕ → Verdict
+by_source plan e m a found why None = of_unsent m a (target plan e)
+by_source plan e m a found why (Some node) = of_sent plan node m a found why
 
 -- by its called address; a message without one is connection-oriented
-abbrev pub by_called : Network → Event → Message → Option Found → Option Address → Verdict
-by_called plan e m found None = verdicts.Connection
-by_called plan e m found (Some a) = by_source plan e m a found (source plan e)
+abbrev pub by_called : Network → Event → Message → Option Found → Why → Option Address → Verdict
+by_called plan e m found why None = verdicts.Connection
+by_called plan e m found why (Some a) = by_source plan e m a found why (source plan e)
 
 -- by what reading gives
-abbrev pub verdict_of : Network → Event → Option Found → Result Message DecodeFault → Verdict
-verdict_of plan e found (Err fault) = verdicts.Undecodable fault
-verdict_of plan e found (Ok m) = by_called plan e m found (called_of m)
+abbrev pub verdict_of : Network → Event → Option Found → Why → Result Message DecodeFault → Verdict
+verdict_of plan e found why (Err fault) = verdicts.Undecodable fault
+verdict_of plan e found why (Ok m) = by_called plan e m found why (called_of m)

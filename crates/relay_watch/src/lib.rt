@@ -8,23 +8,41 @@
 //! wait, so the time for a message does not grow with the number of those before it.
 #![tactic(auto)]
 
+mod answered;
 mod arriving;
+mod counting;
+mod counts;
+mod ending;
 mod event;
 mod found;
+mod gone;
 mod judged;
 mod judging;
+mod keeping;
 mod laws;
 mod line;
+mod near;
+mod next;
 mod relays;
 mod searching;
+mod summary;
+mod tally;
+mod unanswered;
 mod verdict;
 mod verdicts;
 mod waiting;
 mod watch;
+mod why;
+mod whys;
 
+pub use counts::Counts;
 pub use event::Event;
 pub use laws::{explained_once, explained_truly, unanswered_truly, unexplained_truly};
 pub use line::Line;
+pub use summary::Summary;
+pub use tally::Tally;
+pub use unanswered::Unanswered;
 pub use verdict::Verdict;
 pub use waiting::Waiting;
 pub use watch::Watch;
+pub use why::Why;

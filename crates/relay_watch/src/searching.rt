@@ -15,7 +15,7 @@ use sccp_message::Message;
 use std::alloc::Global;
 
 /// Whether a message has the data of an arrival.
-fn has_data(arrival: &Waiting, sent: &Message) -> bool
+pub(crate) fn has_data(arrival: &Waiting, sent: &Message) -> bool
     ensures { result ≡ pointwise nat_eq arrival.now.payload (data_of sent.now) }
 {
     arrival.payload.as_slice() == data_of(sent)
@@ -23,7 +23,7 @@ fn has_data(arrival: &Waiting, sent: &Message) -> bool
 
 /// The ways in which the relay at this place sends a message to a point because of a waiting arrival. Since each message that it
 /// sends has the data of the arrival, another one needs no look at the plan.
-fn reasons(
+pub(crate) fn reasons(
     alloc: Global,
     plan: &Plan,
     node: u8,

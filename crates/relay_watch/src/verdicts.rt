@@ -1,20 +1,30 @@
 //! The verdict on a message, by what was found.
-ghost use Rattle.std.specs.Prelude.{◌≡◌, ◌<◌, length};
+ghost use Rattle.std.specs.Prelude.{◌≡◌, ◌<◌, false, length, IfOk, IfSome, unwrap_or};
+ghost use Rattle.std.specs.List.{All};
 ghost use Rattle.std.specs.Option.{option_and_then, option_copied};
 ghost use Rattle.relay_ways.specs.Alike.{calling_of};
 ghost use Rattle.relay_watch.specs.Arrivals.{source, target};
-ghost use Rattle.relay_watch.specs.Verdicts.{is_point, equipped, own_ssn, without_reason, of_sent, of_unsent, by_source};
-ghost use Rattle.relay_watch.specs.Judging.{place_of};
+ghost use Rattle.relay_watch.specs.Verdicts.{is_point, equipped, own_ssn, said_by, without_reason, of_unsent};
+ghost use Rattle.relay_watch.specs.Kept.{is_unexplained};
+ghost use Rattle.relay_watch.specs.Judging.{place_of, IsWithout, IsOfSent, IsVerdict};
+ghost use Rattle.relay_watch.specs.Whys.{IsOfWaiting};
+ghost use Rattle.relay_watch.specs.declared.verdict.Verdict.{Verdict};
+ghost use Rattle.relay_watch.specs.declared.why.Why.{Why};
 
+use crate::answered::Answered;
 use crate::arriving::is_management;
 use crate::event::Event;
 use crate::found::Found;
 use crate::relays::relay_at;
 use crate::verdict::Verdict;
+use crate::waiting::Waiting;
+use crate::whys::why;
 use plan_model::Plan;
 use sccp_address::Address;
-use sccp_base::PointCode;
+use sccp_base::{OutOfMemory, PointCode};
+use sccp_manage::StatusMessage;
 use sccp_message::Message;
+use std::alloc::Global;
 
 /// The calling address of a connectionless message (Q.713 section 3.5).
 fn calling(message: &Message) -> Option<&Address>
@@ -79,27 +89,64 @@ fn user(plan: &Plan, node: u8, message: &Message) -> Option<u8>
     }
 }
 
-/// The verdict on a message that the relay at this place sent and no arrival explains.
-fn without_reason(plan: &Plan, node: u8, message: &Message, address: &Address) -> Verdict
+/// What a message for SCCP management says, if its type carries data of management.
+fn said_by(message: &Message) -> Option<StatusMessage>
+    ensures { result ≡ said_by message.now }
+{
+    match message {
+        Message::Udt { payload, .. }
+        | Message::Xudt { payload, .. }
+        | Message::Ludt { payload, .. } => StatusMessage::read(payload.as_slice()),
+        _ => None,
+    }
+}
+
+/// The verdict on a message that management sent, or a user of the relay. `None` if the relay itself sent it.
+fn of_another(plan: &Plan, node: u8, message: &Message, address: &Address) -> Option<Verdict>
     requires { node < length plan.now.nodes }
-    ensures { result ≡ without_reason plan.now node message.now address.now }
+    ensures value { (why : Why) → unwrap_or result (Verdict.Unexplained why) ≡ without_reason plan.now node message.now address.now why }
+    ensures known { IfSome result (λ v. is_unexplained v ≡ false) }
 {
     if is_management(address) {
-        return Verdict::Management;
+        return Some(Verdict::Management(said_by(message)));
     }
     match user(plan, node, message) {
-        Some(ssn) => Verdict::Own(ssn),
-        None => Verdict::Unexplained,
+        Some(ssn) => Some(Verdict::Own(ssn)),
+        None => None,
+    }
+}
+
+/// The verdict on a message that the relay at this place sent and no arrival explains.
+fn without_reason(
+    alloc: Global,
+    plan: &Plan,
+    waiting: &[Waiting],
+    answered: &[Answered],
+    node: u8,
+    to: PointCode,
+    message: &Message,
+    address: &Address,
+) -> Result<Verdict, OutOfMemory>
+    requires node { node < length plan.now.nodes }
+    requires waits { All IsOfWaiting answered.now }
+    ensures { IfOk result (IsWithout plan.now waiting.now answered.now node to message.now address.now) }
+{
+    match of_another(plan, node, message, address) {
+        Some(verdict) => Ok(verdict),
+        None => {
+            let cause = why(alloc, plan, waiting, answered, node, to, message)?;
+            Ok(Verdict::Unexplained(cause))
+        }
     }
 }
 
 /// The verdict on a message that no relay of the plan sent.
-fn of_unsent(plan: &Plan, event: &Event, address: &Address) -> Verdict
-    ensures { result ≡ of_unsent address.now (target plan.now event.now) }
+fn of_unsent(plan: &Plan, event: &Event, message: &Message, address: &Address) -> Verdict
+    ensures { result ≡ of_unsent message.now address.now (target plan.now event.now) }
 {
     match relay_at(plan, event.destination) {
         Some(_) => if is_management(address) {
-            Verdict::Management
+            Verdict::Management(said_by(message))
         } else {
             Verdict::Arrived
         },
@@ -107,20 +154,33 @@ fn of_unsent(plan: &Plan, event: &Event, address: &Address) -> Verdict
     }
 }
 
+/// The verdict on a message that an arrival explains.
+fn of_found(found: Found) -> Verdict
+    ensures { result ≡ Verdict.Explained found.by found.ways }
+{
+    let Found { by, ways, .. } = found;
+    Verdict::Explained { by, ways }
+}
+
 /// The verdict on a message that the relay at this place sent.
 fn of_sent(
+    alloc: Global,
     plan: &Plan,
+    waiting: &[Waiting],
+    answered: &[Answered],
     node: u8,
+    to: PointCode,
     message: &Message,
     address: &Address,
     found: Option<Found>,
-) -> Verdict
-    requires { node < length plan.now.nodes }
-    ensures { result ≡ of_sent plan.now node message.now address.now found }
+) -> Result<Verdict, OutOfMemory>
+    requires node { node < length plan.now.nodes }
+    requires waits { All IsOfWaiting answered.now }
+    ensures { IfOk result (IsOfSent plan.now waiting.now answered.now node to message.now address.now found) }
 {
     match found {
-        Some(Found { by, ways, .. }) => Verdict::Explained { by, ways },
-        None => without_reason(plan, node, message, address),
+        Some(found) => Ok(of_found(found)),
+        None => without_reason(alloc, plan, waiting, answered, node, to, message, address),
     }
 }
 
@@ -136,19 +196,34 @@ pub(crate) fn place_of(found: &Option<Found>) -> Option<usize>
 
 /// The verdict on a connectionless message.
 pub(crate) fn verdict_by(
+    alloc: Global,
     plan: &Plan,
+    waiting: &[Waiting],
+    answered: &[Answered],
     event: &Event,
     message: &Message,
     address: &Address,
     found: Option<Found>,
-) -> Verdict
-    ensures { result ≡ by_source plan.now event.now message.now address.now found (source plan.now event.now) }
+) -> Result<Verdict, OutOfMemory>
+    requires { All IsOfWaiting answered.now }
+    ensures { IfOk result (IsVerdict plan.now waiting.now answered.now event.now message.now address.now found
+        (source plan.now event.now)) }
 {
     match relay_at(plan, event.origin) {
-        Some(node) => of_sent(plan, node, message, address, found),
+        Some(node) => of_sent(
+            alloc,
+            plan,
+            waiting,
+            answered,
+            node,
+            event.destination,
+            message,
+            address,
+            found,
+        ),
         None => {
             drop(found);
-            of_unsent(plan, event, address)
+            Ok(of_unsent(plan, event, message, address))
         }
     }
 }
