@@ -37,3 +37,5 @@ pub data Task : Type 0 where
   Margin : PlanFile → LossLimit → Task
   -- prints the lines of the capture of the second file, for the nodes of the plan of the first one
   Capture : PlanFile → List ℕ → Task
+  -- judges the messages of the second file, DATA messages one a line, against the plan of the first one
+  Conform : PlanFile → List ℕ → Task

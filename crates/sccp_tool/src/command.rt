@@ -5,6 +5,7 @@ ghost use Rattle.sccp_tool.specs.Parsed.{task_in};
 
 use crate::capture::capture_words;
 use crate::change::change_words;
+use crate::conform::conform_words;
 use crate::connect::{Calling, connect_words};
 use crate::covers::covers_words;
 use crate::cuts::cuts_words;
@@ -59,6 +60,8 @@ pub enum Command<'a> {
     Margin(PlanPath<'a>, Losses),
     /// To print the lines of the capture of the second file under the plan of the first one.
     Capture(PlanPath<'a>, &'a str),
+    /// To judge the messages of the second file against the plan of the first one.
+    Conform(PlanPath<'a>, &'a str),
 }
 
 /// What the words ask for, or none if they have none of the shapes. After the word `wide` a plan is read under the wide limits.
@@ -152,6 +155,8 @@ fn further_plan_command_of<'a>(
         Ok(import_words(limits, words))
     } else if name == "capture" {
         Ok(capture_words(limits, words))
+    } else if name == "conform" {
+        Ok(conform_words(limits, words))
     } else if name == "connect" {
         connect_words(alloc, limits, words)
     } else if name == "send-on" {
