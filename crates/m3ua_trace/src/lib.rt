@@ -13,4 +13,4 @@ mod lines;
 pub use import_error::ImportError;
 pub use imported::Imported;
 pub use importing::{fault_number, imported_payload, put_message};
-pub use lines::import;
+pub use lines::{import, octets_of_line};

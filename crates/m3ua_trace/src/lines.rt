@@ -26,8 +26,9 @@ fn held_octets(alloc: Global, number: u32, content: &[u8]) -> Result<Octets, Imp
     }
 }
 
-/// The octets of a line, none if it is empty, or its fault.
-fn octets_of_line(
+/// The octets of the word of hexadecimal digits in the line of that number, none if it is empty, or its fault, or want of memory.
+/// The octets of the line are those before its line feed, if one ended it.
+pub fn octets_of_line(
     alloc: Global,
     number: u32,
     octets: &[u8],

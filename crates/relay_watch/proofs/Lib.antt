@@ -5,11 +5,12 @@ mod Plain
 mod Reasoned
 mod Left
 mod Steps
-mod Told
-mod Once
+pub mod Told
+pub mod Once
 mod Waited
 mod Places
 mod Said
 mod Watched
 mod WhyLemmas
 mod KeptLemmas
+pub mod Agree

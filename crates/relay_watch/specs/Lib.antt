@@ -9,3 +9,4 @@ pub mod Keepings
 pub mod Whys
 pub mod Watching
 pub mod Settling
+pub mod Differing

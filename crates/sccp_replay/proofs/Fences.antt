@@ -36,7 +36,7 @@ use Rattle.sccp_work.specs.Questions.{Question, Reply, IsTrueOf}
 use Rattle.sccp_work.specs.Work.{Work, print, read, ask, judge, read_on, serve, answered, Ends, ComesToReading, BeginsWith}
 use Rattle.sccp_work.specs.declared.status.Status.{Status}
 use Rattle.sccp_work.specs.declared.status.Status.TheVariants.{Done, Refused, Usage, BadPlan, BadTrace, TooWide, TooLong, OtherNodes}
-use Rattle.sccp_work.specs.declared.status.Status.TheVariants.{BadCapture, NoMemory, ReadFault, WriteFault}
+use Rattle.sccp_work.specs.declared.status.Status.TheVariants.{BadCapture, Differs, NoMemory, ReadFault, WriteFault}
 use Rattle.sccp_replay.proofs.Holding.{Joins}
 use Rattle.sccp_replay.proofs.Parts.{all_back, all_push}
 
@@ -465,6 +465,7 @@ answers_within w v TooWide text b a i h = i.ends TooWide text h
 answers_within w v TooLong text b a i h = i.ends TooLong text h
 answers_within w v OtherNodes text b a i h = i.ends OtherNodes text h
 answers_within w v BadCapture text b a i h = i.ends BadCapture text h
+answers_within w v Differs text b a i h = i.ends Differs text h
 
 pub as_by_one : (c : Contents) (plan : PlanFile) (trace : List ℕ) (workers : ℕ) (s : Status) (text : List ℕ) (b a : Moment)
     → b.contents ≡ Some c

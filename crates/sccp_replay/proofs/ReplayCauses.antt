@@ -13,7 +13,7 @@ use Rattle.sccp_replay.specs.Trace.{lines_in, fault_in}
 use Rattle.sccp_work.specs.Verdict.{IsSafe, IsBad, IsWide}
 use Rattle.sccp_work.specs.declared.status.Status.{Status}
 use Rattle.sccp_work.specs.declared.status.Status.TheVariants.{Done, Refused, Usage, BadPlan, BadTrace, TooWide, TooLong, OtherNodes}
-use Rattle.sccp_work.specs.declared.status.Status.TheVariants.{BadCapture, NoMemory, ReadFault, WriteFault}
+use Rattle.sccp_work.specs.declared.status.Status.TheVariants.{BadCapture, Differs, NoMemory, ReadFault, WriteFault}
 use Rattle.sccp_work.proofs.LimitLemmas.{not_long}
 use Rattle.sccp_work.proofs.PlanLemmas.{not_both, same_plan}
 use Rattle.sccp_work.proofs.VerdictLemmas.{safe_or_bad}
@@ -80,6 +80,7 @@ done_must c plan trace TooWide h e = absurd (both c plan IsSurelySafe IsWide sur
 done_must c plan trace Usage h e = absurd e
 done_must c plan trace OtherNodes h e = absurd e
 done_must c plan trace BadCapture h e = absurd e
+done_must c plan trace Differs h e = absurd e
 done_must c plan trace NoMemory h e = absurd e
 done_must c plan trace ReadFault h e = absurd e
 done_must c plan trace WriteFault h e = absurd e
@@ -97,6 +98,7 @@ bad_trace_must c plan trace TooWide h e = absurd (both c plan IsSurelySafe IsWid
 bad_trace_must c plan trace Usage h e = absurd e
 bad_trace_must c plan trace OtherNodes h e = absurd e
 bad_trace_must c plan trace BadCapture h e = absurd e
+bad_trace_must c plan trace Differs h e = absurd e
 bad_trace_must c plan trace NoMemory h e = absurd e
 bad_trace_must c plan trace ReadFault h e = absurd e
 bad_trace_must c plan trace WriteFault h e = absurd e
@@ -118,6 +120,7 @@ too_long_must c plan trace TooWide (inr h) e = absurd (both c plan IsSurelySafe 
 too_long_must c plan trace Usage h e = absurd e
 too_long_must c plan trace OtherNodes h e = absurd e
 too_long_must c plan trace BadCapture h e = absurd e
+too_long_must c plan trace Differs h e = absurd e
 too_long_must c plan trace NoMemory h e = absurd e
 too_long_must c plan trace ReadFault h e = absurd e
 too_long_must c plan trace WriteFault h e = absurd e
@@ -135,6 +138,7 @@ bad_plan_must c plan trace TooWide h e = absurd (bad_or c plan IsWide e h)
 bad_plan_must c plan trace Usage h e = absurd e
 bad_plan_must c plan trace OtherNodes h e = absurd e
 bad_plan_must c plan trace BadCapture h e = absurd e
+bad_plan_must c plan trace Differs h e = absurd e
 bad_plan_must c plan trace NoMemory h e = absurd e
 bad_plan_must c plan trace ReadFault h e = absurd e
 bad_plan_must c plan trace WriteFault h e = absurd e
@@ -152,6 +156,7 @@ refused_must c plan trace BadPlan h e = absurd (bad_or c plan IsBad h e)
 refused_must c plan trace Usage h e = absurd e
 refused_must c plan trace OtherNodes h e = absurd e
 refused_must c plan trace BadCapture h e = absurd e
+refused_must c plan trace Differs h e = absurd e
 refused_must c plan trace NoMemory h e = absurd e
 refused_must c plan trace ReadFault h e = absurd e
 refused_must c plan trace WriteFault h e = absurd e

@@ -37,7 +37,7 @@ use Rattle.sccp_work.specs.Work.{Work, finish, print, read, read_on, judge, ask,
 use Rattle.sccp_work.specs.Work.{BeginsWith}
 use Rattle.sccp_work.specs.declared.status.Status.{Status}
 use Rattle.sccp_work.specs.declared.status.Status.TheVariants.{Done, Refused, Usage, BadPlan, BadTrace, TooWide, TooLong, OtherNodes}
-use Rattle.sccp_work.specs.declared.status.Status.TheVariants.{BadCapture, NoMemory, ReadFault, WriteFault}
+use Rattle.sccp_work.specs.declared.status.Status.TheVariants.{BadCapture, Differs, NoMemory, ReadFault, WriteFault}
 use Rattle.sccp_replay.proofs.Accounting.{lines_through, starts_behind}
 use Rattle.sccp_replay.proofs.Accounting as accounts
 use Rattle.sccp_replay.proofs.BatchRuns.{open_none}
@@ -169,8 +169,10 @@ begins_so z s acc told e = by s e told.so where
   by TooLong (inr e) so = cc
   by OtherNodes (inl e) so = cc
   by BadCapture (inl e) so = cc
+  by Differs (inl e) so = cc
   by OtherNodes (inr e) so = cc
   by BadCapture (inr e) so = cc
+  by Differs (inr e) so = cc
   by NoMemory (inl e) so = cc
   by NoMemory (inr e) so = cc
   by ReadFault (inl e) so = cc
@@ -195,6 +197,7 @@ why z octets there Refused h = absurd h
 why z octets there Usage h = absurd h
 why z octets there OtherNodes h = absurd h
 why z octets there BadCapture h = absurd h
+why z octets there Differs h = absurd h
 why z octets there BadPlan h = absurd h
 why z octets there TooWide h = absurd h
 why z octets there NoMemory h = absurd h
@@ -210,6 +213,7 @@ none_refused z TooLong h on = on
 none_refused z Usage h on = on
 none_refused z OtherNodes h on = on
 none_refused z BadCapture h on = on
+none_refused z Differs h on = on
 none_refused z BadPlan h on = on
 none_refused z NoMemory h on = on
 none_refused z ReadFault h on = on

@@ -2,6 +2,7 @@
 mod CaptureLemmas
 mod Causes
 mod ChangeLemmas
+mod ConformLemmas
 mod ConnectLemmas
 mod CoversLemmas
 mod CutsLemmas

@@ -7,17 +7,18 @@ use Rattle.sccp_work.specs.Moment.{Moment}
 use Rattle.sccp_tool.specs.Run.{work_of, Cause, SureCause, TellsAnswer, TellsJourneys, HasNamedFiles, UsageCause, ExactlyWhere, ComesWhere}
 use Rattle.sccp_tool.specs.Run.{RefusedWhere}
 use Rattle.sccp_tool.specs.Task.{Task, ShowHex, Show, Verify, Route, Replay, Load, Cuts, Import, Change, Connect, SendOn, Covers, Unused}
-use Rattle.sccp_tool.specs.Task.{Margin, Capture, Order}
+use Rattle.sccp_tool.specs.Task.{Margin, Capture, Order, Conform}
 use Rattle.sccp_work.specs.Verdict.{IsOnVerdict}
 use Rattle.sccp_work.specs.Work.{Work, Ends, HasFiles}
 use Rattle.sccp_work.specs.declared.status.Status.{Status}
 use Rattle.sccp_work.specs.declared.status.Status.TheVariants.{Done, Refused, Usage, BadPlan, BadTrace, TooWide, TooLong, OtherNodes}
-use Rattle.sccp_work.specs.declared.status.Status.TheVariants.{BadCapture, NoMemory, ReadFault, WriteFault}
+use Rattle.sccp_work.specs.declared.status.Status.TheVariants.{BadCapture, Differs, NoMemory, ReadFault, WriteFault}
 use Rattle.sccp_tool.proofs.Causes.{Causes}
 use Rattle.sccp_tool.proofs.CaptureLemmas.{capture_causes}
 use Rattle.sccp_tool.proofs.CutsLemmas.{cuts_causes}
 use Rattle.sccp_tool.proofs.ImportLemmas.{import_causes}
 use Rattle.sccp_tool.proofs.ChangeLemmas.{change_causes}
+use Rattle.sccp_tool.proofs.ConformLemmas.{conform_causes}
 use Rattle.sccp_tool.proofs.ConnectLemmas.{connect_causes}
 use Rattle.sccp_tool.proofs.CoversLemmas.{covers_causes}
 use Rattle.sccp_tool.proofs.LoadLemmas.{load_causes}
@@ -66,6 +67,7 @@ causes (Some (Unused file)) = unused_causes file
 causes (Some (Margin file losses)) = margin_causes file losses
 causes (Some (Capture plan file)) = capture_causes plan file
 causes (Some (Order old new)) = order_causes old new
+causes (Some (Conform plan file)) = conform_causes plan file
 
 if_some : {C : Type 0} (o : Option C) (P : C → Type 0) → ((c : C) → o ≡ Some c → P c) → IfSome o P
 if_some None P f = tt
@@ -162,6 +164,9 @@ module _ (task : Option Task) (s : Status) (b a : Moment) (o : Outcome (work_of 
 
   pub bad_capture_cause : IfSome b.contents (λ c. ComesWhere BadCapture s (Cause c task BadCapture) (SureCause c task BadCapture))
   bad_capture_cause = if_some b.contents _ (λ c told. comes BadCapture c told (λ e. e))
+
+  pub differs_cause : IfSome b.contents (λ c. ComesWhere Differs s (Cause c task Differs) (SureCause c task Differs))
+  differs_cause = if_some b.contents _ (λ c told. comes Differs c told (λ e. e))
 
   pub read_cause : s ≡ ReadFault → Rose b.read_faults a.read_faults
   read_cause e = (answers ReadFault e).0

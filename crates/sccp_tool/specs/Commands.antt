@@ -7,6 +7,7 @@ use Rattle.plan_model.specs.Limits.{standard, wide}
 use Rattle.plan_model.specs.declared.limits.Limits.{Limits}
 use Rattle.sccp_tool.specs.Replay.{replay_words}
 use Rattle.sccp_tool.specs.Capture.{capture_words}
+use Rattle.sccp_tool.specs.Conform.{conform_words}
 use Rattle.sccp_tool.specs.Covers.{covers_words}
 use Rattle.sccp_tool.specs.Cuts.{cuts_words}
 use Rattle.sccp_tool.specs.Import.{import_words}
@@ -29,6 +30,7 @@ further_plan_command_of limits name words =
     if bytes_eq name (codes "replay") then replay_words limits words
     else if bytes_eq name (codes "import") then import_words limits words
     else if bytes_eq name (codes "capture") then capture_words limits words
+    else if bytes_eq name (codes "conform") then conform_words limits words
     else if bytes_eq name (codes "connect") then connect_words limits words
     else if bytes_eq name (codes "send-on") then send_on_words limits words
     else None

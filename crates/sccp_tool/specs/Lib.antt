@@ -2,6 +2,7 @@
 pub mod Capture
 pub mod Change
 pub mod Commands
+pub mod Conform
 pub mod Connect
 pub mod Covers
 pub mod Import

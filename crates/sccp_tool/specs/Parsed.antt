@@ -4,7 +4,7 @@ use Rattle.sccp_tool.specs.Task.{Task}
 use Rattle.sccp_tool.specs.Task as spec
 use Rattle.sccp_tool.specs.declared.command.Command.{Command}
 use Rattle.sccp_tool.specs.declared.command.Command.TheVariants.{ShowHex, Show, Verify, Route, Replay, Load, Cuts, Import, Change, Connect}
-use Rattle.sccp_tool.specs.declared.command.Command.TheVariants.{SendOn, Covers, Unused, Margin, Capture, Order}
+use Rattle.sccp_tool.specs.declared.command.Command.TheVariants.{SendOn, Covers, Unused, Margin, Capture, Order, Conform}
 
 abbrev pub task_in : Option Command → Option Task
 task_in None = None
@@ -24,3 +24,4 @@ task_in (Some (Unused file)) = Some (spec.Unused file)
 task_in (Some (Margin file losses)) = Some (spec.Margin file losses.limit)
 task_in (Some (Capture plan file)) = Some (spec.Capture plan file.now)
 task_in (Some (Order old new)) = Some (spec.Order old new)
+task_in (Some (Conform plan file)) = Some (spec.Conform plan file.now)

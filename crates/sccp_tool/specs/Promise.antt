@@ -9,7 +9,7 @@ use Rattle.sccp_work.specs.Moment.{Moment}
 use Rattle.sccp_work.specs.Work.{HasFiles}
 use Rattle.sccp_work.specs.declared.status.Status.{Status}
 use Rattle.sccp_work.specs.declared.status.Status.TheVariants.{Done, Refused, Usage, BadPlan, BadTrace, TooWide, TooLong, OtherNodes}
-use Rattle.sccp_work.specs.declared.status.Status.TheVariants.{BadCapture, ReadFault, WriteFault}
+use Rattle.sccp_work.specs.declared.status.Status.TheVariants.{BadCapture, Differs, ReadFault, WriteFault}
 
 -- of a call with this task, if any, that gave this answer, between these two moments
 pub record Promise (task : Option Task) (given : Status) (before after : Moment) : Type 0 where
@@ -17,7 +17,7 @@ pub record Promise (task : Option Task) (given : Status) (before after : Moment)
   pub outcome : Outcome (work_of task) given before after
   -- what the text says of a plan, of two plans, or of a file of DATA messages
   pub tells : IfSome before.contents (λ c. TellsAnswer c task given before.taken after.taken)
-  -- the journey of each message of a replay, or the lines of a capture
+  -- the journey of each message of a replay, the lines of a capture, or what is said of messages that are judged
   pub journeys : IfSome before.contents (λ c. TellsJourneys c task given before.taken after.taken)
   -- the cause of each answer
   pub done : IfSome before.contents (λ c. ComesWhere Done given (Cause c task Done) (SureCause c task Done))
@@ -29,6 +29,7 @@ pub record Promise (task : Option Task) (given : Status) (before after : Moment)
   pub too_long : IfSome before.contents (λ c. ComesWhere TooLong given (Cause c task TooLong) (SureCause c task TooLong))
   pub other_nodes : IfSome before.contents (λ c. ComesWhere OtherNodes given (Cause c task OtherNodes) (SureCause c task OtherNodes))
   pub bad_capture : IfSome before.contents (λ c. ComesWhere BadCapture given (Cause c task BadCapture) (SureCause c task BadCapture))
+  pub differs : IfSome before.contents (λ c. ComesWhere Differs given (Cause c task Differs) (SureCause c task Differs))
   pub read_fault : given ≡ ReadFault → Rose before.read_faults after.read_faults
   pub write_fault : given ≡ WriteFault → Rose before.write_faults after.write_faults
   -- sound files that have each file which the work may read do not fail

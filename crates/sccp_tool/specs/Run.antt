@@ -5,6 +5,7 @@ use Rattle.sccp_io.specs.Files.{Contents}
 use Rattle.sccp_replay.specs.Account.{TellsReplay}
 use Rattle.sccp_tool.specs.Capture.{capture_work, CaptureCause, CaptureTells}
 use Rattle.sccp_tool.specs.Change.{change_work, ChangeCause, ChangeSure, ChangeTells}
+use Rattle.sccp_tool.specs.Conform.{conform_work, ConformCause, ConformTells}
 use Rattle.sccp_tool.specs.Connect.{connect_work}
 use Rattle.sccp_tool.specs.Covers.{covers_work, CoversCause, CoversSure, CoversTells}
 use Rattle.sccp_tool.specs.Cuts.{cuts_work, CutsCause}
@@ -22,7 +23,7 @@ use Rattle.sccp_tool.specs.SendOn.{send_on_work, SendOnTells}
 use Rattle.sccp_tool.specs.Show.{show_work, ShowCause}
 use Rattle.sccp_tool.specs.ShowHex.{show_hex_work, ShowHexCause}
 use Rattle.sccp_tool.specs.Task.{Task, ShowHex, Show, Verify, Route, Replay, Load, Cuts, Import, Change, Connect, SendOn, Covers, Unused}
-use Rattle.sccp_tool.specs.Task.{Margin, Capture, Order}
+use Rattle.sccp_tool.specs.Task.{Margin, Capture, Order, Conform}
 use Rattle.sccp_tool.specs.Texts.{usage}
 use Rattle.sccp_replay.specs.Trace.{lines_in}
 use Rattle.sccp_tool.specs.Unused.{unused_work, UnusedCause, UnusedSure, UnusedTells}
@@ -49,6 +50,7 @@ work_of (Some (Unused file)) = unused_work file
 work_of (Some (Margin file losses)) = margin_work file losses
 work_of (Some (Capture plan file)) = capture_work plan file
 work_of (Some (Order old new)) = order_work old new
+work_of (Some (Conform plan file)) = conform_work plan file
 
 -- words of no shape
 abbrev pub UsageCause : Status → Type 0
@@ -74,6 +76,7 @@ Cause c (Some (Unused file)) answer = UnusedCause (Some c) file answer
 Cause c (Some (Margin file losses)) answer = MarginCause (Some c) file losses answer
 Cause c (Some (Capture plan file)) answer = CaptureCause (Some c) plan file answer
 Cause c (Some (Order old new)) answer = OrderCause (Some c) old new answer
+Cause c (Some (Conform plan file)) answer = ConformCause (Some c) plan file answer
 
 -- if this holds, the answer is given, but for a fault or want of memory before it
 abbrev pub SureCause : Contents → Option Task → Status → Type 0
@@ -106,12 +109,14 @@ TellsAnswer c (Some (Order old new)) given taken taken' = OrderTells (Some c) ol
 TellsAnswer c task given taken taken' = Unit {0}
 
 -- What the sink took of a replay gives the bound of the first plan and, of each message that was routed, its whole journey. Of a
--- capture it is the lines of the whole capture.
+-- capture it is the lines of the whole capture. Of a file that is judged it is a true line for each of its messages.
 abbrev pub TellsJourneys : Contents → Option Task → Status → Option (List ℕ) → Option (List ℕ) → Type 0
 TellsJourneys c (Some (Replay plan trace workers)) given taken taken' =
     (text : List ℕ) × (taken' ≡ append_known taken text) × TellsReplay c plan trace workers given text
 TellsJourneys c (Some (Capture plan file)) given taken taken' =
     (text : List ℕ) × (taken' ≡ append_known taken text) × CaptureTells c plan file given text
+TellsJourneys c (Some (Conform plan file)) given taken taken' =
+    (text : List ℕ) × (taken' ≡ append_known taken text) × ConformTells c plan file given text
 TellsJourneys c task given taken taken' = Unit {0}
 
 -- each file is there that the words name, or that a line of the trace names as a later plan
@@ -129,6 +134,7 @@ HasNamedFiles c (Some (Unused file)) = IsThere c file.name
 HasNamedFiles c (Some (Margin file losses)) = IsThere c file.name
 HasNamedFiles c (Some (Capture plan file)) = IsThere c plan.name × IsThere c file
 HasNamedFiles c (Some (Order old new)) = IsThere c old.name × IsThere c new.name
+HasNamedFiles c (Some (Conform plan file)) = IsThere c plan.name × IsThere c file
 HasNamedFiles c task = Unit {0}
 
 -- this answer is given exactly if the cause holds, but for a fault or want of memory before it

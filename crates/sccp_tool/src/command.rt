@@ -5,6 +5,7 @@ ghost use Rattle.sccp_tool.specs.Parsed.{task_in};
 
 use crate::capture::capture_words;
 use crate::change::change_words;
+use crate::conform::conform_words;
 use crate::connect::{Calling, connect_words};
 use crate::covers::covers_words;
 use crate::cuts::cuts_words;
@@ -62,6 +63,8 @@ pub enum Command<'a> {
     Capture(PlanPath<'a>, &'a str),
     /// To give an order in which relays can be given the second of the plans of these files, the old one and the new one.
     Order(PlanPath<'a>, PlanPath<'a>),
+    /// To judge the messages of the second file against the plan of the first one.
+    Conform(PlanPath<'a>, &'a str),
 }
 
 /// What the words ask for, or none if they have none of the shapes. After the word `wide` a plan is read under the wide limits.
@@ -157,6 +160,8 @@ fn further_plan_command_of<'a>(
         Ok(import_words(limits, words))
     } else if name == "capture" {
         Ok(capture_words(limits, words))
+    } else if name == "conform" {
+        Ok(conform_words(limits, words))
     } else if name == "connect" {
         connect_words(alloc, limits, words)
     } else if name == "send-on" {

@@ -7,7 +7,8 @@
 //! covered title uses is listed. Of each cover it is said how many points can be lost before one of its titles is stopped. A trace
 //! of traffic and failures is replayed over the plan (Q.714 sections 2 to 5). A connection is made over it and released (Q.714
 //! section 3). What leaves a relay is printed, a long message in segments (Q.714 section 4.1). Of two plans it is said whether
-//! relays may hold either, and in which order relays can be given the second one.
+//! relays may hold either, and in which order relays can be given the second one. Of captured messages it is said which of them the
+//! plan has its relays send.
 //!
 //! A load is made from a number, and what becomes of its messages is counted.
 //!
@@ -20,6 +21,7 @@ mod answer;
 mod capture;
 mod change;
 mod command;
+mod conform;
 mod connect;
 mod covers;
 mod cuts;

@@ -10,6 +10,7 @@ ghost use Rattle.sccp_tool.specs.Run.{work_of};
 use crate::capture::capture;
 use crate::change::change;
 use crate::command::{Command, parse};
+use crate::conform::conform;
 use crate::connect::connect;
 use crate::covers::covers;
 use crate::cuts::cuts;
@@ -33,7 +34,7 @@ use std::sync::Wait;
 use std::thread::Threads;
 
 const USAGE: &[u8] =
-    b"usage: show-hex HEX | show FILE | verify PLAN | route PLAN NODE SELECTOR SSN DIGITS | replay PLAN TRACE WORKERS | load NUMBER SIZE WORKERS | cuts HEX | change OLD NEW | connect PLAN NODE FROM SELECTOR SSN DIGITS HEX | send-on PLAN NODE ORIGIN SIZE HEX | import PLAN FILE | covers PLAN | unused PLAN | margin PLAN LOSSES [subsystems] | capture PLAN FILE | order OLD NEW | wide COMMAND\n";
+    b"usage: show-hex HEX | show FILE | verify PLAN | route PLAN NODE SELECTOR SSN DIGITS | replay PLAN TRACE WORKERS | load NUMBER SIZE WORKERS | cuts HEX | change OLD NEW | connect PLAN NODE FROM SELECTOR SSN DIGITS HEX | send-on PLAN NODE ORIGIN SIZE HEX | import PLAN FILE | covers PLAN | unused PLAN | margin PLAN LOSSES [subsystems] | capture PLAN FILE | order OLD NEW | conform PLAN FILE | wide COMMAND\n";
 
 const READ_FAULT: &[u8] = b"read fault\n";
 
@@ -127,6 +128,7 @@ fn obey<R: Threads + Wait + Sync, G: Gate + Sync, F: Files, K: Sink>(
         Command::Margin(file, losses) => margin(alloc, file, losses, files, out),
         Command::Capture(plan, file) => capture(alloc, plan, file, files, out),
         Command::Order(old, new) => order(alloc, old, new, files, out),
+        Command::Conform(plan, file) => conform(alloc, plan, file, files, out),
     }
 }
 

@@ -3,6 +3,7 @@ pub mod AcceptedPlan
 pub mod Accepting
 pub mod Ending
 pub mod Limit
+pub mod Judgement
 pub mod LineFault
 pub mod Moment
 pub mod Numbers

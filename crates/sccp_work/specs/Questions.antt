@@ -1,5 +1,5 @@
 -- What a work asks of plans, and which replies are true.
-use Rattle.std.specs.Prelude.{ℕ}
+use Rattle.std.specs.Prelude.{ℕ, List}
 use Rattle.plan_change.specs.Changes.{IsLawfulChange}
 use Rattle.plan_change.specs.declared.answer.Change.{Change}
 use Rattle.plan_margin.specs.Margins.{IsMargin}
@@ -13,6 +13,8 @@ use Rattle.plan_unused.specs.Surveys.{IsLawfulSurvey}
 use Rattle.plan_unused.specs.declared.survey.Survey.{Survey}
 use Rattle.plan_verify.specs.Lawful.{IsLawful}
 use Rattle.plan_verify.specs.declared.verdict.Verdict.{Verdict}
+use Rattle.relay_watch.specs.declared.event.Event.{Event}
+use Rattle.sccp_work.specs.Judgement.{Judgement, IsHeard}
 
 pub data Question : Type 0 where
   -- is the plan safe?
@@ -25,6 +27,8 @@ pub data Question : Type 0 where
   margin_of : Network → LossKinds → ℕ → ℕ → Question
   -- in which order can relays be given the second of two plans?
   order_of : Network → Network → Question
+  -- which of these messages does the plan have its relays send?
+  judgement_of : Network → List Event → Question
 
 abbrev pub Reply : Question → Type 0
 Reply (verdict_on plan) = Verdict
@@ -32,6 +36,7 @@ Reply (mixture_of old new) = Change
 Reply (survey_of plan) = Survey
 Reply (margin_of plan kinds number losses) = Margin
 Reply (order_of old new) = Order
+Reply (judgement_of plan events) = Judgement
 
 -- a plan, and a verdict that is true of it
 abbrev pub IsJudged : Network → Verdict → Type 0
@@ -60,3 +65,4 @@ IsTrueOf (mixture_of old new) change = IsCompared old new change
 IsTrueOf (survey_of plan) survey = IsSurveyed plan survey
 IsTrueOf (margin_of plan kinds number losses) margin = IsMeasured plan kinds number losses margin
 IsTrueOf (order_of old new) order = IsOrdered old new order
+IsTrueOf (judgement_of plan events) judgement = IsHeard plan events judgement

@@ -2,11 +2,12 @@
 use Rattle.std.specs.Prelude.{ℕ}
 use Rattle.sccp_work.specs.declared.status.Status.{Status}
 use Rattle.sccp_work.specs.declared.status.Status.TheVariants.{Done, Refused, Usage, BadPlan, BadTrace, TooWide, TooLong, OtherNodes, BadCapture}
-use Rattle.sccp_work.specs.declared.status.Status.TheVariants.{NoMemory, ReadFault, WriteFault}
+use Rattle.sccp_work.specs.declared.status.Status.TheVariants.{NoMemory, ReadFault, WriteFault, Differs}
 
 abbrev pub number_of : Status → ℕ
 number_of Done = 0
 number_of Refused = 1
+number_of Differs = 2
 number_of Usage = 64
 number_of BadPlan = 65
 number_of BadTrace = 66

@@ -9,6 +9,8 @@ pub enum Status {
     Done = 0,
     /// The plan has a bad route.
     Refused = 1,
+    /// A relay sent a message that the plan does not have it send because of what arrived.
+    Differs = 2,
     /// The words have none of the shapes.
     Usage = 64,
     /// The plan's text does not read.

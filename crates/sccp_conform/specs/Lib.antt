@@ -1,0 +1,5 @@
+-- The definitions of this crate, one file a subject.
+pub mod Items
+pub mod Meaning
+pub mod Reports
+pub mod Steps

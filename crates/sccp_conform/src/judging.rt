@@ -1,0 +1,200 @@
+//! The judgement on a text.
+ghost use Rattle.std.specs.Prelude.{◌≡◌, ◌++◌, IfOk, OnOk};
+ghost use Rattle.relay_watch.specs.Kept.{summary_of};
+ghost use Rattle.sccp_conform.specs.Items.{items_of};
+ghost use Rattle.sccp_conform.specs.Reports.{refused_text, point_text, empty_text, status_for, text_work};
+ghost use Rattle.sccp_conform.specs.Reports.{IsReport, IsAnswerTo};
+ghost use Rattle.sccp_conform.specs.Steps.{PutsItem, PutsItems, Reports};
+ghost use Rattle.sccp_conform.specs.declared.item.Item.TheVariants.{Seen};
+ghost use Rattle.sccp_work.specs.Ending.{Works};
+ghost use Rattle.sccp_work.specs.LineFault.{bad_line};
+ghost use Rattle.sccp_work.specs.Moment.{Moment, with_sink};
+ghost use Rattle.sccp_work.specs.declared.status.Status.TheVariants.{BadTrace};
+ghost use Rattle.watch_text.specs.Summaries.{summary_text};
+
+use crate::item::Item;
+use crate::reading::items_of;
+use crate::report::Report;
+use m3ua_trace::ImportError;
+use plan_model::Plan;
+use relay_watch::{Event, Summary, Watch};
+use sccp_base::{Octets, OutOfMemory};
+use sccp_io::Sink;
+use sccp_report::Text;
+use sccp_work::{Status, Stop, bad_line, print_last};
+use std::alloc::Global;
+use trace_text::LineFault;
+use watch_text::{put_line, put_summary};
+
+/// Appends that a line is not a DATA message, with the number of the fault.
+#[tactic(auto, unfolding(crate::specs::Reports::refused_text))]
+fn put_refused(text: &mut Text, number: u32, fault: u8) -> Result<(), OutOfMemory>
+    ensures { OnOk result (text.new ≡ text.old ++ refused_text number fault) }
+{
+    text.put(b"# line ")?;
+    text.put_number(number)?;
+    text.put(b" refused ")?;
+    text.put_number(u32::from(fault))?;
+    text.put(b"\n")
+}
+
+/// Appends that a line has a point code of more than 14 bits.
+#[tactic(auto, unfolding(crate::specs::Reports::point_text))]
+fn put_point(text: &mut Text, number: u32) -> Result<(), OutOfMemory>
+    ensures { OnOk result (text.new ≡ text.old ++ point_text number) }
+{
+    text.put(b"# line ")?;
+    text.put_number(number)?;
+    text.put(b" point\n")
+}
+
+/// Appends that a line has no octets for SCCP.
+#[tactic(auto, unfolding(crate::specs::Reports::empty_text))]
+fn put_empty(text: &mut Text, number: u32) -> Result<(), OutOfMemory>
+    ensures { OnOk result (text.new ≡ text.old ++ empty_text number) }
+{
+    text.put(b"# line ")?;
+    text.put_number(number)?;
+    text.put(b" empty\n")
+}
+
+/// Judges a message, and appends the text of its line.
+fn put_event(
+    text: &mut Text,
+    plan: &Plan,
+    watch: &mut Watch,
+    event: &Event,
+) -> Result<(), OutOfMemory>
+    ensures { OnOk result (PutsItem plan.now (Seen event.now) watch.old watch.new text.old text.new) }
+{
+    let line = watch.judge(plan, event)?;
+    let put = put_line(text, plan, None, event, &line);
+    drop(line);
+    put
+}
+
+/// Appends the text of an item; a message is judged.
+fn put_item(text: &mut Text, plan: &Plan, watch: &mut Watch, item: &Item) -> Result<(), OutOfMemory>
+    ensures { OnOk result (PutsItem plan.now item.now watch.old watch.new text.old text.new) }
+{
+    match item {
+        Item::Seen(event) => put_event(text, plan, watch, event),
+        Item::Refused(number, fault) => put_refused(text, *number, *fault),
+        Item::OtherPoint(number) => put_point(text, *number),
+        Item::NoOctets(number) => put_empty(text, *number),
+        Item::Nothing => Ok(()),
+    }
+}
+
+/// Appends the text of items in their order.
+fn put_items(
+    text: &mut Text,
+    plan: &Plan,
+    watch: &mut Watch,
+    items: &[Item],
+) -> Result<(), OutOfMemory>
+    ensures { OnOk result (PutsItems plan.now items.now watch.old watch.new text.old text.new) }
+{
+    for item in items {
+        put_item(text, plan, watch, item)?;
+    }
+    Ok(())
+}
+
+/// The answer on what the relays did in all.
+fn status_of(summary: &Summary) -> Status
+    ensures { result ≡ status_for summary.now.unexplained }
+{
+    if summary.unexplained == 0 {
+        Status::Done
+    } else {
+        Status::Differs
+    }
+}
+
+/// Appends what the relays did in all, and gives the answer.
+fn finish(text: &mut Text, plan: &Plan, watch: Watch) -> Result<Status, OutOfMemory>
+    ensures text { OnOk result (text.new ≡ text.old ++ summary_text plan.now (summary_of watch)) }
+    ensures status { IfOk result (λ status. status ≡ status_for (summary_of watch).unexplained) }
+{
+    let summary = watch.finish()?;
+    let status = status_of(&summary);
+    let put = put_summary(text, plan, &summary);
+    drop(summary);
+    put?;
+    Ok(status)
+}
+
+/// Judges items, and appends the whole text. The answer is the status.
+fn put_report(
+    alloc: Global,
+    text: &mut Text,
+    plan: &Plan,
+    items: &[Item],
+) -> Result<Status, OutOfMemory>
+    ensures { IfOk result (λ status. Reports plan.now items.now text.old text.new status) }
+{
+    let mut watch = Watch::new(alloc, plan)?;
+    match put_items(text, plan, &mut watch, items) {
+        Ok(()) => finish(text, plan, watch),
+        Err(refused) => {
+            drop(watch);
+            Err(refused)
+        }
+    }
+}
+
+/// The report on items.
+fn report(alloc: Global, plan: &Plan, items: &[Item]) -> Result<Report, OutOfMemory>
+    ensures { IfOk result (IsReport plan.now items.now) }
+{
+    let mut text = Text::new(alloc);
+    let status = put_report(alloc, &mut text, plan, items)?;
+    Ok(Report {
+        status,
+        text: text.into_octets(),
+    })
+}
+
+/// The report on a line that has a fault.
+fn bad_report(alloc: Global, fault: LineFault) -> Result<Report, OutOfMemory>
+    ensures { IfOk result (λ r. (r.status ≡ BadTrace) × (r.text ≡ bad_line fault)) }
+{
+    let text = bad_line(alloc, fault)?;
+    Ok(Report {
+        status: Status::BadTrace,
+        text: Octets::from_vec(text),
+    })
+}
+
+/// The report on a text.
+fn answer(alloc: Global, plan: &Plan, text: &[u8]) -> Result<Report, OutOfMemory>
+    ensures { IfOk result (IsAnswerTo plan.now (items_of text.now)) }
+{
+    match items_of(alloc, text) {
+        Ok(items) => {
+            let report = report(alloc, plan, items.as_slice());
+            drop(items);
+            report
+        }
+        Err(ImportError::Line(fault)) => bad_report(alloc, fault),
+        Err(ImportError::Memory) => Err(OutOfMemory),
+    }
+}
+
+/// Prints what is reported of a text under a plan. Nothing is printed before the whole text is read and judged. No file is read, so
+/// the clause holds whatever the files show.
+pub fn print_report<K: Sink>(
+    alloc: Global,
+    plan: &Plan,
+    text: &[u8],
+    out: &mut K,
+) -> Result<Status, Stop>
+    ensures { (any : Moment) → Works (text_work plan.now text.now) result
+        (with_sink any K.taken K.faults out.old) (with_sink any K.taken K.faults out.new) }
+{
+    // The call ensures that the plan is sound, which the clause needs.
+    let _nodes = plan.nodes();
+    let report = answer(alloc, plan, text)?;
+    print_last(out, report.text.as_slice(), report.status)
+}
