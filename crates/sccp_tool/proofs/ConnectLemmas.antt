@@ -10,7 +10,7 @@ use Rattle.sccp_work.specs.PlanFile.{PlanFile}
 use Rattle.sccp_work.specs.Plans.{HasPlan}
 use Rattle.sccp_replay.specs.ReplayEnds.{ReplayTells}
 use Rattle.sccp_tool.specs.Task.{Connect}
-use Rattle.sccp_work.specs.Verdict.{IsSafe, IsBad, IsWide}
+use Rattle.sccp_work.specs.Verdict.{IsSafe, IsBad, IsWide, IsOnVerdict}
 use Rattle.sccp_tool.specs.Verify.{VerifyCause, VerifySure}
 use Rattle.sccp_work.specs.Work.{answered, Ends}
 use Rattle.sccp_work.specs.Writing.{Writes}
@@ -19,6 +19,7 @@ use Rattle.sccp_work.specs.declared.status.Status.{Status}
 use Rattle.sccp_work.specs.declared.status.Status.TheVariants.{Done, Refused, Usage, BadPlan, TooWide, TooLong}
 use Rattle.sccp_work.specs.declared.stop.Stop.{Stop}
 use Rattle.sccp_tool.proofs.Causes.{Causes}
+use Rattle.sccp_tool.proofs.ConnectTold.{connect_told}
 use Rattle.sccp_work.proofs.AcceptingLemmas.{Judged, Ends-judged, judged_tells, accepted_files}
 use Rattle.sccp_work.proofs.PlanLemmas.{PlanEnds, long, bad, good, Ends-with_plan, if_long, if_bad, at_plan, plan_files}
 use Rattle.sccp_work.proofs.VerdictLemmas.{on_verdict}
@@ -81,8 +82,10 @@ connect_causes file calling = record {
   usage = λ contents text h. absurd (only contents file Usage text (plan_ends contents file calling Usage text h));
   always = λ c t s text cause h. always c file t s text cause (plan_ends (Some c) file calling s text h);
   refused = λ c s text cause h. refused c file s text cause (plan_ends (Some c) file calling s text h);
-  tells = λ c s text taken taken' is ends. λ given. tells c file s text taken taken' is
-      (plan_ends (Some c) file calling s text (ends (on_verdict s given))) given;
+  tells = λ c s text taken taken' is ends. (
+    λ given. tells c file s text taken taken' is (plan_ends (Some c) file calling s text (ends (on_verdict s given))) given,
+    λ done. connect_told (Some c) file calling s text taken taken' is (ends (subst IsOnVerdict (sym done) tt)) done,
+  );
   journeys = λ c s b a is o. tt;
   files = λ c there. plan_files c file (connect_judged calling)
       (λ plan. accepted_files c [] plan (λ accepted. answered (Done, connect_text plan calling)) (λ accepted. tt)) there;

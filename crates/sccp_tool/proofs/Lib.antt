@@ -4,6 +4,7 @@ mod Causes
 mod ChangeLemmas
 mod ConformLemmas
 mod ConnectLemmas
+mod ConnectTold
 mod CoversLemmas
 mod CutsLemmas
 mod ImportLemmas

@@ -1,7 +1,9 @@
 -- The command that makes one connection over the relays of a plan.
-use Rattle.std.specs.Prelude.{ℕ, ◌==◌, ◌&&◌, ◌%◌, Bool, List, [], ◌∷◌, ◌++◌, codes, length, Option, Some, None, is_some, option_and_then}
+use Rattle.std.specs.Prelude.{◌≡◌, ◌<◌, ◌≤◌, ◌^◌, ℕ, ◌==◌, ◌&&◌, ◌%◌, Bool, List, [], ◌∷◌, ◌++◌, codes, length, Option, Some, None, is_some, option_and_then}
 use Rattle.std.specs.Prelude.{option_map, if◌then◌else◌}
 use Rattle.std.specs.List.{flat_map, position}
+use Rattle.std.specs.Io.KnownBytes.{append_known}
+use Rattle.chain_call.specs.Answered.{AllowsEnds, spot_called}
 use Rattle.chain_call.specs.Course.{beginning}
 use Rattle.chain_call.specs.Steps.{outcome}
 use Rattle.chain_call.specs.declared.call.Call.{Call}
@@ -10,7 +12,13 @@ use Rattle.chain_call.specs.declared.outcome.Outcome.TheVariants.{Unsettled, Una
 use Rattle.chain_call.specs.declared.outcome.Through.{Through}
 use Rattle.chain_world.specs.Kept.{kept}
 use Rattle.plan_model.specs.declared.limits.Limits.{Limits}
-use Rattle.plan_model.specs.Network.{Network, has_name, has_point}
+use Rattle.plan_model.specs.Covered.{Covered, IsAllowed}
+use Rattle.plan_model.specs.Network.{Network, IsPlan, has_name, has_point}
+use Rattle.plan_model.specs.Verdicts.{Safe}
+use Rattle.plan_model.specs.declared.spot.Spot.{Spot}
+use Rattle.sccp_address.specs.Written.{IsTitle}
+use Rattle.sccp_address.specs.declared.address.Title.TheVariants.{Global}
+use Rattle.sccp_io.specs.Files.{Contents}
 use Rattle.sccp_base.specs.Text.{point_code_of}
 use Rattle.sccp_message.specs.declared.cause.CauseTable.TheVariants.{Refusal}
 use Rattle.sccp_report.specs.Fields.{cause_line}
@@ -20,13 +28,14 @@ use Rattle.trace_text.specs.Forms.{file_name}
 use Rattle.trace_text.specs.Hex.{hex_word}
 use Rattle.sccp_work.specs.Accepting.{if_accepted}
 use Rattle.sccp_work.specs.PlanFile.{PlanFile, plan_file}
-use Rattle.sccp_work.specs.Plans.{with_plan}
+use Rattle.sccp_work.specs.Plans.{with_plan, HasPlan}
 use Rattle.sccp_tool.specs.Starts.{start_of}
 use Rattle.sccp_tool.specs.Task.{Task, Connect}
 use Rattle.sccp_tool.specs.Texts.{unknown_node}
 use Rattle.sccp_work.specs.Work.{Work, answered}
 use Rattle.sccp_tool.specs.declared.connect.Calling.{Calling}
 use Rattle.sccp_tool.specs.declared.start.Start.{Start}
+use Rattle.sccp_work.specs.declared.status.Status.{Status}
 use Rattle.sccp_work.specs.declared.status.Status.TheVariants.{Done}
 
 -- ---- the words
@@ -126,3 +135,38 @@ connect_judged calling plan = if_accepted [] plan (λ accepted. answered (Done, 
 -- the plan is read and verified first
 abbrev pub connect_work : PlanFile → Calling → Work
 connect_work file calling = with_plan file (λ plan. connect_judged calling plan)
+
+-- ---- what the text says
+
+-- What words give: a title that a message can have. No words are so long that they give more octets.
+pub record IsAsked (calling : Calling) : Type 0 where
+  pub title : IsTitle (Global calling.start.selector calling.start.digits)
+  pub ssn : calling.start.ssn < 256
+  pub few : length calling.octets ≤ 2 ^ 56
+
+-- the text of an open connection: the octets came out at both ends, and no section is left
+abbrev pub open_text : List (List ℕ) → ℕ → List ℕ → List ℕ
+open_text names far octets = opened_line names far ++ through_lines (Some (record { forth = octets; back = octets; sections = 0 }))
+
+-- the connection was refused, or it is open
+pub data TellsAnswered (octets text : List ℕ) : Type 0 where
+  is_refused : (cause : ℕ) → text ≡ cause_line (codes "refused ") Refusal cause → TellsAnswered octets text
+  is_open : (names : List (List ℕ)) (far : ℕ) → text ≡ open_text names far octets → TellsAnswered octets text
+
+-- it is open over at most this number of relays, to a point that the plan allows for the title
+abbrev pub TellsReached : Network → Spot → ℕ → List ℕ → List ℕ → Type 0
+TellsReached plan spot most octets text = (names : List (List ℕ)) × (far : ℕ) × (ssn : ℕ) × (length names ≤ most)
+    × IsAllowed plan spot far ssn × (text ≡ open_text names far octets)
+
+-- Of a call from an end to the relay at this place: it was answered. If a safe plan covers the title, and allows no place at a relay for
+-- it, the connection is open.
+abbrev pub TellsCall : Network → ℕ → Calling → List ℕ → Type 0
+TellsCall plan node calling text = TellsAnswered calling.octets text
+    × (IsPlan plan → Covered plan (spot_called plan (call_of plan node calling)) → AllowsEnds plan (spot_called plan (call_of plan node calling))
+    → (bound : ℕ) → Safe plan bound → bound ≤ 14 → TellsReached plan (spot_called plan (call_of plan node calling)) bound calling.octets text)
+
+-- the sink took a text that says so, if the words name a relay and a point that no relay has
+abbrev pub ConnectTells : Option Contents → PlanFile → Calling → Status → Option (List ℕ) → Option (List ℕ) → Type 0
+ConnectTells contents file calling given taken taken' = given ≡ Done → HasPlan contents file (λ plan. (text : List ℕ)
+    × (taken' ≡ append_known taken text) × (IsAsked calling → (node : ℕ) → position (has_name calling.start.node) plan.nodes ≡ Some node
+    → position (has_point calling.from) plan.nodes ≡ None → TellsCall plan node calling text))

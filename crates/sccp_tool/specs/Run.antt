@@ -6,7 +6,7 @@ use Rattle.sccp_replay.specs.Account.{TellsReplay}
 use Rattle.sccp_tool.specs.Capture.{capture_work, CaptureCause, CaptureTells}
 use Rattle.sccp_tool.specs.Change.{change_work, ChangeCause, ChangeSure, ChangeTells}
 use Rattle.sccp_tool.specs.Conform.{conform_work, ConformCause, ConformTells}
-use Rattle.sccp_tool.specs.Connect.{connect_work}
+use Rattle.sccp_tool.specs.Connect.{connect_work, ConnectTells}
 use Rattle.sccp_tool.specs.Covers.{covers_work, CoversCause, CoversSure, CoversTells}
 use Rattle.sccp_tool.specs.Cuts.{cuts_work, CutsCause}
 use Rattle.sccp_work.specs.Ending.{IsCut}
@@ -92,13 +92,15 @@ SureCause c task answer = Cause c task answer
 
 -- What the sink took gives the verdict on a plan, on each of its covers by itself, or those on two plans and the answer on their
 -- mixture, or on an order. Or it gives what no covered title of a plan uses, or the margins of its covers. Of DATA messages it is a
--- trace without a faulty line. Of a long message that leaves a relay it is octets that carry its data in segments. Of a load it is
--- counts that add up.
+-- trace without a faulty line. Of a long message that leaves a relay it is octets that carry its data in segments. Of a connection it
+-- is that it was refused, or that all octets came out at both ends and no section is left. Of a load it is counts that add up. Of
+-- captured messages it is a judgement that is true of them.
 abbrev pub TellsAnswer : Contents → Option Task → Status → Option (List ℕ) → Option (List ℕ) → Type 0
 TellsAnswer c (Some (Verify file)) given taken taken' = VerifyTells (Some c) file given taken taken'
 TellsAnswer c (Some (Replay plan trace workers)) given taken taken' = ReplayTells c plan given taken taken'
 TellsAnswer c (Some (Change old new)) given taken taken' = ChangeTells (Some c) old new given taken taken'
-TellsAnswer c (Some (Connect file calling)) given taken taken' = ReplayTells c file given taken taken'
+TellsAnswer c (Some (Connect file calling)) given taken taken' =
+    ReplayTells c file given taken taken' × ConnectTells (Some c) file calling given taken taken'
 TellsAnswer c (Some (Load number size workers)) given taken taken' = LoadTells number size given taken taken'
 TellsAnswer c (Some (Import plan file)) given taken taken' = ImportTells (Some c) plan file given taken taken'
 TellsAnswer c (Some (SendOn file incoming)) given taken taken' = SendOnTells (Some c) file incoming given taken taken'
