@@ -93,8 +93,7 @@ SureCause c task answer = Cause c task answer
 -- What the sink took gives the verdict on a plan, on each of its covers by itself, or those on two plans and the answer on their
 -- mixture, or on an order. Or it gives what no covered title of a plan uses, or the margins of its covers. Of DATA messages it is a
 -- trace without a faulty line. Of a long message that leaves a relay it is octets that carry its data in segments. Of a connection it
--- is that it was refused, or that all octets came out at both ends and no section is left. Of a load it is counts that add up. Of
--- captured messages it is a judgement that is true of them.
+-- is that it was refused, or that all octets came out at both ends and no section is left. Of a load it is counts that add up.
 abbrev pub TellsAnswer : Contents → Option Task → Status → Option (List ℕ) → Option (List ℕ) → Type 0
 TellsAnswer c (Some (Verify file)) given taken taken' = VerifyTells (Some c) file given taken taken'
 TellsAnswer c (Some (Replay plan trace workers)) given taken taken' = ReplayTells c plan given taken taken'
