@@ -86,10 +86,11 @@ call_told plan node calling asked named outer =
     let text : connect_text plan calling ≡ outcome_text o =
     ap (λ (x : Option ℕ). text_by plan calling x (is_some (position (has_point calling.from) plan.nodes))) named
     ∙ ap (λ (x : Option ℕ). text_by plan calling (Some node) (is_some x)) outer in
-    subst (TellsCall plan node calling) (sym text)
-    (outcome_told calling.octets o answer,
-    λ plan_is covered ends bound safe few. reached_told plan (spot_called plan call) bound calling.octets o answer
-    (is_reached plan call bound plan_is safe few is covered ends))
+    subst (TellsCall plan node calling) (sym text) (
+      outcome_told calling.octets o answer,
+      λ plan_is covered ends bound safe few. reached_told plan (spot_called plan call) bound calling.octets o answer
+          (is_reached plan call bound plan_is safe few is covered ends),
+    )
 
 -- ---- the text of the work
 
@@ -111,9 +112,21 @@ plan_told : (contents : Option Contents) (file : PlanFile) (calling : Calling) (
     → ConnectTells contents file calling s taken taken'
 plan_told contents file calling TooLong text taken taken' is (long h) = λ done. absurd (let z : TooLong ≡ Done = done in cc)
 plan_told contents file calling BadPlan text taken taken' is (bad h) = λ done. absurd (let z : BadPlan ≡ Done = done in cc)
-plan_told contents file calling s text taken taken' is (good h) = λ done.
-    (h.0, h.1, h.2, (h.3.0, h.3.1, (text, is, (λ asked node named outer.
-    subst (TellsCall h.3.0 node calling) (sym (h.3.2 done)) (call_told h.3.0 node calling asked named outer)))))
+plan_told contents file calling s text taken taken' is (good h) = λ done. (
+  h.0,
+  h.1,
+  h.2,
+  (
+    h.3.0,
+    h.3.1,
+    (
+      text,
+      is,
+      (λ asked node named outer.
+          subst (TellsCall h.3.0 node calling) (sym (h.3.2 done)) (call_told h.3.0 node calling asked named outer)),
+    ),
+  ),
+)
 
 pub connect_told : (contents : Option Contents) (file : PlanFile) (calling : Calling) (s : Status) (text : List ℕ) (taken taken' : Option (List ℕ))
     → taken' ≡ append_known taken text → Ends contents (connect_work file calling) s text → ConnectTells contents file calling s taken taken'
