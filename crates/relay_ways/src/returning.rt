@@ -1,5 +1,5 @@
 //! What a node would send because it returns an arrival: the service message itself, or what goes on of it at the node.
-ghost use Rattle.std.specs.Prelude.{◌≡◌, ◌<◌, ◌++◌, length, List, OnOk, Some, Ok};
+ghost use Rattle.std.specs.Prelude.{◌≡◌, ◌<◌, ◌++◌, [], length, List, OnOk, Some, Ok};
 ghost use Rattle.std.specs.List.{flat_map};
 ghost use Rattle.sccp_base.specs.declared.mark.Mark.{Mark};
 ghost use Rattle.sccp_message.specs.declared.message.Message.{Message};
