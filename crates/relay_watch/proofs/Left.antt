@@ -1,7 +1,7 @@
 -- What waits after a message, as the code changes the list.
 use Rattle.std.proofs.Common.{◌≡◌, ℕ, zero, suc, ◌+◌, ◌<◌, ◌≤◌, Bool, true, false, List, [], ◌∷◌, ◌++◌, length, take, drop, Option, Some}
 use Rattle.std.proofs.Common.{None, refl, sym, ◌∙◌, ap, subst, get_or, arith, length-append}
-use Rattle.std.specs.Prelude.{nat_lt, if◌then◌else◌, slice_get, IfSome, IfOk, OnOk, Result, Ok, Err}
+use Rattle.std.specs.Prelude.{nat_lt, if◌then◌else◌, slice_get, IfSome, Result, Ok, Err}
 use Rattle.std.specs.List.{All, remove}
 use Rattle.std.specs.Option.{option_to_list}
 use Rattle.std.proofs.lemmas.Bool.{ltb-false, lt-ltb, le-ltb, cond-true, cond-false}

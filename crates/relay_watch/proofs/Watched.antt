@@ -9,8 +9,8 @@ use Rattle.std.proofs.lemmas.List.Elements.{All-append, All-drop, All-get_or, Al
 use Rattle.std.proofs.lemmas.Option.{get_or_from_slice_get, slice_get_within}
 use Rattle.sccp_message.specs.Reading.{reading}
 use Rattle.plan_model.specs.Network.{Network}
-use Rattle.relay_watch.specs.Arrivals.{source, target, is_other, IsWaiting, AreWaiting}
-use Rattle.relay_watch.specs.Judging.{IsJudged, IsSaid, place_of}
+use Rattle.relay_watch.specs.Arrivals.{source, target, IsWaiting, AreWaiting}
+use Rattle.relay_watch.specs.Judging.{IsJudged, IsSaid}
 use Rattle.relay_watch.specs.Kept as keeping
 use Rattle.relay_watch.specs.Kept.{Kept, most_answered}
 use Rattle.relay_watch.specs.Settling.{IsSettled}

@@ -12,7 +12,7 @@ use Rattle.relay_watch.specs.Arrivals.{target}
 use Rattle.relay_watch.specs.Judging.{IsWithout, IsOfSent, IsVerdict}
 use Rattle.relay_watch.specs.Kept.{is_unexplained}
 use Rattle.relay_watch.specs.Reasons.{AreReasons}
-use Rattle.relay_watch.specs.Whys.{has_data, near_of, nearer, nearest, nearest_of, IsNoAnswered, IsAgain, SaysWhy}
+use Rattle.relay_watch.specs.Whys.{has_data, near_of, nearer, nearest_of, IsNoAnswered, IsAgain, SaysWhy}
 use Rattle.relay_watch.specs.Verdicts.{of_unsent}
 use Rattle.relay_watch.specs.declared.answered.Answered.{Answered}
 use Rattle.relay_watch.specs.declared.event.Event.{Event}

@@ -1,4 +1,4 @@
-use Rattle.std.proofs.Common.{◌≡◌, ◌+◌, ◌++◌, ◌∙◌, List, Option, drop, ap, sym, subst}
+use Rattle.std.proofs.Common.{◌+◌, ◌++◌, ◌∙◌, List, Option, drop, ap}
 use Rattle.std.specs.Prelude.{filter_map}
 use Rattle.std.specs.Option.{option_to_list}
 use Rattle.relay_watch.specs.Kept.{unanswered}
