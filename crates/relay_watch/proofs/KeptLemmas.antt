@@ -22,7 +22,8 @@ next_at : (named : List ℕ) (ws : List Waiting) (i : ℕ) (w : Waiting) → i <
     → option_to_list (unanswered named w) ++ filter_map (unanswered named) (drop (suc i) ws) ≡ filter_map (unanswered named) (drop i ws)
 next_at named [] i w inside is = absurd (omega (arith, inside))
 next_at named (v ∷ vs) zero w inside is =
-    subst (λ (z : Waiting). option_to_list (unanswered named w) ++ filter_map (unanswered named) vs ≡ filter_map (unanswered named) (z ∷ vs))
+    subst (λ (z : Waiting). option_to_list (unanswered named w) ++ filter_map (unanswered named) vs
+    ≡ filter_map (unanswered named) (z ∷ vs))
     is (consed named w vs (unanswered named w) refl)
 next_at named (v ∷ vs) (suc i) w inside is = next_at named vs i w (omega (arith, inside)) is
 

@@ -138,7 +138,8 @@ pub record Leaves (plan : Network) (old : List Waiting) (e : Event) (j : Judged)
   pub given_is : given ≡ given_up (joined old (place_of found) (begins plan e (reading e.octets)))
   pub left : next ≡ kept (joined old (place_of found) (begins plan e (reading e.octets)))
 
-pub leaves : (plan : Network) (old : List Waiting) (xs : List Answered) (e : Event) (j : Judged) (given : Option Waiting) (next : List Waiting)
+pub leaves : (plan : Network) (old : List Waiting) (xs : List Answered) (e : Event) (j : Judged) (given : Option Waiting)
+    (next : List Waiting)
     → AreWaiting old → (said : IsSaid plan old xs e (reading e.octets) j) → next ≡ ended (old ++ option_to_list j.begins) j.place
     → given ≡ given_if (old ++ option_to_list j.begins) j.place → Leaves plan old e j said.found given next
 leaves plan old xs e j given next are said left g =

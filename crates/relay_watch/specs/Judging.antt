@@ -59,7 +59,8 @@ pub record IsVerdict (plan : Network) (waiting : List Waiting) (answered : List 
   pub says : IsWhyFrom plan waiting answered e.destination m v place
 
 -- what is said of a message with a called address before anything changes
-pub record IsSaidAt (plan : Network) (waiting : List Waiting) (answered : List Answered) (e : Event) (m : Message) (a : Address) (j : Judged)
+pub record IsSaidAt (plan : Network) (waiting : List Waiting) (answered : List Answered) (e : Event) (m : Message) (a : Address)
+    (j : Judged)
     : Type 0 where
   pub found : Option Found
   pub search : IsFoundAt plan waiting e m found (source plan e)

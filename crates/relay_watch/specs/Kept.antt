@@ -1,5 +1,6 @@
 -- What is kept while messages are judged, and what one message changes of it.
-use Rattle.std.specs.Prelude.{ℕ, ◌+◌, ◌-◌, ◌^◌, min, Bool, true, false, not, ◌&&◌, ◌==◌, nat_lt, if◌then◌else◌, List, [], ◌∷◌, ◌++◌, length, map, drop}
+use Rattle.std.specs.Prelude.{ℕ, ◌+◌, ◌-◌, ◌^◌, min, Bool, true, false, not, ◌&&◌, ◌==◌, nat_lt, if◌then◌else◌, List, [], ◌∷◌, ◌++◌, length}
+use Rattle.std.specs.Prelude.{map, drop}
 use Rattle.std.specs.Prelude.{slice_get, replicate, Option, Some, None, option_map, set}
 use Rattle.std.specs.List.{filter_map, list_any, position, remove}
 use Rattle.std.specs.Option.{option_and_then, option_map_or}
