@@ -5,7 +5,7 @@ use Rattle.std.specs.Prelude.{slice_get, option_map, ◌==◌}
 use Rattle.std.specs.Option.{option_map_or}
 use Rattle.std.proofs.lemmas.Bool.{eqb-true, eq-eqb, cases_lt}
 use Rattle.std.proofs.Math.Nat.{min-eq_left, min-eq_right}
-use Rattle.relay_watch.specs.Kept.{changed, one_more, one_more_if}
+use Rattle.relay_watch.specs.Kept.{changed, one_more}
 use Rattle.relay_watch.specs.Totals.{stopped, is_here}
 
 -- ---- the item at a place

@@ -1,5 +1,5 @@
 -- The counts are those of the lines.
-use Rattle.std.proofs.Common.{◌≡◌, ℕ, zero, suc, ◌+◌, ◌-◌, ◌^◌, ◌<◌, ◌≤◌, min, Bool, true, false, cond, not, ◌&&◌, List, [], ◌∷◌, length, map}
+use Rattle.std.proofs.Common.{◌≡◌, ℕ, suc, ◌+◌, ◌-◌, ◌^◌, ◌<◌, ◌≤◌, min, Bool, true, false, cond, not, ◌&&◌, List, [], ◌∷◌, length}
 use Rattle.std.proofs.Common.{filter, zip, Option, Some, None, refl, sym, ◌∙◌, ap, ap₂, subst, arith, ⊎_elim}
 use Rattle.std.specs.Prelude.{slice_get, ◌==◌}
 use Rattle.std.proofs.lemmas.Bool.{cases_lt}
@@ -8,13 +8,12 @@ use Rattle.std.proofs.Math.Nat.{min-eq_left, min-eq_right}
 use Rattle.sccp_message.specs.Reading.{reading}
 use Rattle.plan_model.specs.Network.{Network}
 use Rattle.plan_model.specs.declared.node.Node.{Node}
-use Rattle.relay_ways.specs.declared.explanation.Explanation.{Explanation}
 use Rattle.relay_watch.specs.Arrivals.{source, target, is_other}
 use Rattle.relay_watch.specs.Kept.{Kept, nothing_kept, first_tally, changed, counted, one_unanswered, one_more, one_more_if, sent, arrived}
 use Rattle.relay_watch.specs.Kept.{counted_unanswered, left_relays, all_counted, all_unanswered, summary_of, is_plain, is_unexplained}
 use Rattle.relay_watch.specs.Totals.{how_many, stopped, is_from, is_for, is_unanswered, says_plain, says_failing, says_sent, says_other}
 use Rattle.relay_watch.specs.Totals.{AreCounts, AreTaken}
-use Rattle.relay_watch.specs.Watching.{IsWatched, AreWatched}
+use Rattle.relay_watch.specs.Watching.{AreWatched}
 use Rattle.relay_watch.specs.declared.counts.Counts.{Counts}
 use Rattle.relay_watch.specs.declared.event.Event.{Event}
 use Rattle.relay_watch.specs.declared.line.Line.{Line}
@@ -24,8 +23,8 @@ use Rattle.relay_watch.specs.declared.verdict.Verdict.{Verdict}
 use Rattle.relay_watch.specs.declared.verdict.Verdict.TheVariants.{Undecodable, Connection, Other, Arrived, Explained, Management, Own}
 use Rattle.relay_watch.specs.declared.verdict.Verdict.TheVariants.{Unexplained}
 use Rattle.relay_watch.proofs.CountsChanged.{length_changed, stopped_more}
-use Rattle.relay_watch.proofs.CountsTally.{all_tell, moved, moved_all, moved_counts, more_counts, unanswered_if, unanswered_counts, ended}
-use Rattle.relay_watch.proofs.CountsTally.{IsLeft, left_at_end, run_count, run_count_two, Tells}
+use Rattle.relay_watch.proofs.CountsTally.{all_tell, moved_all, moved_counts, more_counts, unanswered_if, unanswered_counts, ended}
+use Rattle.relay_watch.proofs.CountsTally.{IsLeft, left_at_end, run_count, run_count_two}
 use Rattle.relay_watch.proofs.CountsTaken.{are_taken, ended_taken}
 
 -- ---- the arrivals that are unanswered at the end
@@ -165,8 +164,15 @@ sum_of : {X : Type 0} (a b c d : X → Bool) (xs : List X)
     → length (filter a xs) ≡ length (filter b xs) + length (filter c xs) + length (filter d xs)
 sum_of a b c d [] each = omega arith
 sum_of a b c d (x ∷ xs) each =
-    omega (arith, filter_more (a x) x (filter a xs), filter_more (b x) x (filter b xs), filter_more (c x) x (filter c xs),
-    filter_more (d x) x (filter d xs), each x, sum_of a b c d xs each)
+    omega (
+      arith,
+      filter_more (a x) x (filter a xs),
+      filter_more (b x) x (filter b xs),
+      filter_more (c x) x (filter c xs),
+      filter_more (d x) x (filter d xs),
+      each x,
+      sum_of a b c d xs each,
+    )
 
 stopped_below : (n m : ℕ) → min n m < m → min n m ≡ n
 stopped_below n m h =
@@ -180,8 +186,14 @@ stopped_less n k h below =
 
 sum_parts : (s p f u : ℕ) → s ≡ p + f + u → stopped s < 2 ^ 64 - 1 → stopped s ≡ stopped p + stopped f + stopped u
 sum_parts s p f u sum h =
-    omega (arith, sum, stopped_less s s h (omega arith), stopped_less s p h (omega (arith, sum)),
-    stopped_less s f h (omega (arith, sum)), stopped_less s u h (omega (arith, sum)))
+    omega (
+      arith,
+      sum,
+      stopped_less s s h (omega arith),
+      stopped_less s p h (omega (arith, sum)),
+      stopped_less s f h (omega (arith, sum)),
+      stopped_less s u h (omega (arith, sum)),
+    )
 
 pub sent_sum : (plan : Network) (events : List Event) (lines : List Line) (left : Kept) (node : ℕ) (t : Tally)
     → AreWatched plan (nothing_kept plan) events lines left → slice_get (summary_of left).relays node ≡ Some t

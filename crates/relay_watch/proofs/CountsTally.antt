@@ -1,5 +1,5 @@
 -- What a run leaves of the tally of one relay, and the counts there.
-use Rattle.std.proofs.Common.{◌≡◌, ℕ, zero, suc, ◌+◌, ◌<◌, Bool, true, false, cond, not, ◌&&◌, List, [], ◌∷◌, length, map, filter}
+use Rattle.std.proofs.Common.{◌≡◌, ℕ, suc, ◌+◌, ◌<◌, Bool, true, false, cond, not, ◌&&◌, List, [], ◌∷◌, length, map, filter}
 use Rattle.std.proofs.Common.{Option, Some, None, refl, sym, ◌∙◌, ap, subst, arith, zip}
 use Rattle.std.specs.Prelude.{slice_get, option_map, ◌==◌}
 use Rattle.std.specs.List.{All, AllByRecursion}
@@ -13,8 +13,8 @@ use Rattle.relay_ways.specs.declared.condition.Condition.{Condition}
 use Rattle.relay_ways.specs.declared.explanation.Explanation.{Explanation}
 use Rattle.relay_watch.specs.Arrivals.{source, target, is_other}
 use Rattle.relay_watch.specs.Judging.{IsJudged}
-use Rattle.relay_watch.specs.Kept.{Kept, nothing_kept, first_tally, changed, counted, one_other, one_arrived, one_unanswered, one_more_if}
-use Rattle.relay_watch.specs.Kept.{sent, arrived, counted_unanswered, left_relays, all_counted, all_unanswered, summary_of, is_plain}
+use Rattle.relay_watch.specs.Kept.{Kept, nothing_kept, first_tally, changed, counted, one_unanswered, one_more_if}
+use Rattle.relay_watch.specs.Kept.{sent, arrived, counted_unanswered, left_relays, all_counted, all_unanswered, summary_of}
 use Rattle.relay_watch.specs.Kept.{is_unexplained}
 use Rattle.relay_watch.specs.Totals.{how_many, stopped, is_from, is_for, is_unanswered, says_plain, says_failing, says_sent, says_other}
 use Rattle.relay_watch.specs.Watching.{IsWatched, AreWatched}

@@ -1,10 +1,10 @@
 -- The markings that are counted of a relay are the least that meet the conditions of its lines.
-use Rattle.std.proofs.Common.{◌≡◌, ℕ, zero, suc, ◌+◌, ◌-◌, ◌^◌, ◌≤◌, min, Bool, true, false, cond, not, List, [], ◌∷◌, ◌++◌, length, map, zip}
-use Rattle.std.proofs.Common.{Option, Some, None, refl, sym, ◌∙◌, ap, subst, arith}
+use Rattle.std.proofs.Common.{◌≡◌, ℕ, suc, ◌+◌, ◌-◌, ◌^◌, ◌≤◌, Bool, true, false, not, List, [], ◌∷◌, ◌++◌, length, map}
+use Rattle.std.proofs.Common.{Option, Some, refl, sym, ◌∙◌, ap, arith}
 use Rattle.std.specs.Prelude.{slice_get, if◌then◌else◌, ◌&&◌}
-use Rattle.std.specs.List.{All, AllByRecursion, flat_map, list_all}
+use Rattle.std.specs.List.{All, AllByRecursion}
 use Rattle.std.proofs.lemmas.Bool.{and_from}
-use Rattle.std.proofs.lemmas.List.Elements.{All-from_recursion, All-head, All-nil, All-cons}
+use Rattle.std.proofs.lemmas.List.Elements.{All-from_recursion, All-head}
 use Rattle.std.proofs.Math.Nat.{min-le_left}
 use Rattle.sccp_base.specs.declared.mark.Mark.{Mark}
 use Rattle.sccp_message.specs.Reading.{reading}
@@ -13,10 +13,9 @@ use Rattle.relay_ways.specs.Conditions.{meets, is_possible, IsPossible, always, 
 use Rattle.relay_ways.specs.Markings.{begins, joined, markings_from, markings, AreMet, AreParts}
 use Rattle.relay_ways.specs.Settled.{settled}
 use Rattle.relay_ways.specs.declared.condition.Condition.{Condition}
-use Rattle.relay_ways.specs.declared.explanation.Explanation.{Explanation}
 use Rattle.relay_watch.specs.Arrivals.{is_other}
 use Rattle.relay_watch.specs.Kept.{Kept, nothing_kept, first_tally, all_unanswered, summary_of, one_more_if}
-use Rattle.relay_watch.specs.Least.{first_condition, told_of, told_conditions}
+use Rattle.relay_watch.specs.Least.{told_of, told_conditions}
 use Rattle.relay_watch.specs.Totals.{stopped, is_from, is_for, is_unanswered}
 use Rattle.relay_watch.specs.Watching.{AreWatched}
 use Rattle.relay_watch.specs.declared.event.Event.{Event}
@@ -27,7 +26,7 @@ use Rattle.relay_watch.specs.declared.verdict.Verdict.TheVariants.{Undecodable, 
 use Rattle.relay_watch.specs.declared.verdict.Verdict.TheVariants.{Unexplained}
 use Rattle.relay_watch.proofs.CountsChanged.{stopped_more}
 use Rattle.relay_watch.proofs.CountsLines.{ended_rest}
-use Rattle.relay_watch.proofs.CountsTally.{Tells, IsTold, AllTell, all_tell, moved, moved_all, sent_if, arrived_if, unanswered_if, left_at_end}
+use Rattle.relay_watch.proofs.CountsTally.{Tells, AllTell, all_tell, moved, moved_all, sent_if, arrived_if, unanswered_if, left_at_end}
 
 -- ---- one message
 
@@ -162,8 +161,12 @@ pub least : Least → (plan : Network) (events : List Event) (lines : List Line)
     → t.counts.markings ≤ length parts
 least law plan events lines left node t parts run at are =
     let n : ℕ = markings (told_conditions plan node events lines) in
-    omega (arith, markings_at_end plan events lines left node t run at, min-le_left n (2 ^ 64 - 1),
-    law (told_conditions plan node events lines) parts are)
+    omega (
+      arith,
+      markings_at_end plan events lines left node t run at,
+      min-le_left n (2 ^ 64 - 1),
+      law (told_conditions plan node events lines) parts are,
+    )
 
 -- A condition that a marking meets passes the test: together with the one that each marking meets, it needs one marking.
 met_possible : Least → (c : Condition) (M : List Mark) → meets M c ≡ true → is_possible c ≡ true

@@ -10,6 +10,7 @@ mod CountsTally
 mod CountsTaken
 mod CountsLines
 mod LeastCut
+mod LeastWorked
 pub mod Told
 pub mod Once
 mod Waited

@@ -10,7 +10,7 @@ use Rattle.relay_watch.specs.declared.line.Line.{Line}
 use Rattle.relay_watch.specs.declared.verdict.Verdict.{Verdict}
 use Rattle.relay_watch.specs.declared.verdict.Verdict.TheVariants.{Explained}
 
--- the condition of the first way that is told of a message
+-- the condition of the first way that a line gives
 abbrev pub first_condition : List Explanation → List Condition
 first_condition [] = []
 first_condition (w ∷ ws) = w.condition ∷ []
@@ -19,6 +19,6 @@ abbrev pub told_of : Verdict → List Condition
 told_of (Explained by ways) = first_condition ways
 told_of v = []
 
--- those of the messages that the relay at this place sent and that are explained, in their order
+-- the conditions of all explained messages that the relay at this place sent, each by its first way, in their order
 abbrev pub told_conditions : Network → ℕ → List Event → List Line → List Condition
 told_conditions plan node events lines = flat_map (λ m. if is_from plan node m.0 then told_of m.1.verdict else []) (zip events lines)

@@ -1,4 +1,4 @@
--- What is counted of a relay: how many messages of each kind there are, by their events and their lines.
+-- The counts of a relay: how many messages of each kind there are, by their events and their lines.
 use Rattle.std.specs.Prelude.{◌≡◌, ℕ, ◌+◌, ◌-◌, ◌^◌, min, Bool, true, false, not, ◌&&◌, ◌==◌, List, [], ◌∷◌, length, map, filter}
 use Rattle.std.specs.Prelude.{Option, Some, None, slice_get}
 use Rattle.std.specs.List.{zip}
@@ -21,11 +21,11 @@ use Rattle.relay_watch.specs.declared.verdict.Verdict.TheVariants.{Undecodable, 
 abbrev pub how_many : (Event → Line → Bool) → List Event → List Line → ℕ
 how_many kind events lines = length (filter (λ m. kind m.0 m.1) (zip events lines))
 
--- a count of so many; it stops at the end of its type
+-- the count of n messages: it stops at the end of its type
 abbrev pub stopped : ℕ → ℕ
 stopped n = min n (2 ^ 64 - 1)
 
--- ---- where
+-- ---- the relay
 
 abbrev pub is_here : ℕ → Option ℕ → Bool
 is_here node None = false
@@ -35,29 +35,29 @@ is_here node (Some place) = place == node
 abbrev pub is_from : Network → ℕ → Event → Bool
 is_from plan node e = is_here node (source plan e)
 
--- the message is for that relay
+-- the message is for the relay at this place
 abbrev pub is_for : Network → ℕ → Event → Bool
 is_for plan node e = is_here node (target plan e)
 
 -- ---- what the lines say
 
--- explained, and in one of the ways it is sent with nothing held
+-- explained, and the relay sends it with nothing held in one of the ways
 abbrev pub says_plain : Verdict → Bool
 says_plain (Explained by ways) = is_plain ways
 says_plain v = false
 
--- explained, and in each of the ways something must be held
+-- explained, and the relay must hold something in each of the ways
 abbrev pub says_failing : Verdict → Bool
 says_failing (Explained by ways) = not (is_plain ways)
 says_failing v = false
 
--- explained or unexplained: SCCP at the relay sent it on, or returned it
+-- explained or unexplained
 abbrev pub says_sent : Verdict → Bool
 says_sent (Explained by ways) = true
 says_sent (Unexplained why) = true
 says_sent v = false
 
--- management's, or of a user of the relay, or connection-oriented, or no message
+-- no message, connection-oriented, of management, or of a user of the relay
 abbrev pub says_other : Verdict → Bool
 says_other (Undecodable fault) = true
 says_other Connection = true
@@ -85,8 +85,8 @@ is_unanswered node (Some u) = u.node == node
 
 -- ---- the counts
 
--- The counts of the relay at this place. Others count where they are sent and where they arrive. Those of the unanswered arrivals
--- that are not in a line are told at the end.
+-- The counts of the relay at this place. `others` counts a message at the relay that sent it and at the relay that it is for. Of the
+-- unanswered arrivals some are in lines, and the last ones in none, since they still wait at the end.
 pub record AreCounts (plan : Network) (node : ℕ) (events : List Event) (lines : List Line) (last : List Unanswered) (c : Counts)
     : Type 0 where
   pub arrived_is : c.arrived ≡ stopped (how_many (λ e line. is_for plan node e && not (is_other (reading e.octets))) events lines)
@@ -99,11 +99,11 @@ pub record AreCounts (plan : Network) (node : ℕ) (events : List Event) (lines 
   pub others_is : c.others ≡ stopped (how_many (λ e line. is_from plan node e && says_other line.verdict) events lines
       + how_many (λ e line. is_for plan node e && is_other (reading e.octets)) events lines)
 
--- the count of a target, by the place of its row and its place there
+-- the count of the target at this place of that row
 abbrev pub count_at : List (List ℕ) → ℕ → ℕ → Option ℕ
 count_at taken row place = option_and_then (λ counts. slice_get counts place) (slice_get taken row)
 
--- how often the targets of the relay's rows were taken: a count for each target of each row
+-- How often each target of the relay's table was taken. There is a count for each target of each row.
 pub record AreTaken (plan : Network) (node : ℕ) (table : List Rule) (events : List Event) (lines : List Line) (taken : List (List ℕ))
     : Type 0 where
   pub shape : map (λ counts. length counts) taken ≡ map (λ r. length r.targets) table

@@ -12,9 +12,9 @@ ghost use Rattle.relay_watch.specs.declared.event.Event.{Event};
 ghost use Rattle.relay_watch.specs.declared.line.Line.{Line};
 ghost use Rattle.relay_watch.specs.declared.tally.Tally.{Tally};
 
-/// The markings that are counted of a relay are the least number, one after the other, under which it sends all its explained messages
-/// by the first way that is told of each. Whoever cuts the conditions of these ways, in the order of the messages, into parts each
-/// of which one marking meets, has no fewer parts. There is such a cut with as many parts, and the count stops at 2^64 - 1.
+/// The markings of a relay are the least number, one after the other, under which it sends its explained messages, each by the first
+/// way of its line. Whoever cuts the conditions of these ways, in the order of the messages, into parts each of which one marking
+/// meets, has no fewer parts. There is such a cut with as many parts as are counted, but a count stops at 2^64 - 1.
 pub fn markings_are_least()
     ensures least { (plan : Network) (events : List Event) (lines : List Line) (left : Kept) (node : ℕ) (t : Tally)
         (parts : List (List Condition))
@@ -28,8 +28,8 @@ pub fn markings_are_least()
     relay_ways::markings_are_least();
 }
 
-/// The counts are those of the lines: of each relay, of each target of its rows, and of all messages. A count stops at 2^64 - 1. If
-/// that of what a relay sent did not, it is the sum of the plain, the failing and the unexplained ones.
+/// The counts are those of the lines: of each relay, of each target of its table, and of all messages. A count stops at 2^64 - 1.
+/// Before that, the count of what a relay sent is the sum of the plain, the failing and the unexplained messages.
 pub fn counted_truly()
     ensures each { (plan : Network) (events : List Event) (lines : List Line) (left : Kept) (node : ℕ) (t : Tally)
         → AreWatched plan (nothing_kept plan) events lines left → slice_get (summary_of left).relays node ≡ Some t
