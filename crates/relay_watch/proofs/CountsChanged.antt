@@ -1,5 +1,7 @@
 -- A list in which the item at a place is changed, and counts that stop.
-use Rattle.std.proofs.Common.{◌≡◌, ℕ, zero, suc, ◌+◌, ◌-◌, ◌^◌, ◌<◌, ◌≤◌, min, Bool, true, false, List, [], ◌∷◌, length, map, Option, Some, None}
+use Rattle.std.proofs.Common.{◌≡◌, ℕ, zero, suc, ◌+◌, ◌-◌, ◌^◌, ◌<◌, ◌≤◌, min, Bool, true, false, List, [], ◌∷◌, length, map}
+use Rattle.std.proofs.Common.{Option, Some}
+use Rattle.std.proofs.Common.{None}
 use Rattle.std.proofs.Common.{refl, sym, ◌∙◌, ap, subst, arith, ⊎_elim, set, length-set}
 use Rattle.std.specs.Prelude.{slice_get, option_map, ◌==◌}
 use Rattle.std.specs.Option.{option_map_or}
@@ -53,7 +55,8 @@ changed_at {A} f (Some i) xs node = by (slice_get xs i) refl (i == node) refl wh
       (at_same xs i x (f x) e ∙ ap (option_map (only_if true f)) (sym e))
   by (Some x) e false h = at_other xs i node (f x) (differ i node h) ∙ unchanged f (slice_get xs node)
 
-map_set : {A B : Type 0} (v : A → B) (xs : List A) (i : ℕ) (x y : A) → slice_get xs i ≡ Some x → v y ≡ v x → map v (set xs i y) ≡ map v xs
+map_set : {A B : Type 0} (v : A → B) (xs : List A) (i : ℕ) (x y : A) → slice_get xs i ≡ Some x → v y ≡ v x
+    → map v (set xs i y) ≡ map v xs
 map_set v [] zero x y e h = refl
 map_set v [] (suc i) x y e h = refl
 map_set {A} {B} v (z ∷ xs) zero x y e h = let same : z ≡ x = cc in ap (λ (k : B). k ∷ map v xs) (h ∙ ap v (sym same))

@@ -9,9 +9,12 @@ use Rattle.sccp_message.specs.Reading.{reading}
 use Rattle.plan_model.specs.Network.{Network}
 use Rattle.plan_model.specs.declared.node.Node.{Node}
 use Rattle.relay_watch.specs.Arrivals.{source, target, is_other}
-use Rattle.relay_watch.specs.Kept.{Kept, nothing_kept, first_tally, changed, counted, one_unanswered, one_more, one_more_if, sent, arrived}
-use Rattle.relay_watch.specs.Kept.{counted_unanswered, left_relays, all_counted, all_unanswered, summary_of, is_plain, is_unexplained}
-use Rattle.relay_watch.specs.Totals.{how_many, stopped, is_from, is_for, is_unanswered, says_plain, says_failing, says_sent, says_other}
+use Rattle.relay_watch.specs.Kept.{Kept, nothing_kept, first_tally, changed, counted, one_unanswered, one_more, one_more_if, sent}
+use Rattle.relay_watch.specs.Kept.{arrived}
+use Rattle.relay_watch.specs.Kept.{counted_unanswered, left_relays, all_counted, all_unanswered, summary_of, is_plain}
+use Rattle.relay_watch.specs.Kept.{is_unexplained}
+use Rattle.relay_watch.specs.Totals.{how_many, stopped, is_from, is_for, is_unanswered, says_plain, says_failing, says_sent}
+use Rattle.relay_watch.specs.Totals.{says_other}
 use Rattle.relay_watch.specs.Totals.{AreCounts, AreTaken}
 use Rattle.relay_watch.specs.Watching.{AreWatched}
 use Rattle.relay_watch.specs.declared.counts.Counts.{Counts}
@@ -20,7 +23,8 @@ use Rattle.relay_watch.specs.declared.line.Line.{Line}
 use Rattle.relay_watch.specs.declared.tally.Tally.{Tally}
 use Rattle.relay_watch.specs.declared.unanswered.Unanswered.{Unanswered}
 use Rattle.relay_watch.specs.declared.verdict.Verdict.{Verdict}
-use Rattle.relay_watch.specs.declared.verdict.Verdict.TheVariants.{Undecodable, Connection, Other, Arrived, Explained, Management, Own}
+use Rattle.relay_watch.specs.declared.verdict.Verdict.TheVariants.{Undecodable, Connection, Other, Arrived, Explained, Management}
+use Rattle.relay_watch.specs.declared.verdict.Verdict.TheVariants.{Own}
 use Rattle.relay_watch.specs.declared.verdict.Verdict.TheVariants.{Unexplained}
 use Rattle.relay_watch.proofs.CountsChanged.{length_changed, stopped_more}
 use Rattle.relay_watch.proofs.CountsTally.{all_tell, moved_all, moved_counts, more_counts, unanswered_if, unanswered_counts, ended}
@@ -51,7 +55,8 @@ ended_count node (u ∷ us) t n is =
     next : Tally
     next = unanswered_if (u.node == node) t
 
-    by : (b : Bool) → ((k : ℕ) → next.counts.unanswered ≡ stopped k → (ended node us next).counts.unanswered ≡ stopped (k + length rest))
+    by : (b : Bool) → ((k : ℕ) → next.counts.unanswered ≡ stopped k
+        → (ended node us next).counts.unanswered ≡ stopped (k + length rest))
         → next.counts.unanswered ≡ one_more_if b t.counts.unanswered
         → (ended node us next).counts.unanswered ≡ stopped (n + length (cond b (u ∷ rest) rest))
     by true later h = later (suc n) (h ∙ ap (one_more_if true) is ∙ stopped_more n) ∙ ap stopped (omega arith)
@@ -64,7 +69,8 @@ plain_count : (plan : Network) (events : List Event) (lines : List Line) (left :
     (kind : Event → Line → Bool) → AreWatched plan (nothing_kept plan) events lines left
     → IsLeft plan node events lines (all_unanswered left) t
     → ((c : Counts) (k : ℕ) → count (record c { unanswered = k }) ≡ count c)
-    → ((e : Event) (line : Line) (t : Tally) → count (more_counts plan node e line t.so_far t.counts) ≡ one_more_if (kind e line) (count t.counts))
+    → ((e : Event) (line : Line) (t : Tally) → count (more_counts plan node e line t.so_far t.counts)
+    ≡ one_more_if (kind e line) (count t.counts))
     → ((relay : Node) → count (first_tally relay).counts ≡ stopped 0) → count t.counts ≡ stopped (how_many kind events lines)
 plain_count plan events lines left node t count kind run l keeps step first =
     ap (λ (x : Tally). count x.counts) l.is
@@ -107,12 +113,16 @@ are_counts plan events lines left node t run at =
     let l = left_at_end plan events lines left node t run at in
     record {
       arrived_is = plain_count plan events lines left node t (λ c. c.arrived)
-          (λ e line. is_for plan node e && not (is_other (reading e.octets))) run l (λ c k. refl) (λ e line x. refl) (λ relay. refl);
-      sent_is = plain_count plan events lines left node t (λ c. c.sent) (λ e line. is_from plan node e && says_sent line.verdict) run l
+          (λ e line. is_for plan node e && not (is_other (reading e.octets))) run l (λ c k. refl) (λ e line x. refl)
+          (λ relay. refl);
+      sent_is = plain_count plan events lines left node t (λ c. c.sent) (λ e line. is_from plan node e
+          && says_sent line.verdict) run l
           (λ c k. refl) (λ e line x. refl) (λ relay. refl);
-      plain_is = plain_count plan events lines left node t (λ c. c.plain) (λ e line. is_from plan node e && says_plain line.verdict) run l
+      plain_is = plain_count plan events lines left node t (λ c. c.plain) (λ e line. is_from plan node e
+          && says_plain line.verdict) run l
           (λ c k. refl) (λ e line x. refl) (λ relay. refl);
-      failing_is = plain_count plan events lines left node t (λ c. c.failing) (λ e line. is_from plan node e && says_failing line.verdict)
+      failing_is = plain_count plan events lines left node t (λ c. c.failing) (λ e line. is_from plan node e
+          && says_failing line.verdict)
           run l (λ c k. refl) (λ e line x. refl) (λ relay. refl);
       unexplained_is = plain_count plan events lines left node t (λ c. c.unexplained)
           (λ e line. is_from plan node e && is_unexplained line.verdict) run l (λ c k. refl) (λ e line x. refl) (λ relay. refl);
@@ -227,7 +237,8 @@ length_moved plan e line relays =
     ∙ length_changed (arrived (is_other (reading e.octets))) (target plan e) first
     ∙ length_changed (sent line.verdict) (source plan e) relays
 
-length_run : (plan : Network) (old : Kept) (events : List Event) (lines : List Line) (new : Kept) → AreWatched plan old events lines new
+length_run : (plan : Network) (old : Kept) (events : List Event) (lines : List Line) (new : Kept)
+    → AreWatched plan old events lines new
     → length new.relays ≡ length old.relays
 length_run plan old [] [] new run = ap (λ (k : Kept). length k.relays) run
 length_run plan old [] (line ∷ lines) new run = absurd run
@@ -247,7 +258,8 @@ events_run plan old [] [] new n run is = ap (λ (k : Kept). k.events) run ∙ is
 events_run plan old [] (line ∷ lines) new n run is = absurd run
 events_run plan old (e ∷ events) [] new n run is = absurd run
 events_run plan old (e ∷ events) (line ∷ lines) new n run is =
-    events_run plan run.0 events lines new (suc n) run.2 (run.1.events_are ∙ ap one_more is ∙ stopped_more n) ∙ ap stopped (omega arith)
+    events_run plan run.0 events lines new (suc n) run.2 (run.1.events_are ∙ ap one_more is ∙ stopped_more n)
+    ∙ ap stopped (omega arith)
 
 unexplained_run : (plan : Network) (old : Kept) (events : List Event) (lines : List Line) (new : Kept) (n : ℕ)
     → AreWatched plan old events lines new → old.unexplained ≡ stopped n
@@ -267,7 +279,8 @@ unexplained_run plan old (e ∷ events) (line ∷ lines) new n run is =
     by true h later = later (suc n) (h ∙ ap (one_more_if true) is ∙ stopped_more n) ∙ ap stopped (omega arith)
     by false h later = later n (h ∙ is)
 
-pub whole : (plan : Network) (events : List Event) (lines : List Line) (left : Kept) → AreWatched plan (nothing_kept plan) events lines left
+pub whole : (plan : Network) (events : List Event) (lines : List Line) (left : Kept)
+    → AreWatched plan (nothing_kept plan) events lines left
     → (length (summary_of left).relays ≡ length plan.nodes) × ((summary_of left).events ≡ stopped (length events))
     × ((summary_of left).unexplained ≡ stopped (how_many (λ e line. is_unexplained line.verdict) events lines))
 whole plan events lines left run = (

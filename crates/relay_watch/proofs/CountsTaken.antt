@@ -1,5 +1,6 @@
 -- How often the targets of a relay's rows were taken.
-use Rattle.std.proofs.Common.{◌≡◌, ℕ, zero, suc, ◌+◌, Bool, true, false, cond, ◌&&◌, List, [], ◌∷◌, length, map, filter, replicate, zip}
+use Rattle.std.proofs.Common.{◌≡◌, ℕ, zero, suc, ◌+◌, Bool, true, false, cond, ◌&&◌, List, [], ◌∷◌, length, map, filter, replicate}
+use Rattle.std.proofs.Common.{zip}
 use Rattle.std.proofs.Common.{Option, Some, None, refl, sym, ◌∙◌, ap, ap₂, arith}
 use Rattle.std.specs.Prelude.{slice_get, option_map, ◌==◌}
 use Rattle.std.specs.Option.{option_and_then}
@@ -18,7 +19,8 @@ use Rattle.relay_watch.specs.declared.line.Line.{Line}
 use Rattle.relay_watch.specs.declared.tally.Tally.{Tally}
 use Rattle.relay_watch.specs.declared.unanswered.Unanswered.{Unanswered}
 use Rattle.relay_watch.specs.declared.verdict.Verdict.{Verdict}
-use Rattle.relay_watch.specs.declared.verdict.Verdict.TheVariants.{Undecodable, Connection, Other, Arrived, Explained, Management, Own}
+use Rattle.relay_watch.specs.declared.verdict.Verdict.TheVariants.{Undecodable, Connection, Other, Arrived, Explained, Management}
+use Rattle.relay_watch.specs.declared.verdict.Verdict.TheVariants.{Own}
 use Rattle.relay_watch.specs.declared.verdict.Verdict.TheVariants.{Unexplained}
 use Rattle.relay_watch.proofs.CountsChanged.{only_if, changed_at, map_changed, length_changed, stopped_more}
 use Rattle.relay_watch.proofs.CountsTally.{moved, moved_all, sent_if, arrived_if, unanswered_if, ended}
@@ -151,7 +153,8 @@ run_taken plan node row place (e ∷ events) (line ∷ lines) t n is =
         → Counts (count_at (moved_all plan node events lines next).taken row place) (n + length (cond b ((e, line) ∷ rest) rest))
     by true h later = λ c at.
         later (suc n)
-        (λ k there. counts_more true (count_at t.taken row place) (count_at next.taken row place) n is h k there ∙ stopped_more n) c at
+        (λ k there. counts_more true (count_at t.taken row place) (count_at next.taken row place) n is h k there
+        ∙ stopped_more n) c at
         ∙ ap stopped (omega arith)
     by false h later = λ c at.
         later n (λ k there. counts_more false (count_at t.taken row place) (count_at next.taken row place) n is h k there) c at
@@ -163,7 +166,8 @@ zeros (suc n) (suc place) c at = zeros n place c at
 
 first_taken : (table : List Rule) (row place : ℕ) → Counts (count_at (map none_taken table) row place) 0
 first_taken table row place c at =
-    by (slice_get table row) (sym (ap (option_and_then (λ counts. slice_get counts place)) (slice_get-map none_taken table row)) ∙ at)
+    by (slice_get table row) (sym (ap (option_and_then (λ counts. slice_get counts place)) (slice_get-map none_taken table row))
+    ∙ at)
   where
     by : (o : Option Rule) → option_and_then (λ counts. slice_get counts place) (option_map none_taken o) ≡ Some c → c ≡ stopped 0
     by None h = absurd cc
@@ -211,6 +215,7 @@ are_taken plan node table events lines t first = record {
   shape = run_shape plan node events lines t ∙ ap lengths first ∙ first_shape table;
   each = λ row place count at.
       run_taken plan node row place events lines t 0
-      (λ c there. first_taken table row place c (sym (ap (λ (taken : List (List ℕ)). count_at taken row place) first) ∙ there)) count at
+      (λ c there. first_taken table row place c (sym (ap (λ (taken : List (List ℕ)). count_at taken row place) first)
+      ∙ there)) count at
       ∙ ap stopped (omega arith);
 }

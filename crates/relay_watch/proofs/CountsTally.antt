@@ -16,7 +16,8 @@ use Rattle.relay_watch.specs.Judging.{IsJudged}
 use Rattle.relay_watch.specs.Kept.{Kept, nothing_kept, first_tally, changed, counted, one_unanswered, one_more_if}
 use Rattle.relay_watch.specs.Kept.{sent, arrived, counted_unanswered, left_relays, all_counted, all_unanswered, summary_of}
 use Rattle.relay_watch.specs.Kept.{is_unexplained}
-use Rattle.relay_watch.specs.Totals.{how_many, stopped, is_from, is_for, is_unanswered, says_plain, says_failing, says_sent, says_other}
+use Rattle.relay_watch.specs.Totals.{how_many, stopped, is_from, is_for, is_unanswered, says_plain, says_failing, says_sent}
+use Rattle.relay_watch.specs.Totals.{says_other}
 use Rattle.relay_watch.specs.Watching.{IsWatched, AreWatched}
 use Rattle.relay_watch.specs.declared.counts.Counts.{Counts}
 use Rattle.relay_watch.specs.declared.event.Event.{Event}
@@ -24,7 +25,8 @@ use Rattle.relay_watch.specs.declared.line.Line.{Line}
 use Rattle.relay_watch.specs.declared.tally.Tally.{Tally}
 use Rattle.relay_watch.specs.declared.unanswered.Unanswered.{Unanswered}
 use Rattle.relay_watch.specs.declared.verdict.Verdict.{Verdict}
-use Rattle.relay_watch.specs.declared.verdict.Verdict.TheVariants.{Undecodable, Connection, Other, Arrived, Explained, Management, Own}
+use Rattle.relay_watch.specs.declared.verdict.Verdict.TheVariants.{Undecodable, Connection, Other, Arrived, Explained, Management}
+use Rattle.relay_watch.specs.declared.verdict.Verdict.TheVariants.{Own}
 use Rattle.relay_watch.specs.declared.verdict.Verdict.TheVariants.{Unexplained}
 use Rattle.relay_watch.proofs.CountsChanged.{only_if, changed_at, stopped_more}
 use Rattle.relay_watch.proofs.Steps.{line_names}
@@ -73,12 +75,14 @@ tells plan old e line new w = by line.verdict refl where
   by (Own ssn) is = tt
   by (Unexplained why) is = tt
 
-pub all_tell : (plan : Network) (old : Kept) (events : List Event) (lines : List Line) (new : Kept) → AreWatched plan old events lines new
+pub all_tell : (plan : Network) (old : Kept) (events : List Event) (lines : List Line) (new : Kept)
+    → AreWatched plan old events lines new
     → AllTell lines
 all_tell plan old [] [] new run = tt
 all_tell plan old [] (line ∷ lines) new run = absurd run
 all_tell plan old (e ∷ events) [] new run = absurd run
-all_tell plan old (e ∷ events) (line ∷ lines) new run = (tells plan old e line run.0 run.1, all_tell plan run.0 events lines new run.2)
+all_tell plan old (e ∷ events) (line ∷ lines) new run =
+    (tells plan old e line run.0 run.1, all_tell plan run.0 events lines new run.2)
 
 -- ---- the tally
 
@@ -124,7 +128,8 @@ counted_at relays None node = by (slice_get relays node) where
 counted_at relays (Some u) node = changed_at (counted one_unanswered) (Some u.node) relays node
 
 moved_at : (plan : Network) (e : Event) (line : Line) (relays : List Tally) (node : ℕ)
-    → slice_get (left_relays plan e line.verdict line.unanswered relays) node ≡ option_map (moved plan node e line) (slice_get relays node)
+    → slice_get (left_relays plan e line.verdict line.unanswered relays) node
+    ≡ option_map (moved plan node e line) (slice_get relays node)
 moved_at plan e line relays node =
     let other : Bool = is_other (reading e.octets) in
     let first : List Tally = changed (sent line.verdict) (source plan e) relays in
@@ -136,7 +141,8 @@ moved_at plan e line relays node =
   where
     by : (o : Option Tally)
         → option_map (unanswered_if (is_unanswered node line.unanswered))
-        (option_map (arrived_if (is_for plan node e) (is_other (reading e.octets))) (option_map (sent_if (is_from plan node e) line.verdict) o))
+        (option_map (arrived_if (is_for plan node e) (is_other (reading e.octets)))
+        (option_map (sent_if (is_from plan node e) line.verdict) o))
         ≡ option_map (moved plan node e line) o
     by None = refl
     by (Some t) = refl
@@ -162,7 +168,8 @@ ended_at (u ∷ us) relays node =
     ∙ map_map (ended node us) (unanswered_if (u.node == node)) (slice_get relays node)
 
 -- the tally of a relay at the end
-pub record IsLeft (plan : Network) (node : ℕ) (events : List Event) (lines : List Line) (last : List Unanswered) (t : Tally) : Type 0 where
+pub record IsLeft (plan : Network) (node : ℕ) (events : List Event) (lines : List Line) (last : List Unanswered)
+    (t : Tally) : Type 0 where
   pub relay : Node
   pub at : slice_get plan.nodes node ≡ Some relay
   pub is : t ≡ ended node last (moved_all plan node events lines (first_tally relay))
@@ -181,14 +188,16 @@ left_at_end plan events lines left node t run at = by (slice_get plan.nodes node
       ∙ ap (option_map (moved_all plan node events lines)) (slice_get-map first_tally plan.nodes node))
 
   by : (o : Option Node) → slice_get plan.nodes node ≡ o
-      → option_map (ended node (all_unanswered left)) (option_map (moved_all plan node events lines) (option_map first_tally o)) ≡ Some t
+      → option_map (ended node (all_unanswered left)) (option_map (moved_all plan node events lines) (option_map first_tally o))
+      ≡ Some t
       → IsLeft plan node events lines (all_unanswered left) t
   by None e h = absurd cc
   by (Some n) e h = record { relay = n; at = e; is = cc }
 
 -- ---- its counts
 
-pub unanswered_counts : (b : Bool) (t : Tally) → (unanswered_if b t).counts ≡ record t.counts { unanswered = one_more_if b t.counts.unanswered }
+pub unanswered_counts : (b : Bool) (t : Tally) → (unanswered_if b t).counts
+    ≡ record t.counts { unanswered = one_more_if b t.counts.unanswered }
 unanswered_counts true t = refl
 unanswered_counts false t = refl
 
@@ -258,7 +267,8 @@ moved_counts plan node e line t told =
 
 -- A count that each message of a kind raises by one, and no other, is how many there are.
 pub run_count : (plan : Network) (node : ℕ) (count : Tally → ℕ) (kind : Event → Line → Bool)
-    → ((e : Event) (line : Line) (t : Tally) → Tells line.verdict → count (moved plan node e line t) ≡ one_more_if (kind e line) (count t))
+    → ((e : Event) (line : Line) (t : Tally) → Tells line.verdict
+    → count (moved plan node e line t) ≡ one_more_if (kind e line) (count t))
     → (events : List Event) (lines : List Line) (t : Tally) (n : ℕ) → AllTell lines → count t ≡ stopped n
     → count (moved_all plan node events lines t) ≡ stopped (n + how_many kind events lines)
 run_count plan node count kind step [] lines t n told is = is ∙ ap stopped (omega arith)

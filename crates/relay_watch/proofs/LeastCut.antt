@@ -22,11 +22,13 @@ use Rattle.relay_watch.specs.declared.event.Event.{Event}
 use Rattle.relay_watch.specs.declared.line.Line.{Line}
 use Rattle.relay_watch.specs.declared.tally.Tally.{Tally}
 use Rattle.relay_watch.specs.declared.verdict.Verdict.{Verdict}
-use Rattle.relay_watch.specs.declared.verdict.Verdict.TheVariants.{Undecodable, Connection, Other, Arrived, Explained, Management, Own}
+use Rattle.relay_watch.specs.declared.verdict.Verdict.TheVariants.{Undecodable, Connection, Other, Arrived, Explained, Management}
+use Rattle.relay_watch.specs.declared.verdict.Verdict.TheVariants.{Own}
 use Rattle.relay_watch.specs.declared.verdict.Verdict.TheVariants.{Unexplained}
 use Rattle.relay_watch.proofs.CountsChanged.{stopped_more}
 use Rattle.relay_watch.proofs.CountsLines.{ended_rest}
-use Rattle.relay_watch.proofs.CountsTally.{Tells, AllTell, all_tell, moved, moved_all, sent_if, arrived_if, unanswered_if, left_at_end}
+use Rattle.relay_watch.proofs.CountsTally.{Tells, AllTell, all_tell, moved, moved_all, sent_if, arrived_if, unanswered_if}
+use Rattle.relay_watch.proofs.CountsTally.{left_at_end}
 
 -- ---- one message
 
@@ -95,8 +97,10 @@ told_short true (Unexplained why) = tt
 
 -- ---- all messages
 
-run_markings : (plan : Network) (node : ℕ) (events : List Event) (lines : List Line) (t : Tally) (n : ℕ) → t.counts.markings ≡ stopped n
-    → (moved_all plan node events lines t).counts.markings ≡ stopped (n + markings_from t.so_far (told_conditions plan node events lines))
+run_markings : (plan : Network) (node : ℕ) (events : List Event) (lines : List Line) (t : Tally) (n : ℕ)
+    → t.counts.markings ≡ stopped n
+    → (moved_all plan node events lines t).counts.markings
+    ≡ stopped (n + markings_from t.so_far (told_conditions plan node events lines))
 run_markings plan node [] lines t n is = is ∙ ap stopped (omega arith)
 run_markings plan node (e ∷ events) [] t n is = is ∙ ap stopped (omega arith)
 run_markings plan node (e ∷ events) (line ∷ lines) t n is =
@@ -147,7 +151,8 @@ markings_at_end plan events lines left node t run at =
 
 -- no fewer parts
 abbrev pub Least : Type 0
-Least = (conditions : List Condition) (parts : List (List Condition)) → AreParts conditions parts → markings conditions ≤ length parts
+Least = (conditions : List Condition) (parts : List (List Condition)) → AreParts conditions parts
+    → markings conditions ≤ length parts
 
 -- as many are enough
 abbrev pub Enough : Type 0
@@ -174,7 +179,8 @@ met_possible law c M e = by (is_possible (both always c)) refl (law (always ∷ 
   one : AreParts (always ∷ c ∷ []) ((always ∷ c ∷ []) ∷ [])
   one = record {
     whole = refl;
-    met = All-from_recursion AreMet ((always ∷ c ∷ []) ∷ []) ((M, and_from true (meets M c && true) refl (and_from (meets M c) true e refl)), tt);
+    met = All-from_recursion AreMet ((always ∷ c ∷ []) ∷ [])
+        ((M, and_from true (meets M c && true) refl (and_from (meets M c) true e refl)), tt);
   }
 
   by : (b : Bool) → is_possible (both always c) ≡ b
@@ -185,12 +191,14 @@ met_possible law c M e = by (is_possible (both always c)) refl (law (always ∷ 
 
 -- ---- each told condition is met by some marking
 
-append_possible : (cs ds : List Condition) → AllByRecursion (λ c. is_possible c ≡ true) cs → AllByRecursion (λ c. is_possible c ≡ true) ds
+append_possible : (cs ds : List Condition) → AllByRecursion (λ c. is_possible c ≡ true) cs
+    → AllByRecursion (λ c. is_possible c ≡ true) ds
     → AllByRecursion (λ c. is_possible c ≡ true) (cs ++ ds)
 append_possible [] ds all more = more
 append_possible (c ∷ cs) ds all more = (all.0, append_possible cs ds all.1 more)
 
-told_possible : Least → (b : Bool) (v : Verdict) → Tells v → AllByRecursion (λ c. is_possible c ≡ true) (if b then told_of v else [])
+told_possible : Least → (b : Bool) (v : Verdict) → Tells v
+    → AllByRecursion (λ c. is_possible c ≡ true) (if b then told_of v else [])
 told_possible law false v told = tt
 told_possible law true (Undecodable fault) told = tt
 told_possible law true Connection told = tt

@@ -23,8 +23,8 @@ use Rattle.relay_watch.specs.declared.tally.Tally.{Tally}
 use Rattle.relay_watch.specs.declared.verdict.Verdict.{Verdict}
 use Rattle.relay_watch.specs.declared.verdict.Verdict.TheVariants.{Arrived, Explained}
 
--- Relay a at 1-0-2 hands 49 to relay b at 1-0-3, else to 2-0-3/6; and 43 to 1-0-1/8. Relay b hands 0 to 2-0-1/6, else to 2-0-2/6; and
--- 43 to relay a, else to 1-0-1/8.
+-- Relay a at 1-0-2 hands 49 to relay b at 1-0-3, else to 2-0-3/6; and 43 to 1-0-1/8. Relay b hands 0 to 2-0-1/6, else to
+-- 2-0-2/6; and 43 to relay a, else to 1-0-1/8.
 
 abbrev a : Node
 a = record {
@@ -43,9 +43,10 @@ b = record {
   pc = 2051;
   subsystems = [];
   concerned = [];
-  table = rule (record { kind = 4; translation = 0; plan = 1; nature = 3 }) None (0 ∷ []) (Final 4097 (Some 6) ∷ Final 4098 (Some 6) ∷ [])
-      ∷ rule (record { kind = 4; translation = 0; plan = 1; nature = 4 }) None (4 ∷ 3 ∷ []) (Relay 2050 0 [] None None ∷ Final 2049 (Some 8) ∷ [])
-      ∷ [];
+  table = rule (record { kind = 4; translation = 0; plan = 1; nature = 3 }) None (0 ∷ []) (Final 4097 (Some 6) ∷ Final 4098 (Some 6)
+      ∷ [])
+      ∷ rule (record { kind = 4; translation = 0; plan = 1; nature = 4 }) None (4 ∷ 3 ∷ [])
+      (Relay 2050 0 [] None None ∷ Final 2049 (Some 8) ∷ []) ∷ [];
 }
 
 abbrev plan : Network
@@ -100,7 +101,11 @@ by_second = condition (at_destination 4097 ∷ []) (at_destination 4098)
 
 abbrev explained : ℕ → Condition → ℕ → Verdict
 explained number c target =
-    Explained number (record { condition = c; handling = record { cause = None; taken = Some (record { row = 0; target = target }) } } ∷ [])
+    Explained number (record {
+      condition = c;
+      handling = record
+          { cause = None; taken = Some (record { row = 0; target = target }) };
+    } ∷ [])
 
 abbrev line : Verdict → Line
 line v = record { verdict = v; given_up = None; unanswered = None }
@@ -168,7 +173,8 @@ six : markings (by_first ∷ by_second ∷ by_first ∷ by_second ∷ by_first �
 six = refl
 
 -- Another target does not begin another marking: with b's point held, a relay sends 49 to 2-0-3 and 43 to 1-0-1.
-other_targets : markings (by_own ∷ condition [] (marks.PointCode 2049 ∷ marks.Sccp 2049 ∷ marks.Subsystem 2049 8 ∷ []) ∷ by_own ∷ []) ≡ 1
+other_targets : markings (by_own ∷ condition [] (marks.PointCode 2049 ∷ marks.Sccp 2049 ∷ marks.Subsystem 2049 8 ∷ []) ∷ by_own
+    ∷ []) ≡ 1
 other_targets = refl
 
 -- nor does another mark of the same list, if one mark is left that all may hold

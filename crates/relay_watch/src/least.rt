@@ -12,9 +12,9 @@ ghost use Rattle.relay_watch.specs.declared.event.Event.{Event};
 ghost use Rattle.relay_watch.specs.declared.line.Line.{Line};
 ghost use Rattle.relay_watch.specs.declared.tally.Tally.{Tally};
 
-/// The markings of a relay are the least number, one after the other, under which it sends its explained messages, each by the first
-/// way of its line. Whoever cuts the conditions of these ways, in the order of the messages, into parts each of which one marking
-/// meets, has no fewer parts. There is such a cut with as many parts as are counted, but a count stops at 2^64 - 1.
+/// The markings of a relay are the least number, one after the other, under which it sends its explained messages, each by the
+/// first way of its line. Whoever cuts the conditions of these ways, in the order of the messages, into parts each of which one
+/// marking meets, has no fewer parts. There is such a cut with as many parts as are counted, but a count stops at 2^64 - 1.
 pub fn markings_are_least()
     ensures least { (plan : Network) (events : List Event) (lines : List Line) (left : Kept) (node : ℕ) (t : Tally)
         (parts : List (List Condition))
