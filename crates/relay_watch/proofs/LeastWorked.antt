@@ -43,8 +43,8 @@ b = record {
   pc = 2051;
   subsystems = [];
   concerned = [];
-  table = rule (record { kind = 4; translation = 0; plan = 1; nature = 3 }) None (0 ∷ []) (Final 4097 (Some 6) ∷ Final 4098 (Some 6)
-      ∷ [])
+  table = rule (record { kind = 4; translation = 0; plan = 1; nature = 3 }) None (0 ∷ [])
+      (Final 4097 (Some 6) ∷ Final 4098 (Some 6) ∷ [])
       ∷ rule (record { kind = 4; translation = 0; plan = 1; nature = 4 }) None (4 ∷ 3 ∷ [])
       (Relay 2050 0 [] None None ∷ Final 2049 (Some 8) ∷ []) ∷ [];
 }

@@ -21,5 +21,5 @@ told_of v = []
 
 -- the conditions of all explained messages that the relay at this place sent, each by its first way, in their order
 abbrev pub told_conditions : Network → ℕ → List Event → List Line → List Condition
-told_conditions plan node events lines = flat_map (λ m. if is_from plan node m.0 then told_of m.1.verdict else [])
-    (zip events lines)
+told_conditions plan node events lines =
+    flat_map (λ m. if is_from plan node m.0 then told_of m.1.verdict else []) (zip events lines)

@@ -93,8 +93,8 @@ pub record AreCounts (plan : Network) (node : ℕ) (events : List Event) (lines 
   pub sent_is : c.sent ≡ stopped (how_many (λ e line. is_from plan node e && says_sent line.verdict) events lines)
   pub plain_is : c.plain ≡ stopped (how_many (λ e line. is_from plan node e && says_plain line.verdict) events lines)
   pub failing_is : c.failing ≡ stopped (how_many (λ e line. is_from plan node e && says_failing line.verdict) events lines)
-  pub unexplained_is : c.unexplained ≡ stopped (how_many (λ e line. is_from plan node e
-      && is_unexplained line.verdict) events lines)
+  pub unexplained_is : c.unexplained
+      ≡ stopped (how_many (λ e line. is_from plan node e && is_unexplained line.verdict) events lines)
   pub unanswered_is : c.unanswered ≡ stopped (how_many (λ e line. is_unanswered node line.unanswered) events lines
       + length (filter (λ u. u.node == node) last))
   pub others_is : c.others ≡ stopped (how_many (λ e line. is_from plan node e && says_other line.verdict) events lines
@@ -106,8 +106,7 @@ count_at taken row place = option_and_then (λ counts. slice_get counts place) (
 
 -- How often each target of the relay's table was taken. There is a count for each target of each row.
 pub record AreTaken (plan : Network) (node : ℕ) (table : List Rule) (events : List Event) (lines : List Line)
-    (taken : List (List ℕ))
-    : Type 0 where
+    (taken : List (List ℕ)) : Type 0 where
   pub shape : map (λ counts. length counts) taken ≡ map (λ r. length r.targets) table
   pub each : (row place count : ℕ) → count_at taken row place ≡ Some count
       → count ≡ stopped (how_many (λ e line. is_from plan node e && says_taken row place line.verdict) events lines)
