@@ -170,7 +170,7 @@ told_text p octets s text (judged items e j is status whole) other = record {
   judgement = j;
   is = is;
   text_is = whole;
-  true_lines = are_true p (events_in items) j (text_differs octets items e) is;
+  is_true = are_true p (events_in items) j (text_differs octets items e) is;
 }
 
 -- an answer of a judgement
