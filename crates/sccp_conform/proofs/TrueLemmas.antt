@@ -22,7 +22,7 @@ are_true plan events j differ is = record {
   once = λ i k by ways others one other. once plan events j.lines j.left.waiting i k by ways others is.judged differ one other;
   unexplained = λ i k node e a v sent has lacks at from reads before arrived to unnamed.
       unexplained_from plan events j.lines
-          [] j.left.waiting i k node e a v sent is.judged has lacks at from reads before arrived to unnamed;
+      [] j.left.waiting i k node e a v sent is.judged has lacks at from reads before arrived to unnamed;
   given_up = λ i line u at e. given_up plan events j i line u differ is at e;
   unanswered = λ i u at. left_over plan events j i u differ is at;
 }

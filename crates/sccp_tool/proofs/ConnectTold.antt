@@ -87,10 +87,11 @@ call_told plan bound node calling plan_is safe asked named outer =
     let text : connect_text plan calling ≡ outcome_text o =
     ap (λ (x : Option ℕ). text_by plan calling x (is_some (position (has_point calling.from) plan.nodes))) named
     ∙ ap (λ (x : Option ℕ). text_by plan calling (Some node) (is_some x)) outer in
-    subst (TellsCall plan bound node calling) (sym text)
-    (outcome_told calling.octets o answer,
-    λ covered ends. reached_told plan (spot_called plan call) bound calling.octets o answer
-    (is_reached plan call bound plan_is safe.safe safe.few is covered ends))
+    subst (TellsCall plan bound node calling) (sym text) (
+      outcome_told calling.octets o answer,
+      λ covered ends. reached_told plan (spot_called plan call) bound calling.octets o answer
+          (is_reached plan call bound plan_is safe.safe safe.few is covered ends),
+    )
 
 -- ---- the text of the work
 
@@ -118,10 +119,24 @@ plan_told contents file calling TooLong text taken taken' is (long h) = λ done.
 plan_told contents file calling BadPlan text taken taken' is (bad h) = λ done. absurd (let z : BadPlan ≡ Done = done in cc)
 plan_told contents file calling s text taken taken' is (good h) = λ done.
     let d = h.3.2 done in
-    let accepted : Verified = d.1.0 in
-    (h.0, h.1, h.2, (h.3.0, h.3.1, (accepted, d.1.1, text, is, (λ asked node named outer.
-    subst (TellsCall h.3.0 accepted.bound node calling) (sym d.1.2)
-    (call_told h.3.0 accepted.bound node calling d.0 d.1.1.0 asked named outer)))))
+    let accepted : Verified = d.1.0 in (
+      h.0,
+      h.1,
+      h.2,
+      (
+        h.3.0,
+        h.3.1,
+        (
+          accepted,
+          d.1.1,
+          text,
+          is,
+          (λ asked node named outer.
+              subst (TellsCall h.3.0 accepted.bound node calling) (sym d.1.2)
+              (call_told h.3.0 accepted.bound node calling d.0 d.1.1.0 asked named outer)),
+        ),
+      ),
+    )
 
 pub connect_told : (contents : Option Contents) (file : PlanFile) (calling : Calling) (s : Status) (text : List ℕ) (taken taken' : Option (List ℕ))
     → taken' ≡ append_known taken text → Ends contents (connect_work file calling) s text → ConnectTells contents file calling s taken taken'
