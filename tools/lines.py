@@ -109,7 +109,7 @@ FAULT is fault, with place.node, place.row, place.cover and place.key as far as 
 place.rows, "strip too long" or "kind two" with place.row. "limit" has of and [limit], and "not toml" and "no cover" have no more. limit is the number that was passed, if it is not the standard
 one, as it is after wide.
 VERDICT is verdict and its fields: "arrived" and "other" have type; "own" type and ssn; "explained" type, by (the line of the arrival) and
-ways; "unexplained" type and either by and reason, or again (the line that was explained before), or reason "no arrival"; "management"
+ways; "unexplained" type and either by and why, or again (the line that was explained before), or why "no arrival"; "management"
 status, and point and ssn unless that is None; "connection" type; "undecodable" WHY. A way has row and target, or cause, or all three,
 with held, a list of lists of marks, and free, a list of marks.
 WHY is fault, and for "bad pointer" and "bad part" number, for "address" number and why, for "field" name.
@@ -290,7 +290,7 @@ NAMED = {
     "OWN_TITLE": "({title:=null:title - digits -}|title {title.selector} digits {title.digits}|<RAW>)",
     "PARTY": "route ({route=ssn}|{route=title}) <DASHED> <OWN_TITLE>({national:=false:}|{national:=true: national})",
     "UNIT": "{type:of_unit}",
-    "UNEXPLAINED": "{verdict=unexplained} (by {by} {reason:test}|again {again}|{reason=no arrival})",
+    "UNEXPLAINED": "{verdict=unexplained} (by {by} {why:test}|again {again}|{why=no arrival})",
     "ON_UNIT": "({verdict:=\"arrived\":}| {verdict=other}| {verdict=own} {ssn}| {verdict=explained} by {by} {ways}| <UNEXPLAINED>)",
     "VERDICT": "(<UNIT><ON_UNIT>|{verdict=management} <STATUS>|{verdict=connection} {type:of_connection}|{verdict=undecodable} <WHY>)",
     "SENT_COUNTS": "sent {sent} plain {plain} failing {failing} unexplained {unexplained}",

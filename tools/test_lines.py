@@ -212,11 +212,11 @@ TYPED = {
          captured(2, "a", "b", verdict="explained", type="UDTS", by=1,
                   ways=[{"cause": 1, "row": 3, "target": 0, "held": [], "free": []},
                         {"cause": 1, "row": 3, "target": 1, "held": [[POINT]], "free": []}])),
-        ("2 from a to b UDT unexplained by 1 not asked", captured(2, "a", "b", verdict="unexplained", type="UDT", by=1, reason="not asked")),
+        ("2 from a to b UDT unexplained by 1 not asked", captured(2, "a", "b", verdict="unexplained", type="UDT", by=1, why="not asked")),
         ("2 from a to b UDT unexplained by 1 called point",
-         captured(2, "a", "b", verdict="unexplained", type="UDT", by=1, reason="called point")),
+         captured(2, "a", "b", verdict="unexplained", type="UDT", by=1, why="called point")),
         ("2 from a to b UDT unexplained again 1", captured(2, "a", "b", verdict="unexplained", type="UDT", again=1)),
-        ("2 from a to b UDT unexplained no arrival", captured(2, "a", "b", verdict="unexplained", type="UDT", reason="no arrival")),
+        ("2 from a to b UDT unexplained no arrival", captured(2, "a", "b", verdict="unexplained", type="UDT", why="no arrival")),
         ("2 from a to b management ssp 2-0-1/6", captured(2, "a", "b", verdict="management", status="ssp", point="2-0-1", ssn=6)),
         ("2 from a to b management unknown", captured(2, "a", "b", verdict="management", status=None)),
         ("2 from a to b connection CR", captured(2, "a", "b", verdict="connection", type="CR")),
@@ -452,8 +452,8 @@ class Cases(unittest.TestCase):
 
 
 def may_be_absent(words, at):
-    # `called point` is one reason, and `point` another.
-    if words[at:at + 2] == ["called", "point"]:
+    # `called point` is one reason, and `point` another; a message between other points has `other` after its type.
+    if words[at:at + 2] == ["called", "point"] or (words[1:2] == ["from"] and words[at:] == ["other"]):
         return True
     if words[at] == "national" or (words[at] in ("old", "new") and words[at + 1:at + 2] == ["at"]):
         return True
