@@ -51,7 +51,8 @@ MOST_OCTETS = 1_048_576
 def line(origin, to, called, number):
     """A line with a UDT to a called address of seven octets, whose data are the number in four."""
     address = bytes.fromhex(called)
-    user = bytes([9, 0, 3, 3 + len(address), 5 + len(address), len(address)]) + address + bytes.fromhex("024208") + b"\4" + struct.pack(">I", number)
+    user = bytes([9, 0, 3, 3 + len(address), 5 + len(address), len(address)]) + address + bytes.fromhex("024208")
+    user += b"\4" + struct.pack(">I", number)
     body = struct.pack(">HHIIBBBB", 0x0210, 16 + len(user), origin, to, 3, 2, 0, 5) + user
     body += bytes(-len(body) % 4)
     return (struct.pack(">BBBBI", 1, 0, 1, 1, 8 + len(body)) + body).hex() + "\n"
@@ -99,7 +100,8 @@ def measure(folder, lines, unexplained, runs=3):
         made.writelines(lines)
     found = []
     for _ in range(runs):
-        done = subprocess.run([sys.executable, "-c", CHILD, PROGRAM, "conform", "plan.toml", "seen.txt"], cwd=folder, capture_output=True, check=True)
+        words = [sys.executable, "-c", CHILD, PROGRAM, "conform", "plan.toml", "seen.txt"]
+        done = subprocess.run(words, cwd=folder, capture_output=True, check=True)
         status, used, peak = done.stdout.split()
         with open(os.path.join(folder, "out")) as out:
             last = out.read().splitlines()[-1]
@@ -111,8 +113,9 @@ def measure(folder, lines, unexplained, runs=3):
 
 def main():
     most = MOST_OCTETS // len(line(USER, A, TITLE, 0)) // 4 * 4
+    few = most // 8 // 4 * 4
     texts = [("each is answered", answered, most, 3), ("all wait", waiting, most, 3), ("half wait at another relay", elsewhere, most, 3),
-             ("half wait, and others are sent", strange, most, 3), ("all have the same data, and none explains another", alike, most // 8 // 4 * 4, 1)]
+             ("half wait, and others are sent", strange, most, 3), ("all have the same data, and none explains another", alike, few, 1)]
     with tempfile.TemporaryDirectory() as folder:
         with open(os.path.join(folder, "plan.toml"), "w") as made:
             made.write(PLAN)

@@ -316,8 +316,9 @@ def redrawn(draw, octets):
         return octets
     field = draw.choice(["type", "fixed", "hops", "called", "calling", "data", "params", "national", "by_ssn", "pc", "ssn", "title"])
     values = {"type": "UDT" if m.hops is None else draw.choice(["XUDT", "LUDT"]), "fixed": draw.choice([0, 1, 5, 0x80]),
-              "hops": None if m.hops is None else draw.choice([m.hops + 1 & 255, 15]), "called": draw_address(draw), "calling": draw_address(draw),
-              "data": draw.choice([b"", m.data + b"\1"]), "params": m.params[:-1], "national": not m.called.national, "by_ssn": not m.called.by_ssn,
+              "hops": None if m.hops is None else draw.choice([m.hops + 1 & 255, 15]), "called": draw_address(draw),
+              "calling": draw_address(draw), "data": draw.choice([b"", m.data + b"\1"]), "params": m.params[:-1],
+              "national": not m.called.national, "by_ssn": not m.called.by_ssn,
               "pc": draw.choice([None, A, ONE, TWO]), "ssn": draw.choice([None, 6, 7, 9]), "title": draw_title(draw)}
     if field == "title" and values["title"] == ("raw", 0, b""):
         return octets
@@ -484,7 +485,8 @@ def other_texts():
     answered = text_of([event for _ in range(1023) for event in ((USER, A, unit(b"\1")), (A, B, answer(b"\1")))])
     first = text_of([(USER, A, unit(b"\0")), (A, B, answer(b"\0"))])
     yield "a message again after 1,023 answers", first + answered + text_of([(A, B, answer(b"\0"))])
-    yield "a message again after 1,024 answers", first + answered + text_of([(USER, A, unit(b"\2")), (A, B, answer(b"\2")), (A, B, answer(b"\0"))])
+    last = text_of([(USER, A, unit(b"\2")), (A, B, answer(b"\2")), (A, B, answer(b"\0"))])
+    yield "a message again after 1,024 answers", first + answered + last
     yield "a line that is too long", b"0" * 8194 + b"\n"
     yield "the longest line", b"0" * 8192 + b"\n"
 

@@ -198,7 +198,8 @@ def without(causes):
 
 MARK_LIST = f"{MARK}(?:,{MARK})*"
 MARK_LISTS = f"{MARK}(?:\\|{MARK})*(?:,{MARK}(?:\\|{MARK})*)*"
-WAY = re.compile(f"(?:return (?P<cause>{WHOLE}))? ?(?:target (?P<row>{WHOLE})/(?P<target>{WHOLE}))? held (?P<held>none|{MARK_LISTS}) free (?P<free>none|{MARK_LIST})")
+WAY = re.compile(f"(?:return (?P<cause>{WHOLE}))? ?(?:target (?P<row>{WHOLE})/(?P<target>{WHOLE}))? "
+                 f"held (?P<held>none|{MARK_LISTS}) free (?P<free>none|{MARK_LIST})")
 TARGET = f"target {WHOLE}/{WHOLE}"
 ONE_WAY = f"(?:return {WHOLE}(?: {TARGET})?|{TARGET}) held (?:none|{MARK_LISTS}) free (?:none|{MARK_LIST})"
 
@@ -206,8 +207,9 @@ ONE_WAY = f"(?:return {WHOLE}(?: {TARGET})?|{TARGET}) held (?:none|{MARK_LISTS})
 def read_way(text):
     found = WAY.fullmatch(text)
     way = {name: int(found[name]) for name in ("cause", "row", "target") if found[name]}
-    way["held"] = [] if found["held"] == "none" else [[read_mark(mark) for mark in marks.split("|")] for marks in found["held"].split(",")]
-    way["free"] = [] if found["free"] == "none" else [read_mark(mark) for mark in found["free"].split(",")]
+    held, free = ([] if found[name] == "none" else found[name].split(",") for name in ("held", "free"))
+    way["held"] = [[read_mark(mark) for mark in marks.split("|")] for marks in held]
+    way["free"] = [read_mark(mark) for mark in free]
     return way
 
 
@@ -324,7 +326,8 @@ TABLE = [
     ("usage", (EVERY, "usage: {shapes}")),
     ("too_long", (FILES, "too long<PASSED>")),
     ("read_fault", (FILES, "read fault")),
-    ("bad_plan", ("route verify covers unused margin replay send-on connect import conform capture", "<BAD_PLAN>"), (OF_TWO, "<WHICH><BAD_PLAN>")),
+    ("bad_plan",
+     ("route verify covers unused margin replay send-on connect import conform capture", "<BAD_PLAN>"), (OF_TWO, "<WHICH><BAD_PLAN>")),
     ("bad_trace_line", ("show import conform replay", "bad trace line {line} {fault:line_fault}")),
     ("unknown_node", ("route connect send-on", "unknown node"), ("replay", "{line} unknown node")),
     ("accepted", ("verify margin", "accepted bound {bound}"), (OF_TWO, "<WHICH>accepted bound {bound}")),
