@@ -22,7 +22,8 @@ next_at : (named : List ℕ) (ws : List Waiting) (i : ℕ) (w : Waiting) → i <
     → option_to_list (unanswered named w) ++ filter_map (unanswered named) (drop (suc i) ws) ≡ filter_map (unanswered named) (drop i ws)
 next_at named [] i w inside is = absurd (omega (arith, inside))
 next_at named (v ∷ vs) zero w inside is =
-    subst (λ (z : Waiting). option_to_list (unanswered named w) ++ filter_map (unanswered named) vs ≡ filter_map (unanswered named) (z ∷ vs))
+    subst (λ (z : Waiting). option_to_list (unanswered named w) ++ filter_map (unanswered named) vs
+    ≡ filter_map (unanswered named) (z ∷ vs))
     is (consed named w vs (unanswered named w) refl)
 next_at named (v ∷ vs) (suc i) w inside is = next_at named vs i w (omega (arith, inside)) is
 
@@ -37,17 +38,16 @@ unanswered_next named found ws i w inside is =
 
 -- ---- their counts
 
-count_at : (relays : List Tally) (us : List Unanswered) (i : ℕ) (u : Unanswered) → i < length us → u ≡ get_or us i u
-    → all_counted (counted_unanswered relays (Some u)) (drop (suc i) us) ≡ all_counted relays (drop i us)
-count_at relays [] i u inside is = absurd (omega (arith, inside))
-count_at relays (v ∷ vs) zero u inside is =
-    subst (λ (z : Unanswered). all_counted (counted_unanswered relays (Some u)) vs ≡ all_counted (counted_unanswered relays (Some z)) vs) is refl
-count_at relays (v ∷ vs) (suc i) u inside is = count_at relays vs i u (omega (arith, inside)) is
+count_at : (relays : List Tally) (us : List Unanswered) (i : ℕ) (u : Unanswered) → i < length us
+    → all_counted (counted_unanswered relays (Some (get_or us i u))) (drop (suc i) us) ≡ all_counted relays (drop i us)
+count_at relays [] i u inside = absurd (omega (arith, inside))
+count_at relays (v ∷ vs) zero u inside = refl
+count_at relays (v ∷ vs) (suc i) u inside = count_at relays vs i u (omega (arith, inside))
 
-pub count_next : (relays : List Tally) (us : List Unanswered) (i : ℕ) (u : Unanswered) → i < length us → u ≡ get_or us i u
-    → all_counted (counted_unanswered relays (Some u)) (drop (i + 1) us) ≡ all_counted relays (drop i us)
-count_next relays us i u inside is =
-    ap (λ n. all_counted (counted_unanswered relays (Some u)) (drop n us)) (one_more i) ∙ count_at relays us i u inside is
+pub count_next : (relays : List Tally) (us : List Unanswered) (i : ℕ) (u : Unanswered) → i < length us
+    → all_counted (counted_unanswered relays (Some (get_or us i u))) (drop (i + 1) us) ≡ all_counted relays (drop i us)
+count_next relays us i u inside =
+    ap (λ n. all_counted (counted_unanswered relays (Some (get_or us i u))) (drop n us)) (one_more i) ∙ count_at relays us i u inside
 
 -- ---- counts of targets that were not taken
 

@@ -1,7 +1,7 @@
 -- What waits after a message, as the code changes the list.
 use Rattle.std.proofs.Common.{◌≡◌, ℕ, zero, suc, ◌+◌, ◌<◌, ◌≤◌, Bool, true, false, List, [], ◌∷◌, ◌++◌, length, take, drop, Option, Some}
 use Rattle.std.proofs.Common.{None, refl, sym, ◌∙◌, ap, subst, get_or, arith, length-append}
-use Rattle.std.specs.Prelude.{nat_lt, if◌then◌else◌, slice_get, IfSome, IfOk, OnOk, Result, Ok, Err}
+use Rattle.std.specs.Prelude.{nat_lt, if◌then◌else◌, slice_get, IfSome, Result, Ok, Err}
 use Rattle.std.specs.List.{All, remove}
 use Rattle.std.specs.Option.{option_to_list}
 use Rattle.std.proofs.lemmas.Bool.{ltb-false, lt-ltb, le-ltb, cond-true, cond-false}
@@ -138,7 +138,8 @@ pub record Leaves (plan : Network) (old : List Waiting) (e : Event) (j : Judged)
   pub given_is : given ≡ given_up (joined old (place_of found) (begins plan e (reading e.octets)))
   pub left : next ≡ kept (joined old (place_of found) (begins plan e (reading e.octets)))
 
-pub leaves : (plan : Network) (old : List Waiting) (xs : List Answered) (e : Event) (j : Judged) (given : Option Waiting) (next : List Waiting)
+pub leaves : (plan : Network) (old : List Waiting) (xs : List Answered) (e : Event) (j : Judged) (given : Option Waiting)
+    (next : List Waiting)
     → AreWaiting old → (said : IsSaid plan old xs e (reading e.octets) j) → next ≡ ended (old ++ option_to_list j.begins) j.place
     → given ≡ given_if (old ++ option_to_list j.begins) j.place → Leaves plan old e j said.found given next
 leaves plan old xs e j given next are said left g =

@@ -5,6 +5,12 @@ mod Plain
 mod Reasoned
 mod Left
 mod Steps
+mod CountsChanged
+mod CountsTally
+mod CountsTaken
+mod CountsLines
+mod LeastCut
+mod LeastWorked
 pub mod Told
 pub mod Once
 mod Waited

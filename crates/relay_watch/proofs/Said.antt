@@ -21,7 +21,8 @@ use Rattle.relay_watch.specs.declared.verdict.Verdict.TheVariants as verdicts
 use Rattle.relay_watch.specs.declared.waiting.Waiting.{Waiting}
 use Rattle.relay_watch.specs.declared.why.Why.TheVariants.{NoArrival}
 
-pub said_called : (plan : Network) (ws : List Waiting) (xs : List Answered) (e : Event) (m : Message) (a : Address) (j : Judged) → Some a ≡ called_of m
+pub said_called : (plan : Network) (ws : List Waiting) (xs : List Answered) (e : Event) (m : Message) (a : Address) (j : Judged)
+    → Some a ≡ called_of m
     → IsSaidAt plan ws xs e m a j → IsSaid plan ws xs e (Ok m) j
 said_called plan ws xs e m a j at said = record {
   found = said.found;
@@ -50,7 +51,8 @@ said_connection plan ws xs e m j at verdict place new other = record {
   none None = tt
   none (Some node) = tt
 
-pub said_fault : (plan : Network) (ws : List Waiting) (xs : List Answered) (e : Event) (fault : DecodeFault) (r : Result Message DecodeFault) (j : Judged)
+pub said_fault : (plan : Network) (ws : List Waiting) (xs : List Answered) (e : Event) (fault : DecodeFault)
+    (r : Result Message DecodeFault) (j : Judged)
     → r ≡ Err fault → j.verdict ≡ verdicts.Undecodable fault → j.place ≡ None → j.begins ≡ None → j.other ≡ true → IsSaid plan ws xs e r j
 said_fault plan ws xs e fault r j at verdict place new other =
     subst (λ (x : Result Message DecodeFault). IsSaid plan ws xs e x j) (sym at)
@@ -74,7 +76,8 @@ fault_read (faults.Field name) r given other = given
 fault_read faults.OutOfMemory r given other = absurd (other refl)
 
 -- the same of an answer
-pub if_called : {E : Type 0} (r : Result Judged E) (plan : Network) (ws : List Waiting) (xs : List Answered) (e : Event) (m : Message) (a : Address)
+pub if_called : {E : Type 0} (r : Result Judged E) (plan : Network) (ws : List Waiting) (xs : List Answered) (e : Event) (m : Message)
+    (a : Address)
     → Some a ≡ called_of m → IfOk r (IsSaidAt plan ws xs e m a) → IfOk r (IsSaid plan ws xs e (Ok m))
 if_called (Ok j) plan ws xs e m a at said = said_called plan ws xs e m a j at said
 if_called (Err x) plan ws xs e m a at said = tt

@@ -83,7 +83,8 @@ not_both : (f : Found) (o : Option Found) → o ≡ None → o ≡ Some f → �
 not_both f o p q = cc
 
 -- what was found is in the verdict
-source_says : (plan : Network) (old : List Waiting) (e : Event) (m : Message) (a : Address) (found : Option Found) (why : Why) (o : Option ℕ)
+source_says : (plan : Network) (old : List Waiting) (e : Event) (m : Message) (a : Address) (found : Option Found) (why : Why)
+    (o : Option ℕ)
     → reading e.octets ≡ Ok m → source plan e ≡ o → IsFoundAt plan old e m found o
     → ((f : Found) → found ≡ Some f → (by_source plan e m a found why o ≡ verdicts.Explained f.by f.ways) × Explaining plan old e f)
     × (found ≡ None → number_in (by_source plan e m a found why o) ≡ None)
@@ -131,7 +132,8 @@ line_names plan old e line next by ways h v =
     cases h.found (found_says plan old e h.found h.why (reading e.octets) refl h.search) (sym h.verdict_is ∙ v)
   where
     cases : (o : Option Found)
-        → ((f : Found) → o ≡ Some f → (verdict_of plan e o h.why (reading e.octets) ≡ verdicts.Explained f.by f.ways) × Explaining plan old e f)
+        → ((f : Found) → o ≡ Some f → (verdict_of plan e o h.why (reading e.octets) ≡ verdicts.Explained f.by f.ways)
+        × Explaining plan old e f)
         × (o ≡ None → number_in (verdict_of plan e o h.why (reading e.octets)) ≡ None)
         → verdict_of plan e o h.why (reading e.octets) ≡ verdicts.Explained by ways → Names plan old e by ways o
     cases None says w =
@@ -303,7 +305,8 @@ not_explained plan old e line next w h free at =
     off p q = cc
 
     by : (o : Option Found)
-        → ((f : Found) → o ≡ Some f → (verdict_of plan e o h.why (reading e.octets) ≡ verdicts.Explained f.by f.ways) × Explaining plan old e f)
+        → ((f : Found) → o ≡ Some f → (verdict_of plan e o h.why (reading e.octets) ≡ verdicts.Explained f.by f.ways)
+        × Explaining plan old e f)
         → explains w.number (verdict_of plan e o h.why (reading e.octets)) ≡ false → Among w (left_at old (place_of o))
     by None says k = at
     by (Some f) says k =

@@ -9,8 +9,8 @@ use Rattle.std.proofs.lemmas.List.Elements.{All-append, All-drop, All-get_or, Al
 use Rattle.std.proofs.lemmas.Option.{get_or_from_slice_get, slice_get_within}
 use Rattle.sccp_message.specs.Reading.{reading}
 use Rattle.plan_model.specs.Network.{Network}
-use Rattle.relay_watch.specs.Arrivals.{source, target, is_other, IsWaiting, AreWaiting}
-use Rattle.relay_watch.specs.Judging.{IsJudged, IsSaid, place_of}
+use Rattle.relay_watch.specs.Arrivals.{source, target, IsWaiting, AreWaiting}
+use Rattle.relay_watch.specs.Judging.{IsJudged, IsSaid}
 use Rattle.relay_watch.specs.Kept as keeping
 use Rattle.relay_watch.specs.Kept.{Kept, most_answered}
 use Rattle.relay_watch.specs.Settling.{IsSettled}
@@ -51,7 +51,8 @@ watched plan old e j line new are said s =
       says_why = subst (λ (v : Verdict). IsWhyOf plan old.waiting old.answered e (reading e.octets) v) (sym s.verdict_is) said.says_why;
       given_is = l.given_is;
       unanswered_is = s.unanswered_is
-          ∙ ap (λ (v : Verdict). keeping.unanswered_if (keeping.with_named old.named (keeping.named_in v)) line.given_up) (sym s.verdict_is);
+          ∙ ap (λ (v : Verdict). keeping.unanswered_if (keeping.with_named old.named (keeping.named_in v)) line.given_up)
+          (sym s.verdict_is);
       waiting_is = l.left;
       answered_is = s.answered_is
           ∙ ap (λ (o : Option Waiting). keeping.remembered (old.answered ++ option_to_list (option_map (keeping.answered e.number) o)))
@@ -115,7 +116,8 @@ still_answered ws xs number place all are =
     kept_answered (xs ++ option_to_list o) (All-append IsOfWaiting xs (option_to_list o) are.each (one_answered ws number place all))
     (omega (arith, are.few, at_most_one o, length-append xs (option_to_list o)))
 
-pub all_waiting : (ws : List Waiting) (new : Option Waiting) → All IsWaiting ws → IfSome new IsWaiting → All IsWaiting (ws ++ option_to_list new)
+pub all_waiting : (ws : List Waiting) (new : Option Waiting) → All IsWaiting ws → IfSome new IsWaiting
+    → All IsWaiting (ws ++ option_to_list new)
 all_waiting ws new all is = All-append IsWaiting ws (option_to_list new) all (one new is) where
   one : (o : Option Waiting) → IfSome o IsWaiting → All IsWaiting (option_to_list o)
   one None h = All-nil IsWaiting

@@ -1,5 +1,6 @@
 -- Why a message is unexplained, as it is looked for.
-use Rattle.std.proofs.Common.{◌≡◌, ℕ, zero, suc, ◌+◌, ◌<◌, Bool, true, false, List, [], ◌∷◌, length, take, drop, map, Option, Some, None, refl}
+use Rattle.std.proofs.Common.{◌≡◌, ℕ, zero, suc, ◌+◌, ◌<◌, Bool, true, false, List, [], ◌∷◌, length, take, drop, map, Option, Some, None}
+use Rattle.std.proofs.Common.{refl}
 use Rattle.std.proofs.Common.{sym, ◌∙◌, ap, subst, get_or, arith}
 use Rattle.std.specs.Prelude.{if◌then◌else◌, IfOk, Result, Ok, Err}
 use Rattle.std.specs.List.{All, filter}
@@ -12,7 +13,7 @@ use Rattle.relay_watch.specs.Arrivals.{target}
 use Rattle.relay_watch.specs.Judging.{IsWithout, IsOfSent, IsVerdict}
 use Rattle.relay_watch.specs.Kept.{is_unexplained}
 use Rattle.relay_watch.specs.Reasons.{AreReasons}
-use Rattle.relay_watch.specs.Whys.{has_data, near_of, nearer, nearest, nearest_of, IsNoAnswered, IsAgain, SaysWhy}
+use Rattle.relay_watch.specs.Whys.{has_data, near_of, nearer, nearest_of, IsNoAnswered, IsAgain, SaysWhy}
 use Rattle.relay_watch.specs.Verdicts.{of_unsent}
 use Rattle.relay_watch.specs.declared.answered.Answered.{Answered}
 use Rattle.relay_watch.specs.declared.event.Event.{Event}
@@ -36,7 +37,8 @@ next_at : (plan : Network) (node to : ℕ) (sent : Message) (best : Option Near)
     ≡ nearest_of best (map (near_of plan node to sent) (filter (has_data node sent) (drop i ws)))
 next_at plan node to sent best [] i w inside is = absurd (omega (arith, inside))
 next_at plan node to sent best (v ∷ vs) zero w inside is =
-    subst (λ (z : Waiting). nearest_of (with_near plan node to sent best w) (map (near_of plan node to sent) (filter (has_data node sent) vs))
+    subst (λ (z : Waiting). nearest_of (with_near plan node to sent best w)
+    (map (near_of plan node to sent) (filter (has_data node sent) vs))
     ≡ nearest_of best (map (near_of plan node to sent)
     (if has_data node sent z then z ∷ filter (has_data node sent) vs else filter (has_data node sent) vs))) is
     (by (has_data node sent w))
@@ -44,7 +46,8 @@ next_at plan node to sent best (v ∷ vs) zero w inside is =
     by : (b : Bool)
         → nearest_of (if b then nearer best (near_of plan node to sent w) else best)
         (map (near_of plan node to sent) (filter (has_data node sent) vs))
-        ≡ nearest_of best (map (near_of plan node to sent) (if b then w ∷ filter (has_data node sent) vs else filter (has_data node sent) vs))
+        ≡ nearest_of best (map (near_of plan node to sent) (if b then w ∷ filter (has_data node sent) vs
+        else filter (has_data node sent) vs))
     by true = refl
     by false = refl
 next_at plan node to sent best (v ∷ vs) (suc i) w inside is = next_at plan node to sent best vs i w (omega (arith, inside)) is

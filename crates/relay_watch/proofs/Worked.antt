@@ -78,7 +78,8 @@ unfolding message_in parts_by address_of
 sent = refl
 
 -- otherwise it is management's, or its own user's, or unexplained
-by_management : verdict_of plan (event 2 2050 2049 status) None NoArrival (reading status) ≡ verdicts.Management (Some (status_message Test 6 4097))
+by_management : verdict_of plan (event 2 2050 2049 status) None NoArrival (reading status)
+    ≡ verdicts.Management (Some (status_message Test 6 4097))
 unfolding message_in parts_by address_of
 by_management = refl
 

@@ -1,6 +1,5 @@
 -- How a captured message is judged: what is found, the line, and what waits afterwards.
-use Rattle.std.specs.Prelude.{◌≡◌, ◌++◌, ℕ, List, Option, Some, None, option_map, Result, Ok, Err}
-use Rattle.std.specs.Option.{option_to_list}
+use Rattle.std.specs.Prelude.{◌≡◌, ℕ, List, Option, Some, None, option_map, Result, Ok, Err}
 use Rattle.sccp_address.specs.declared.address.Address.{Address}
 use Rattle.sccp_message.specs.declared.fault.DecodeFault.{DecodeFault}
 use Rattle.sccp_message.specs.declared.message.Message.{Message}
@@ -60,7 +59,8 @@ pub record IsVerdict (plan : Network) (waiting : List Waiting) (answered : List 
   pub says : IsWhyFrom plan waiting answered e.destination m v place
 
 -- what is said of a message with a called address before anything changes
-pub record IsSaidAt (plan : Network) (waiting : List Waiting) (answered : List Answered) (e : Event) (m : Message) (a : Address) (j : Judged)
+pub record IsSaidAt (plan : Network) (waiting : List Waiting) (answered : List Answered) (e : Event) (m : Message) (a : Address)
+    (j : Judged)
     : Type 0 where
   pub found : Option Found
   pub search : IsFoundAt plan waiting e m found (source plan e)

@@ -1,8 +1,9 @@
 -- What is kept while messages are judged, and what one message changes of it.
-use Rattle.std.specs.Prelude.{◌≡◌, ℕ, ◌+◌, ◌-◌, ◌^◌, min, Bool, true, false, not, ◌&&◌, ◌==◌, nat_lt, if◌then◌else◌, List, [], ◌∷◌, ◌++◌, length, map, drop}
-use Rattle.std.specs.Prelude.{slice_get, replicate, Option, Some, None, Result, Ok, Err, option_map, set}
+use Rattle.std.specs.Prelude.{ℕ, ◌+◌, ◌-◌, ◌^◌, min, Bool, true, false, not, ◌&&◌, ◌==◌, nat_lt, if◌then◌else◌, List, [], ◌∷◌, ◌++◌, length}
+use Rattle.std.specs.Prelude.{map, drop}
+use Rattle.std.specs.Prelude.{slice_get, replicate, Option, Some, None, option_map, set}
 use Rattle.std.specs.List.{filter_map, list_any, position, remove}
-use Rattle.std.specs.Option.{option_and_then, option_map_or, option_to_list}
+use Rattle.std.specs.Option.{option_and_then, option_map_or}
 use Rattle.sccp_message.specs.Reading.{reading}
 use Rattle.plan_model.specs.declared.node.Node.{Node}
 use Rattle.plan_model.specs.Network.{Network}

@@ -4,6 +4,8 @@ pub mod Reasons
 pub mod Verdicts
 pub mod Judging
 pub mod Runs
+pub mod Totals
+pub mod Least
 pub mod Kept
 pub mod Keepings
 pub mod Whys

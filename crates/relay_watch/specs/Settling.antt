@@ -1,5 +1,5 @@
 -- What the code keeps after what is said of an event.
-use Rattle.std.specs.Prelude.{◌≡◌, ◌++◌, option_map, slice_get, true}
+use Rattle.std.specs.Prelude.{◌≡◌, ◌++◌, option_map, slice_get}
 use Rattle.std.specs.Option.{option_and_then, option_to_list}
 use Rattle.plan_model.specs.Network.{Network}
 use Rattle.relay_watch.specs.Arrivals.{source, target, ended, given_if}

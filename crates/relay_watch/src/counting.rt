@@ -1,6 +1,7 @@
 //! The counts of relays.
 ghost use Rattle.std.specs.Prelude.{◌≡◌, ◌∷◌, ◌++◌, [], length, map, IfOk, OnOk, Some, replicate};
-ghost use Rattle.relay_watch.specs.Kept.{no_counts, one_more, one_more_if, first_tally, none_taken, changed, counted, one_other, one_arrived};
+ghost use Rattle.relay_watch.specs.Kept.{no_counts, one_more, one_more_if, first_tally, none_taken, changed, counted, one_other};
+ghost use Rattle.relay_watch.specs.Kept.{one_arrived};
 ghost use Rattle.relay_watch.specs.Kept.{one_unanswered, one_unexplained, one_explained, is_plain, taken_once, explained, sent, arrived};
 ghost use Rattle.relay_watch.specs.Kept.{counted_unanswered, is_unexplained, next_by, next_in, next_of};
 

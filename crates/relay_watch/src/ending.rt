@@ -47,8 +47,7 @@ fn count_all(relays: &mut [Tally], found: &[Unanswered])
     ensures { relays.new ≡ all_counted relays.old found.now }
 {
     for one in found {
-        let one = *one;
-        count_unanswered(relays, Some(one));
+        count_unanswered(relays, Some(*one));
     }
 }
 

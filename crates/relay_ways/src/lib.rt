@@ -20,11 +20,13 @@ mod markings;
 mod outcomes;
 mod reason;
 mod reasoning;
+mod returning;
 mod settling;
 mod turn_steps;
 mod turns;
 mod way;
 mod would_send;
+mod writing;
 
 pub use alike::is_alike;
 pub use all_ways::ways;

@@ -4,4 +4,5 @@ pub mod JudgingLemmas
 pub mod PrintingLemmas
 pub mod MeaningLemmas
 pub mod DiffersLemmas
+pub mod UnansweredLemmas
 pub mod TrueLemmas

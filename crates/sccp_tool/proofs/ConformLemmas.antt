@@ -137,21 +137,21 @@ always c plan name text Done s has e =
     let P = λ (q : Network) (octets : List ℕ). HasJudgement q octets NoneDiffers in
     sure p has.3.2.0 s Done text false refl
     (at_octets c name text p (P p) s (at_plan c plan (OnFile (Some c) name text)
-        (λ q. HasFile (Some c) (plain name) (P q)) s e has) has.3.2)
+    (λ q. HasFile (Some c) (plain name) (P q)) s e has) has.3.2)
     has.3.2.3
 always c plan name text Differs s has e =
     let p = has.3.0 in
     let P = λ (q : Network) (octets : List ℕ). HasJudgement q octets OneDiffers in
     sure p has.3.2.0 s Differs text true refl
     (at_octets c name text p (P p) s (at_plan c plan (OnFile (Some c) name text)
-        (λ q. HasFile (Some c) (plain name) (P q)) s e has) has.3.2)
+    (λ q. HasFile (Some c) (plain name) (P q)) s e has) has.3.2)
     has.3.2.3
 always c plan name text BadTrace s has e =
     let p = has.3.0 in
     let P = λ (q : Network) (octets : List ℕ). IsErr (items_of octets) in
     err_items p has.3.2.0 s text
     (at_octets c name text p (P p) s (at_plan c plan (OnFile (Some c) name text)
-        (λ q. HasFile (Some c) (plain name) (P q)) s e has) has.3.2)
+    (λ q. HasFile (Some c) (plain name) (P q)) s e has) has.3.2)
     has.3.2.3
 always c plan name text BadPlan s has e = if_bad c plan (OnFile (Some c) name text) s e has
 always c plan name text TooLong s (inl has) e = if_long c plan (OnFile (Some c) name text) s e has
@@ -170,7 +170,7 @@ told_text p octets s text (judged items e j is status whole) other = record {
   judgement = j;
   is = is;
   text_is = whole;
-  true_lines = are_true p (events_in items) j (text_differs octets items e) is;
+  is_true = are_true p (events_in items) j (text_differs octets items e) is;
 }
 
 -- an answer of a judgement

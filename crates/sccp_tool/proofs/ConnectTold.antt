@@ -18,10 +18,10 @@ use Rattle.chain_call.proofs.Reaching.{inner_at, is_reached}
 use Rattle.chain_world.specs.Kept.{kept}
 use Rattle.chain_world.proofs.Nodes.{node_not_there}
 use Rattle.plan_check.specs.Verified.{Verified}
-use Rattle.plan_model.specs.Network.{Network, has_name, has_point}
+use Rattle.plan_model.specs.Network.{Network, IsPlan, has_name, has_point}
 use Rattle.plan_model.specs.declared.node.Node.{Node}
 use Rattle.plan_model.specs.declared.spot.Spot.{Spot}
-use Rattle.plan_verify.specs.Lawful.{IsLawful}
+use Rattle.plan_verify.specs.Lawful.{IsLawful, IsSafeFor}
 use Rattle.plan_verify.specs.declared.verdict.Verdict.{Verdict}
 use Rattle.plan_verify.specs.declared.verdict.Verdict.TheVariants as verdicts
 use Rattle.sccp_io.specs.Files.{Contents}
@@ -76,9 +76,10 @@ is_call plan node calling asked named outer =
     ssn_small : (ssn : ℕ) → ssn < 256 → IfSome (ssn_in ssn) (λ n. n < 256)
     ssn_small ssn lt = elim (ssn == 0) as (λ b. IfSome (cond b None (Some ssn)) (λ n. n < 256)) [ true ↦ tt | false ↦ lt ]
 
-call_told : (plan : Network) (node : ℕ) (calling : Calling) → IsAsked calling → position (has_name calling.start.node) plan.nodes ≡ Some node
-    → position (has_point calling.from) plan.nodes ≡ None → TellsCall plan node calling (connect_text plan calling)
-call_told plan node calling asked named outer =
+call_told : (plan : Network) (bound node : ℕ) (calling : Calling) → IsPlan plan → IsSafeFor plan bound → IsAsked calling
+    → position (has_name calling.start.node) plan.nodes ≡ Some node → position (has_point calling.from) plan.nodes ≡ None
+    → TellsCall plan bound node calling (connect_text plan calling)
+call_told plan bound node calling plan_is safe asked named outer =
     let call : Call = call_of plan node calling in
     let is = is_call plan node calling asked named outer in
     let o : Outcome = outcome call (beginning (kept plan [])) in
@@ -86,19 +87,24 @@ call_told plan node calling asked named outer =
     let text : connect_text plan calling ≡ outcome_text o =
     ap (λ (x : Option ℕ). text_by plan calling x (is_some (position (has_point calling.from) plan.nodes))) named
     ∙ ap (λ (x : Option ℕ). text_by plan calling (Some node) (is_some x)) outer in
-    subst (TellsCall plan node calling) (sym text)
-    (outcome_told calling.octets o answer,
-    λ plan_is covered ends bound safe few. reached_told plan (spot_called plan call) bound calling.octets o answer
-    (is_reached plan call bound plan_is safe few is covered ends))
+    subst (TellsCall plan bound node calling) (sym text) (
+      outcome_told calling.octets o answer,
+      λ covered ends. reached_told plan (spot_called plan call) bound calling.octets o answer
+          (is_reached plan call bound plan_is safe.safe safe.few is covered ends),
+    )
 
 -- ---- the text of the work
 
+-- a plan that a verdict accepts, and the text of the command
+abbrev IsDone : Network → List ℕ → List ℕ → Type 0
+IsDone plan line text = IsPlan plan × ((accepted : Verified) × IsLawful plan (verdicts.Accepted accepted) × (text ≡ line))
+
 done_text : (contents : Option Contents) (plan : Network) (line : List ℕ) (s : Status) (text : List ℕ)
-    → Ends contents (if_accepted [] plan (λ accepted. answered (Done, line))) s text → s ≡ Done → text ≡ line
+    → Ends contents (if_accepted [] plan (λ accepted. answered (Done, line))) s text → s ≡ Done → IsDone plan line text
 done_text contents plan line s text h done = by h.0 h.1.1 h.2 where
   by : (verdict : Verdict) → IsLawful plan verdict
-      → Ends contents (accepted_on [] (λ accepted. answered (Done, line)) plan verdict) s text → text ≡ line
-  by (verdicts.Accepted accepted) lawful e = (Ends-answered contents Done line s text e).1
+      → Ends contents (accepted_on [] (λ accepted. answered (Done, line)) plan verdict) s text → IsDone plan line text
+  by (verdicts.Accepted accepted) lawful e = (h.1.0, (accepted, lawful, (Ends-answered contents Done line s text e).1))
   by (verdicts.Refused same witness) lawful e =
       let t = Ends-answered contents Refused (verdict_text plan (verdicts.Refused same witness)) s text e in
       absurd (let z : Refused ≡ Done = sym t.0 ∙ done in cc)
@@ -107,17 +113,34 @@ done_text contents plan line s text h done = by h.0 h.1.1 h.2 where
       absurd (let z : TooWide ≡ Done = sym t.0 ∙ done in cc)
 
 plan_told : (contents : Option Contents) (file : PlanFile) (calling : Calling) (s : Status) (text : List ℕ) (taken taken' : Option (List ℕ))
-    → taken' ≡ append_known taken text → PlanEnds contents file (λ plan end. end ≡ Done → text ≡ connect_text plan calling) s
+    → taken' ≡ append_known taken text → PlanEnds contents file (λ plan end. end ≡ Done → IsDone plan (connect_text plan calling) text) s
     → ConnectTells contents file calling s taken taken'
 plan_told contents file calling TooLong text taken taken' is (long h) = λ done. absurd (let z : TooLong ≡ Done = done in cc)
 plan_told contents file calling BadPlan text taken taken' is (bad h) = λ done. absurd (let z : BadPlan ≡ Done = done in cc)
 plan_told contents file calling s text taken taken' is (good h) = λ done.
-    (h.0, h.1, h.2, (h.3.0, h.3.1, (text, is, (λ asked node named outer.
-    subst (TellsCall h.3.0 node calling) (sym (h.3.2 done)) (call_told h.3.0 node calling asked named outer)))))
+    let d = h.3.2 done in
+    let accepted : Verified = d.1.0 in (
+      h.0,
+      h.1,
+      h.2,
+      (
+        h.3.0,
+        h.3.1,
+        (
+          accepted,
+          d.1.1,
+          text,
+          is,
+          (λ asked node named outer.
+              subst (TellsCall h.3.0 accepted.bound node calling) (sym d.1.2)
+              (call_told h.3.0 accepted.bound node calling d.0 d.1.1.0 asked named outer)),
+        ),
+      ),
+    )
 
 pub connect_told : (contents : Option Contents) (file : PlanFile) (calling : Calling) (s : Status) (text : List ℕ) (taken taken' : Option (List ℕ))
     → taken' ≡ append_known taken text → Ends contents (connect_work file calling) s text → ConnectTells contents file calling s taken taken'
 connect_told contents file calling s text taken taken' is h =
     plan_told contents file calling s text taken taken' is
-    (Ends-with_plan (λ plan end. end ≡ Done → text ≡ connect_text plan calling) contents file (connect_judged calling) s text
+    (Ends-with_plan (λ plan end. end ≡ Done → IsDone plan (connect_text plan calling) text) contents file (connect_judged calling) s text
     (λ plan e done. done_text contents plan (connect_text plan calling) s text e done) h)

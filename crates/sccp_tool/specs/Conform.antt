@@ -51,14 +51,14 @@ ConformCause contents plan file BadPlan = HasBadPlan contents plan
 ConformCause contents plan file TooLong = HasLongFile contents plan ⊎ HasPlan contents plan (λ p. HasLongFile contents (plain file))
 ConformCause contents plan file answer = ⊥
 
--- The text has a line for each message, and for each line of the file without one. What the lines say of the messages is true.
+-- The text has a line for each message, and for each line of the file without one. What it says of the messages is true.
 pub record TellsJudgement (plan : Network) (octets text : List ℕ) : Type 0 where
   pub items : List Item
   pub read : items_of octets ≡ Ok items
   pub judgement : Judgement
   pub is : IsJudgement plan (events_in items) judgement
   pub text_is : text ≡ report_text plan items judgement
-  pub true_lines : AreTrue plan (events_in items) judgement.lines
+  pub is_true : AreTrue plan (events_in items) judgement
 
 -- under Done and Differs the sink took the text of a judgement on the messages of the file
 abbrev pub ConformTells : Contents → PlanFile → List ℕ → Status → List ℕ → Type 0

@@ -12,10 +12,12 @@ use Rattle.chain_call.specs.declared.outcome.Outcome.TheVariants.{Unsettled, Una
 use Rattle.chain_call.specs.declared.outcome.Through.{Through}
 use Rattle.chain_world.specs.Kept.{kept}
 use Rattle.plan_model.specs.declared.limits.Limits.{Limits}
+use Rattle.plan_check.specs.Verified.{Verified}
 use Rattle.plan_model.specs.Covered.{Covered, IsAllowed}
-use Rattle.plan_model.specs.Network.{Network, IsPlan, has_name, has_point}
-use Rattle.plan_model.specs.Verdicts.{Safe}
+use Rattle.plan_model.specs.Network.{Network, has_name, has_point}
 use Rattle.plan_model.specs.declared.spot.Spot.{Spot}
+use Rattle.plan_verify.specs.Lawful.{IsLawful}
+use Rattle.plan_verify.specs.declared.verdict.Verdict.TheVariants.{Accepted}
 use Rattle.sccp_address.specs.Written.{IsTitle}
 use Rattle.sccp_address.specs.declared.address.Title.TheVariants.{Global}
 use Rattle.sccp_io.specs.Files.{Contents}
@@ -138,7 +140,8 @@ connect_work file calling = with_plan file (λ plan. connect_judged calling plan
 
 -- ---- what the text says
 
--- What words give: a title that a message can have. No words are so long that they give more octets.
+-- What words of this command give: a title that a message can have, and no more octets than that, which are 2^57 digits. That they
+-- give such a title is not part of this.
 pub record IsAsked (calling : Calling) : Type 0 where
   pub title : IsTitle (Global calling.start.selector calling.start.digits)
   pub ssn : calling.start.ssn < 256
@@ -158,15 +161,17 @@ abbrev pub TellsReached : Network → Spot → ℕ → List ℕ → List ℕ →
 TellsReached plan spot most octets text = (names : List (List ℕ)) × (far : ℕ) × (ssn : ℕ) × (length names ≤ most)
     × IsAllowed plan spot far ssn × (text ≡ open_text names far octets)
 
--- Of a call from an end to the relay at this place: it was answered. If a safe plan covers the title, and allows no place at a relay for
--- it, the connection is open.
-abbrev pub TellsCall : Network → ℕ → Calling → List ℕ → Type 0
-TellsCall plan node calling text = TellsAnswered calling.octets text
-    × (IsPlan plan → Covered plan (spot_called plan (call_of plan node calling)) → AllowsEnds plan (spot_called plan (call_of plan node calling))
-    → (bound : ℕ) → Safe plan bound → bound ≤ 14 → TellsReached plan (spot_called plan (call_of plan node calling)) bound calling.octets text)
+-- Of a call from an end to the relay at this place, over a plan that is safe for a bound: it was answered. If the plan covers the title,
+-- and allows no place at a relay for it, the connection is open over at most so many relays.
+abbrev pub TellsCall : Network → ℕ → ℕ → Calling → List ℕ → Type 0
+TellsCall plan bound node calling text = TellsAnswered calling.octets text
+    × (Covered plan (spot_called plan (call_of plan node calling)) → AllowsEnds plan (spot_called plan (call_of plan node calling))
+    → TellsReached plan (spot_called plan (call_of plan node calling)) bound calling.octets text)
 
--- the sink took a text that says so, if the words name a relay and a point that no relay has
+-- The plan was accepted with its bound, and the sink took a text that says so if the words name a relay of the plan and, for the end
+-- that calls, a point that no relay has.
 abbrev pub ConnectTells : Option Contents → PlanFile → Calling → Status → Option (List ℕ) → Option (List ℕ) → Type 0
-ConnectTells contents file calling given taken taken' = given ≡ Done → HasPlan contents file (λ plan. (text : List ℕ)
-    × (taken' ≡ append_known taken text) × (IsAsked calling → (node : ℕ) → position (has_name calling.start.node) plan.nodes ≡ Some node
-    → position (has_point calling.from) plan.nodes ≡ None → TellsCall plan node calling text))
+ConnectTells contents file calling given taken taken' = given ≡ Done → HasPlan contents file (λ plan. (accepted : Verified)
+    × IsLawful plan (Accepted accepted) × (text : List ℕ) × (taken' ≡ append_known taken text)
+    × (IsAsked calling → (node : ℕ) → position (has_name calling.start.node) plan.nodes ≡ Some node
+    → position (has_point calling.from) plan.nodes ≡ None → TellsCall plan accepted.bound node calling text))

@@ -2,3 +2,4 @@
 pub mod Ways
 pub mod Lines
 pub mod Summaries
+pub mod Told

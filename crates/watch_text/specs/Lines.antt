@@ -40,21 +40,23 @@ abbrev pub name_in : ℕ → List TypeName → List ℕ
 name_in code [] = []
 name_in code (t ∷ ts) = if t.code == code then t.name else name_in code ts
 
--- the connectionless types, and the others
+-- the connectionless types
 abbrev pub unit_types : List TypeName
 unit_types = named 9 (codes "UDT") ∷ named 10 (codes "UDTS") ∷ named 17 (codes "XUDT") ∷ named 18 (codes "XUDTS")
     ∷ named 19 (codes "LUDT") ∷ named 20 (codes "LUDTS") ∷ []
 
+-- the connection-oriented types
 abbrev pub connection_types : List TypeName
 connection_types = named 1 (codes "CR") ∷ named 2 (codes "CC") ∷ named 3 (codes "CREF") ∷ named 4 (codes "RLSD") ∷ named 5 (codes "RLC")
     ∷ named 6 (codes "DT1") ∷ named 7 (codes "DT2") ∷ named 8 (codes "AK") ∷ named 11 (codes "ED") ∷ named 12 (codes "EA")
     ∷ named 13 (codes "RSR") ∷ named 14 (codes "RSC") ∷ named 15 (codes "ERR") ∷ named 16 (codes "IT") ∷ []
 
--- the name of a message's type, which its first octet says
+-- the name of a message's type, which its first octet says, if it is a connectionless one
 unfoldable pub unit_name : List ℕ → List ℕ
 unit_name [] = []
 unit_name (code ∷ octets) = name_in code unit_types
 
+-- the same of a connection-oriented type
 unfoldable pub connection_name : List ℕ → List ℕ
 connection_name [] = []
 connection_name (code ∷ octets) = name_in code connection_types
@@ -77,14 +79,22 @@ status_words (Some s) = kind_word s.kind ++ codes " " ++ destination_text s.pc s
 unfoldable pub explained_words : ℕ → List Explanation → List ℕ
 explained_words by ways = codes " explained by " ++ decimal by ++ codes " " ++ ways_text ways
 
+-- before the type of a message that is not judged
+unfoldable pub connection_word : List ℕ
+connection_word = codes "connection "
+
+-- before what management says
+unfoldable pub management_word : List ℕ
+management_word = codes "management "
+
 -- what a message is to the relays of the plan
 unfoldable pub verdict_words : List ℕ → Verdict → List ℕ
 verdict_words octets (Undecodable fault) = codes "undecodable " ++ fault_words fault
-verdict_words octets Connection = codes "connection " ++ connection_name octets
+verdict_words octets Connection = connection_word ++ connection_name octets
 verdict_words octets Other = unit_name octets ++ codes " other"
 verdict_words octets Arrived = unit_name octets
 verdict_words octets (Explained by ways) = unit_name octets ++ explained_words by ways
-verdict_words octets (Management status) = codes "management " ++ status_words status
+verdict_words octets (Management status) = management_word ++ status_words status
 verdict_words octets (Own ssn) = unit_name octets ++ codes " own " ++ decimal ssn
 verdict_words octets (Unexplained why) = unit_name octets ++ codes " unexplained " ++ why_words why
 

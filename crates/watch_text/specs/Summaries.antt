@@ -1,7 +1,6 @@
 -- The printed lines at the end of a capture.
-use Rattle.std.specs.Prelude.{ℕ, ◌+◌, List, [], ◌∷◌, ◌++◌, length, codes, decimal, slice_get, Option, Some, None}
+use Rattle.std.specs.Prelude.{ℕ, ◌+◌, List, [], ◌∷◌, ◌++◌, codes, decimal}
 use Rattle.std.specs.List.{flat_map}
-use Rattle.std.specs.Option.{option_map_or}
 use Rattle.plan_model.specs.Network.{Network}
 use Rattle.sccp_report.specs.Hops.{node_text}
 use Rattle.relay_watch.specs.declared.counts.Counts.{Counts}
@@ -13,13 +12,18 @@ use Rattle.watch_text.specs.Lines.{unanswered_line}
 unfoldable pub counted : List ℕ → ℕ → List ℕ
 counted name count = name ++ decimal count
 
+-- the counts of the messages that a relay sent
 unfoldable pub sent_counts : Counts → List ℕ
 sent_counts c = counted (codes " sent ") c.sent ++ counted (codes " plain ") c.plain ++ counted (codes " failing ") c.failing
     ++ counted (codes " unexplained ") c.unexplained
 
+-- the count of the arrivals that nothing answered
+unfoldable pub unanswered_count : Counts → List ℕ
+unanswered_count c = counted (codes " unanswered ") c.unanswered
+
+-- the counts of everything else
 unfoldable pub other_counts : Counts → List ℕ
-other_counts c = counted (codes " unanswered ") c.unanswered ++ counted (codes " others ") c.others
-    ++ counted (codes " markings ") c.markings
+other_counts c = unanswered_count c ++ counted (codes " others ") c.others ++ counted (codes " markings ") c.markings
 
 -- the counts of a relay
 unfoldable pub counts_line : List ℕ → Counts → List ℕ
@@ -28,7 +32,8 @@ counts_line name c = codes "relay " ++ name ++ counted (codes " arrived ") c.arr
 -- how often a target was taken: the row of the relay, and the target of the row, both from 0
 unfoldable pub target_line : List ℕ → ℕ → ℕ → ℕ → List ℕ
 target_line name row target count =
-    codes "relay " ++ name ++ codes " target " ++ decimal row ++ codes "/" ++ decimal target ++ counted (codes " taken ") count ++ codes "\n"
+    codes "relay " ++ name ++ codes " target " ++ decimal row ++ codes "/" ++ decimal target ++ counted (codes " taken ") count
+    ++ codes "\n"
 
 -- the targets of a row from a place on
 abbrev pub target_lines : List ℕ → ℕ → ℕ → List ℕ → List ℕ
@@ -40,6 +45,7 @@ abbrev pub row_lines : List ℕ → ℕ → List (List ℕ) → List ℕ
 row_lines name row [] = []
 row_lines name row (counts ∷ rows) = target_lines name row 0 counts ++ row_lines name (row + 1) rows
 
+-- the lines of a relay
 unfoldable pub tally_lines : List ℕ → Tally → List ℕ
 tally_lines name t = counts_line name t.counts ++ row_lines name 0 t.taken
 
@@ -48,6 +54,7 @@ abbrev pub relay_lines : Network → ℕ → List Tally → List ℕ
 relay_lines plan node [] = []
 relay_lines plan node (t ∷ ts) = tally_lines (node_text plan node) t ++ relay_lines plan (node + 1) ts
 
+-- how many messages were judged, and how many of them are unexplained
 unfoldable pub end_line : ℕ → ℕ → List ℕ
 end_line events unexplained = counted (codes "end ") events ++ counted (codes " unexplained ") unexplained ++ codes "\n"
 

@@ -1,5 +1,5 @@
 -- The printed text of why a message is explained, or is not.
-use Rattle.std.specs.Prelude.{ℕ, List, [], ◌∷◌, ◌++◌, codes, decimal, Option, Some, None}
+use Rattle.std.specs.Prelude.{ℕ, List, [], ◌∷◌, ◌++◌, codes, decimal}
 use Rattle.std.specs.List.{flat_map}
 use Rattle.std.specs.Option.{option_map_or}
 use Rattle.sccp_base.specs.declared.mark.Mark.{Mark}
@@ -26,6 +26,7 @@ list_text (mark ∷ marks) = mark_text mark ++ flat_map or_mark marks
 unfoldable pub next_list : List Mark → List ℕ
 next_list marks = codes "," ++ list_text marks
 
+-- lists with commas between them, or that there is none
 unfoldable pub lists_text : List (List Mark) → List ℕ
 lists_text [] = codes "none"
 lists_text (marks ∷ lists) = list_text marks ++ flat_map next_list lists
@@ -38,9 +39,11 @@ condition_text c = codes "held " ++ lists_text c.one_of ++ codes " free " ++ mar
 unfoldable pub taken_text : Taken → List ℕ
 taken_text t = codes "target " ++ decimal t.row ++ codes "/" ++ decimal t.target ++ codes " "
 
+-- the return cause of a service message
 unfoldable pub cause_text : ℕ → List ℕ
 cause_text cause = codes "return " ++ decimal cause ++ codes " "
 
+-- the return cause of a service message, and the target by which the message went, each if there is one
 unfoldable pub handling_text : Handling → List ℕ
 handling_text h = option_map_or cause_text h.cause [] ++ option_map_or taken_text h.taken []
 
@@ -48,9 +51,11 @@ handling_text h = option_map_or cause_text h.cause [] ++ option_map_or taken_tex
 unfoldable pub way_text : Explanation → List ℕ
 way_text x = handling_text x.handling ++ condition_text x.condition
 
+-- a way after another one
 unfoldable pub or_way : Explanation → List ℕ
 or_way x = codes " or " ++ way_text x
 
+-- the ways in which the relay sends the message
 unfoldable pub ways_text : List Explanation → List ℕ
 ways_text [] = []
 ways_text (x ∷ xs) = way_text x ++ flat_map or_way xs

@@ -5,11 +5,13 @@
 //! `specs/Lines` and `specs/Summaries`.
 #![tactic(auto)]
 
+mod laws;
 mod lines;
 mod put;
 mod summaries;
 mod types;
 mod ways;
 
+pub use laws::line_tells_verdict;
 pub use lines::put_line;
 pub use summaries::put_summary;

@@ -4,7 +4,9 @@ ghost use Rattle.std.specs.Option.{option_map_or};
 ghost use Rattle.watch_text.specs.Lines.{explained_words, verdict_words, packet_words, head, unanswered_line, line_text};
 
 use crate::put::{put_fault, put_node, put_number, put_point};
-use crate::types::{put_connection_name, put_status, put_unit_name};
+use crate::types::{
+    put_connection_name, put_connection_word, put_management_word, put_status, put_unit_name,
+};
 use crate::ways::{put_ways, put_why};
 use plan_model::Plan;
 use relay_watch::{Event, Line, Unanswered, Verdict};
@@ -34,7 +36,7 @@ fn put_verdict(text: &mut Text, octets: &[u8], verdict: &Verdict) -> Result<(), 
             put_fault(text, *fault)
         }
         Verdict::Connection => {
-            text.put(b"connection ")?;
+            put_connection_word(text)?;
             put_connection_name(text, octets)
         }
         Verdict::Other => {
@@ -47,7 +49,7 @@ fn put_verdict(text: &mut Text, octets: &[u8], verdict: &Verdict) -> Result<(), 
             put_explained(text, *by, ways.as_slice())
         }
         Verdict::Management(status) => {
-            text.put(b"management ")?;
+            put_management_word(text)?;
             put_status(text, status)
         }
         Verdict::Own(ssn) => {

@@ -3,8 +3,8 @@ ghost use Rattle.std.specs.Prelude.{◌≡◌, ◌++◌, OnOk};
 ghost use Rattle.std.specs.List.{flat_map};
 ghost use Rattle.sccp_report.specs.Hops.{node_text};
 ghost use Rattle.watch_text.specs.Lines.{unanswered_line};
-ghost use Rattle.watch_text.specs.Summaries.{counted, sent_counts, other_counts, counts_line, target_line, target_lines, row_lines};
-ghost use Rattle.watch_text.specs.Summaries.{tally_lines, relay_lines, end_line, summary_text};
+ghost use Rattle.watch_text.specs.Summaries.{counted, sent_counts, unanswered_count, other_counts, counts_line, target_line};
+ghost use Rattle.watch_text.specs.Summaries.{target_lines, row_lines, tally_lines, relay_lines, end_line, summary_text};
 
 use crate::lines::put_unanswered;
 use crate::put::put_number;
@@ -32,11 +32,18 @@ fn put_sent_counts(text: &mut Text, counts: &Counts) -> Result<(), OutOfMemory>
     put_counted(text, b" unexplained ", counts.unexplained)
 }
 
+#[tactic(auto, unfolding(crate::specs::Summaries::unanswered_count))]
+fn put_unanswered_count(text: &mut Text, counts: &Counts) -> Result<(), OutOfMemory>
+    ensures { OnOk result (text.new ≡ text.old ++ unanswered_count counts.now) }
+{
+    put_counted(text, b" unanswered ", counts.unanswered)
+}
+
 #[tactic(auto, unfolding(crate::specs::Summaries::other_counts))]
 fn put_other_counts(text: &mut Text, counts: &Counts) -> Result<(), OutOfMemory>
     ensures { OnOk result (text.new ≡ text.old ++ other_counts counts.now) }
 {
-    put_counted(text, b" unanswered ", counts.unanswered)?;
+    put_unanswered_count(text, counts)?;
     put_counted(text, b" others ", counts.others)?;
     put_counted(text, b" markings ", counts.markings)
 }

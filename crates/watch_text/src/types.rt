@@ -1,6 +1,7 @@
 //! The names of message types (Q.713 section 2.1), and of the kinds of status message (section 5).
 ghost use Rattle.std.specs.Prelude.{◌≡◌, ◌++◌, OnOk};
 ghost use Rattle.watch_text.specs.Lines.{unit_types, connection_types, name_in, unit_name, connection_name, kind_word, status_words};
+ghost use Rattle.watch_text.specs.Lines.{connection_word, management_word};
 
 use crate::put::put_destination;
 use sccp_base::OutOfMemory;
@@ -56,6 +57,14 @@ pub fn put_unit_name(text: &mut Text, octets: &[u8]) -> Result<(), OutOfMemory>
     }
 }
 
+/// Appends the word before the type of a message that is not judged.
+#[tactic(auto, unfolding(crate::specs::Lines::connection_word))]
+pub fn put_connection_word(text: &mut Text) -> Result<(), OutOfMemory>
+    ensures { OnOk result (text.new ≡ text.old ++ connection_word) }
+{
+    text.put(b"connection ")
+}
+
 /// Appends the name of the type of a connection-oriented message with these octets.
 #[tactic(auto, unfolding(crate::specs::Lines::connection_name))]
 pub fn put_connection_name(text: &mut Text, octets: &[u8]) -> Result<(), OutOfMemory>
@@ -80,6 +89,14 @@ fn put_kind(text: &mut Text, kind: &StatusKind) -> Result<(), OutOfMemory>
         StatusKind::OutOfServiceGrant => text.put(b"sog"),
         StatusKind::Congested => text.put(b"ssc"),
     }
+}
+
+/// Appends the word before what management says.
+#[tactic(auto, unfolding(crate::specs::Lines::management_word))]
+pub fn put_management_word(text: &mut Text) -> Result<(), OutOfMemory>
+    ensures { OnOk result (text.new ≡ text.old ++ management_word) }
+{
+    text.put(b"management ")
 }
 
 /// Appends what management says of which subsystem.

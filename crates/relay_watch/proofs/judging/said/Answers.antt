@@ -19,5 +19,6 @@ returns-in-Ok-clause-said c =
 pub returns-in-Err-clause-said : goal.returns-in-Err-clause-said
 returns-in-Err-clause-said c =
     let is : reading c.as_slice.result.now ≡ Err c.in-Err.fault = first_of (search rules, grind (arith, common_steps)) in
-    said_fault c.args.plan.now c.args.waiting.now c.args.answered.now c.args.event.now c.in-Err.fault (reading c.args.event.now.octets) c.only.result
+    said_fault c.args.plan.now c.args.waiting.now c.args.answered.now c.args.event.now c.in-Err.fault
+    (reading c.args.event.now.octets) c.only.result
     (ap reading (sym c.as_slice.ensures) ∙ is) c.only.ensures.verdict c.only.ensures.place c.only.ensures.begins c.only.ensures.other

@@ -4,7 +4,7 @@ use Rattle.sccp_scrc.specs.Returning.{service_for}
 use Rattle.sccp_scrc.specs.declared.arrival.Arrival.TheVariants.{Returned}
 use Rattle.sccp_scrc.specs.declared.service.Service.{Service}
 use Rattle.relay_ways.specs.Candidates.{candidates_of}
-use Rattle.relay_ways.proofs.would_send.add_returned.Goals as goal
+use Rattle.relay_ways.proofs.returning.add_returned.Goals as goal
 
 pub returns : goal.returns
 returns c m marks reads =

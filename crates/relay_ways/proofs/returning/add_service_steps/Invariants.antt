@@ -4,7 +4,7 @@ use Rattle.std.specs.List.{flat_map}
 use Rattle.sccp_message.specs.declared.message.Message.{Message}
 use Rattle.sccp_message.specs.Reading.{reading}
 use Rattle.relay_ways.specs.Candidates.{step_going_on, turn_steps}
-use Rattle.relay_ways.proofs.would_send.add_service_steps.Given as goal
+use Rattle.relay_ways.proofs.returning.add_service_steps.Given as goal
 
 -- the candidates so far, then those of the steps ahead, are those of all
 abbrev pub invariant-loop-step : goal.invariant-loop-step

@@ -8,7 +8,7 @@ use Rattle.relay_ways.specs.Outcomes.{titled}
 use Rattle.relay_ways.specs.Turns.{turns_of}
 use Rattle.relay_ways.specs.declared.candidate.Candidate.{Candidate}
 use Rattle.relay_ways.proofs.StepLemmas.{titled_going_on}
-use Rattle.relay_ways.proofs.would_send.add_titled_service.Goals as goal
+use Rattle.relay_ways.proofs.returning.add_titled_service.Goals as goal
 
 pub returns-in-Some : goal.returns-in-Some
 returns-in-Some c m reads =

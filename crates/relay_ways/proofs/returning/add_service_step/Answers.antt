@@ -2,7 +2,7 @@ use Rattle.std.proofs.Common.{◌≡◌, ◌++◌, List, ◌∙◌, subst, sym}
 use Rattle.std.specs.Prelude.{OnOk}
 use Rattle.relay_ways.specs.declared.candidate.Candidate.{Candidate}
 use Rattle.relay_ways.proofs.StepLemmas.{going_on_is}
-use Rattle.relay_ways.proofs.would_send.add_service_step.Goals as goal
+use Rattle.relay_ways.proofs.returning.add_service_step.Goals as goal
 
 pub returns-in-Some : goal.returns-in-Some
 returns-in-Some c m reads =
