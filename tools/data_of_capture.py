@@ -43,13 +43,8 @@ class Texts(reader.Lines):
         self.packets.append(self.counts["packets"])
 
 
-def main():
-    words = argparse.ArgumentParser(description=__doc__, formatter_class=argparse.RawDescriptionHelpFormatter)
-    words.add_argument("--packets", action="store_true")
-    words.add_argument("capture", metavar="CAPTURE")
-    words = words.parse_args()
-    with open(words.capture, "rb") as file:
-        octets = file.read()
+def read(octets):
+    """What a capture gives, and the status."""
     found, status = Texts(), 0
     try:
         for packet in reader.packets(octets):
@@ -61,9 +56,20 @@ def main():
         status = 0 if fault == "cut" else 70
     for (packet, number), _ in found.messages.waiting:
         found.line("faults", "alone", number, packet)
-    sys.stdout.write("".join(f"{one}\n" for one in (found.packets if words.packets else found.texts)))
     counts = " ".join(f"{name} {count}" for name, count in found.counts.items())
-    sys.stderr.write("".join(f"{line}\n" for line in [*found.printed, f"# end {counts}"]))
+    found.printed.append(f"# end {counts}")
+    return found, status
+
+
+def main():
+    words = argparse.ArgumentParser(description=__doc__, formatter_class=argparse.RawDescriptionHelpFormatter)
+    words.add_argument("--packets", action="store_true")
+    words.add_argument("capture", metavar="CAPTURE")
+    words = words.parse_args()
+    with open(words.capture, "rb") as file:
+        found, status = read(file.read())
+    sys.stdout.write("".join(f"{one}\n" for one in (found.packets if words.packets else found.texts)))
+    sys.stderr.write("".join(f"{line}\n" for line in found.printed))
     return status
 
 
