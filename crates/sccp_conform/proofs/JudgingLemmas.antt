@@ -8,12 +8,14 @@ use Rattle.plan_model.specs.Network.{Network}
 use Rattle.relay_watch.specs.Kept.{Kept, nothing_kept, summary_of}
 use Rattle.relay_watch.specs.Runs.{AreJudged}
 use Rattle.relay_watch.specs.Watching.{AreWatched}
+use Rattle.relay_watch.specs.declared.event.Event.{Event}
 use Rattle.relay_watch.specs.declared.line.Line.{Line}
 use Rattle.sccp_conform.specs.Items.{events_in}
 use Rattle.sccp_conform.specs.Reports.{refused_text, point_text, empty_text, text_of_items, status_for}
 use Rattle.sccp_conform.specs.Steps.{PutsItem, PutsItems, Reports}
 use Rattle.sccp_conform.specs.declared.item.Item.{Item}
 use Rattle.sccp_conform.specs.declared.item.Item.TheVariants.{Seen, Refused, OtherPoint, NoOctets, Nothing}
+use Rattle.sccp_work.specs.Judgement.{Judgement, IsJudgement}
 use Rattle.sccp_work.specs.declared.status.Status.{Status}
 use Rattle.watch_text.specs.Lines.{line_text}
 use Rattle.watch_text.specs.Summaries.{summary_text}
@@ -80,19 +82,23 @@ pub done : (plan : Network) (xs : List Item) (start : Kept) (before : List ℕ) 
 done plan xs start before i now text le h =
     nothing plan xs start before now text (subst (λ ys. GoesOn plan xs start before ys now text) (drop_of_length-le xs le) h)
 
+-- what is said of all judgements
+abbrev pub Vouched : Type 0
+Vouched = (plan : Network) (events : List Event) (j : Judgement) → AreJudged plan [] events j.lines j.left.waiting
+    → AreWatched plan (nothing_kept plan) events j.lines j.left → IsJudgement plan events j
+
 -- the last lines are put after the text of all items
 pub reported : {F : Type 0} (r : Result Status F) (plan : Network) (items : List Item) (start left : Kept) (before text after : List ℕ)
-    → start ≡ nothing_kept plan → PutsItems plan items start left before text → OnOk r (after ≡ text ++ summary_text plan (summary_of left))
+    → Vouched → start ≡ nothing_kept plan → PutsItems plan items start left before text → OnOk r (after ≡ text ++ summary_text plan (summary_of left))
     → IfOk r (λ s. s ≡ status_for (summary_of left).unexplained) → IfOk r (λ s. Reports plan items before after s)
-reported (Err fault) plan items start left before text after first h spelt is = tt
-reported (Ok status) plan items start left before text after first h spelt is =
+reported (Err fault) plan items start left before text after vouch first h spelt is = tt
+reported (Ok status) plan items start left before text after vouch first h spelt is =
     let last : List ℕ = summary_text plan (summary_of left) in
+    let j : Judgement = record { lines = h.lines; left = left } in
     record {
-      judgement = record { lines = h.lines; left = left };
-      is = record {
-        judged = subst (λ k. AreJudged plan k.waiting (events_in items) h.lines left.waiting) first h.judged;
-        watched = subst (λ k. AreWatched plan k (events_in items) h.lines left) first h.watched;
-      };
+      judgement = j;
+      is = vouch plan (events_in items) j (subst (λ k. AreJudged plan k.waiting (events_in items) h.lines left.waiting) first h.judged)
+          (subst (λ k. AreWatched plan k (events_in items) h.lines left) first h.watched);
       status_is = is;
       text_is = spelt ∙ ap (λ t. t ++ last) h.text_is ∙ append_assoc before (text_of_items plan items h.lines) last;
     }

@@ -3,7 +3,6 @@ use Rattle.std.proofs.Common.{◌≡◌, ℕ, zero, suc, Bool, true, false, not,
 use Rattle.std.specs.Prelude.{filter_map, IsSomeAnd}
 use Rattle.std.specs.List.{cons_option}
 use Rattle.plan_model.specs.Network.{Network}
-use Rattle.relay_watch.proofs.Waited.{left_waits, given_waits}
 use Rattle.relay_watch.specs.Kept.{Kept, nothing_kept, with_named, named_in, is_named, unanswered, unanswered_if, summary_of}
 use Rattle.relay_watch.specs.Runs.{HasArrived, IsUnused, NumbersDiffer}
 use Rattle.relay_watch.specs.Watching.{AreWatched}
@@ -66,7 +65,7 @@ pub given_up : (plan : Network) (events : List Event) (j : Judgement) (i : ℕ) 
 given_up plan events j i line u differ is at e =
     let n = at_line plan (nothing_kept plan) events j.lines j.left i line is.watched at in
     let g = given n.0 line.given_up u (sym n.1 ∙ e) in
-    let h = given_waits plan events j.lines j.left.waiting i g.0 is.judged (gives j.lines i line g.0 at g.1.0) in
+    let h = is.unanswered.given i g.0 (gives j.lines i line g.0 at g.1.0) in
     told plan events j.lines g.0 n.0 u h.0 (h.1 differ) g.1.1
 
 -- ---- one that waits at the end
@@ -91,5 +90,5 @@ pub left_over : (plan : Network) (events : List Event) (j : Judgement) (i : ℕ)
 left_over plan events j i u differ is at =
     let f = found j.left.named j.left.waiting i u at in
     let w : Waiting = f.1.0 in
-    let h = left_waits plan events j.lines j.left.waiting f.0 w is.judged f.1.1 in
+    let h = is.unanswered.waits f.0 w f.1.1 in
     told plan events j.lines w j.left.named u h.0 (h.1 differ) f.1.2

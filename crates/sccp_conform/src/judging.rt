@@ -1,12 +1,16 @@
 //! The judgement on a text.
-ghost use Rattle.std.specs.Prelude.{◌≡◌, ◌++◌, IfOk, OnOk};
-ghost use Rattle.relay_watch.specs.Kept.{summary_of};
+ghost use Rattle.std.specs.Prelude.{◌≡◌, ◌++◌, [], List, IfOk, OnOk};
+ghost use Rattle.plan_model.specs.Network.{Network};
+ghost use Rattle.relay_watch.specs.Kept.{nothing_kept, summary_of};
+ghost use Rattle.relay_watch.specs.Runs.{AreJudged};
+ghost use Rattle.relay_watch.specs.Watching.{AreWatched};
 ghost use Rattle.sccp_conform.specs.Items.{items_of};
 ghost use Rattle.sccp_conform.specs.Reports.{refused_text, point_text, empty_text, status_for, text_work};
 ghost use Rattle.sccp_conform.specs.Reports.{IsReport, IsAnswerTo};
 ghost use Rattle.sccp_conform.specs.Steps.{PutsItem, PutsItems, Reports};
 ghost use Rattle.sccp_conform.specs.declared.item.Item.TheVariants.{Seen};
 ghost use Rattle.sccp_work.specs.Ending.{Works};
+ghost use Rattle.sccp_work.specs.Judgement.{Judgement, IsJudgement};
 ghost use Rattle.sccp_work.specs.LineFault.{bad_line};
 ghost use Rattle.sccp_work.specs.Moment.{Moment, with_sink};
 ghost use Rattle.sccp_work.specs.declared.status.Status.TheVariants.{BadTrace};
@@ -17,7 +21,7 @@ use crate::reading::items_of;
 use crate::report::Report;
 use m3ua_trace::ImportError;
 use plan_model::Plan;
-use relay_watch::{Event, Summary, Watch};
+use relay_watch::{Event, Summary, Watch, counted_truly, markings_are_least, unanswered_truly};
 use sccp_base::{Octets, OutOfMemory};
 use sccp_io::Sink;
 use sccp_report::Text;
@@ -125,6 +129,17 @@ fn finish(text: &mut Text, plan: &Plan, watch: Watch) -> Result<Status, OutOfMem
     Ok(status)
 }
 
+/// What a watch says of all messages, from the first one on, is a judgement: its arrivals that nothing answered are such, and its counts
+/// are those of the lines. The call does nothing; its contract is the law.
+fn vouch()
+    ensures { (plan : Network) (events : List Event) (j : Judgement) → AreJudged plan [] events j.lines j.left.waiting
+        → AreWatched plan (nothing_kept plan) events j.lines j.left → IsJudgement plan events j }
+{
+    unanswered_truly();
+    counted_truly();
+    markings_are_least();
+}
+
 /// Judges items, and appends the whole text. The answer is the status.
 fn put_report(
     alloc: Global,
@@ -134,6 +149,7 @@ fn put_report(
 ) -> Result<Status, OutOfMemory>
     ensures { IfOk result (λ status. Reports plan.now items.now text.old text.new status) }
 {
+    vouch();
     let mut watch = Watch::new(alloc, plan)?;
     match put_items(text, plan, &mut watch, items) {
         Ok(()) => finish(text, plan, watch),
