@@ -10,5 +10,7 @@ mod cover_order;
 mod laws;
 mod needless;
 
+pub use cover_key::CoverKey;
+pub use cover_order::{PlacedKey, count_below, order_of};
 pub use laws::{titles_are_within, without_needless};
 pub use needless::{Needless, needless_covers};
