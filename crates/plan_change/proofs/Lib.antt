@@ -2,6 +2,8 @@
 pub mod Growing
 pub mod Onward
 pub mod SafeMixtures
+pub mod Between
+pub mod NearKeys
 pub mod Starts
 pub mod Layers
 pub mod Back

@@ -20,6 +20,7 @@ mod laws;
 mod layer;
 mod mixed_hop;
 mod mixing;
+mod near;
 mod open_hop;
 mod plans;
 mod starting;
