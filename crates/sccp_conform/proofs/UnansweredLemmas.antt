@@ -65,30 +65,33 @@ pub given_up : (plan : Network) (events : List Event) (j : Judgement) (i : ℕ) 
 given_up plan events j i line u differ is at e =
     let n = at_line plan (nothing_kept plan) events j.lines j.left i line is.watched at in
     let g = given n.0 line.given_up u (sym n.1 ∙ e) in
-    let h = is.unanswered.given i g.0 (gives j.lines i line g.0 at g.1.0) in
-    told plan events j.lines g.0 n.0 u h.0 (h.1 differ) g.1.1
+    let h = is.unanswered.given i g.0 (gives j.lines i line g.0 at g.1) in
+    told plan events j.lines g.0 n.0 u h.0 (h.1 differ) g.2
 
 -- ---- one that waits at the end
 
+-- an arrival that waits, and what is told of it
+abbrev Found : List ℕ → List Waiting → Unanswered → Type 0
+Found named ws u = (k : ℕ) × (w : Waiting) × (slice_get ws k ≡ Some w) × (unanswered named w ≡ Some u)
+
+later : (named : List ℕ) (w : Waiting) (ws : List Waiting) (u : Unanswered) → Found named ws u → Found named (w ∷ ws) u
+later named w ws u h = (suc h.0, h.1, h.2, h.3)
+
 found : (named : List ℕ) (ws : List Waiting) (i : ℕ) (u : Unanswered) → slice_get (filter_map (unanswered named) ws) i ≡ Some u
-    → (k : ℕ) × (w : Waiting) × (slice_get ws k ≡ Some w) × (unanswered named w ≡ Some u)
+    → Found named ws u
 found named [] zero u at = absurd cc
 found named [] (suc i) u at = absurd cc
-found named (w ∷ ws) i u at = by (unanswered named w) refl i at where
-  later : (k : ℕ) × (x : Waiting) × (slice_get ws k ≡ Some x) × (unanswered named x ≡ Some u)
-      → (k : ℕ) × (x : Waiting) × (slice_get (w ∷ ws) k ≡ Some x) × (unanswered named x ≡ Some u)
-  later h = (suc h.0, (h.1.0, (h.1.1, h.1.2)))
-
-  by : (o : Option Unanswered) → unanswered named w ≡ o → (i : ℕ) → slice_get (cons_option o (filter_map (unanswered named) ws)) i ≡ Some u
-      → (k : ℕ) × (x : Waiting) × (slice_get (w ∷ ws) k ≡ Some x) × (unanswered named x ≡ Some u)
-  by None e i h = later (found named ws i u h)
-  by (Some v) e zero h = (0, (w, (refl, e ∙ h)))
-  by (Some v) e (suc i) h = later (found named ws i u h)
+found named (w ∷ ws) i u at = by (λ k h. found named ws k u h) (unanswered named w) refl i at where
+  by : ((k : ℕ) → slice_get (filter_map (unanswered named) ws) k ≡ Some u → Found named ws u)
+      → (o : Option Unanswered) → unanswered named w ≡ o → (k : ℕ)
+      → slice_get (cons_option o (filter_map (unanswered named) ws)) k ≡ Some u → Found named (w ∷ ws) u
+  by rest None e k h = later named w ws u (rest k h)
+  by rest (Some v) e zero h = (0, w, refl, e ∙ h)
+  by rest (Some v) e (suc k) h = later named w ws u (rest k h)
 
 pub left_over : (plan : Network) (events : List Event) (j : Judgement) (i : ℕ) (u : Unanswered) → NumbersDiffer events
     → IsJudgement plan events j → slice_get (summary_of j.left).unanswered i ≡ Some u → IsUnanswered plan events j.lines u
 left_over plan events j i u differ is at =
     let f = found j.left.named j.left.waiting i u at in
-    let w : Waiting = f.1.0 in
-    let h = is.unanswered.waits f.0 w f.1.1 in
-    told plan events j.lines w j.left.named u h.0 (h.1 differ) f.1.2
+    let h = is.unanswered.waits f.0 f.1 f.2 in
+    told plan events j.lines f.1 j.left.named u h.0 (h.1 differ) f.3
