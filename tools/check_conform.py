@@ -5,7 +5,8 @@
 
 First the reference is held against itself: of messages of drawn plans, the ways that it finds for all markings at once have to be what a
 relay sends under each set of the marks that occur. Then the program is called with seven scenarios of one plan, with N drawn plans (100
-unless given), whose relays lose, repeat, change and misdirect some messages, and with texts that have other lines. Last, N traces (30
+unless given), whose relays lose, repeat, change and misdirect some messages, with messages of all kinds over each of these plans, and
+with texts that have other lines. Last, N traces (30
 unless given) are replayed by the program over accepted plans; what the relays of a replay send has to be explained, line by line, by
 conditions that the marks which the replay held meet.
 
@@ -277,6 +278,82 @@ def draw_unit(draw, number):
                 hops=draw.choice([15, 2, 16]))
 
 
+def draw_title(draw):
+    """A title of any kind, or none; some are of kinds that are not read."""
+    if draw.random() < .5:
+        return INTERNATIONAL, draw.choice(["491710000012", "4917", "43664", "0171", "", "49" + "0" * 30])
+    return draw.choice([None, ("raw", 12, b"\x01\x02"), ("raw", 0, b""), ("raw", 4, b"\0\x13\4\x21"), ((1, 0, 0, 4), "4917"),
+                        ((2, 7, 0, 0), "4917"), ((3, 0, 1, 0), "491"), (NATIONAL, "0171")])
+
+
+def draw_address(draw):
+    title = draw_title(draw)
+    title = None if title == ("raw", 0, b"") else title
+    return relays.Address(draw.random() < .1, draw.random() < .4, draw.choice([None, None, USER, A, B, ONE]),
+                          draw.choice([None, 0, 1, 6, 6, 8, 9]), title)
+
+
+def draw_octets(draw, number):
+    """Octets of any connectionless message, or now and then of another one or of none."""
+    if draw.random() < .05:
+        return draw.choice([bytes.fromhex("011100000202000B1206001204947101000021"), bytes.fromhex("0980030E"), b"\x15", draw.randbytes(9)])
+    kind = draw.choice(list(relays.CODES))
+    fixed = draw.choice([0, 1, 3, 5, 11, 12]) if kind.endswith("S") else draw.choice([0, 1, 0x80, 0x80, 0x81, 5])
+    hops = None if kind in ("UDT", "UDTS") else draw.choice([0, 1, 2, 14, 15, 16, 255])
+    params = draw.choice([(), ((0x12, b"\3"),), ((0x99, b"\1\2"), (0x12, b"\3"))]) if hops is not None else ()
+    data = draw.choice([bytes([number]), bytes([number % 3]), b"", b"\2\6\1\x10\0"])
+    octets = relays.encode(relays.Message(kind, fixed, hops, draw_address(draw), draw_address(draw), data, params))
+    return b"\x09" if octets is None else octets
+
+
+def redrawn(draw, octets):
+    """The message with another value of one field, or the octets if they are of no such message."""
+    try:
+        m = relays.decode(octets)
+    except relays.Bad:
+        return octets
+    if isinstance(m, str):
+        return octets
+    field = draw.choice(["type", "fixed", "hops", "called", "calling", "data", "params", "national", "by_ssn", "pc", "ssn", "title"])
+    values = {"type": "UDT" if m.hops is None else draw.choice(["XUDT", "LUDT"]), "fixed": draw.choice([0, 1, 5, 0x80]),
+              "hops": None if m.hops is None else draw.choice([m.hops + 1 & 255, 15]), "called": draw_address(draw),
+              "calling": draw_address(draw), "data": draw.choice([b"", m.data + b"\1"]), "params": m.params[:-1],
+              "national": not m.called.national, "by_ssn": not m.called.by_ssn,
+              "pc": draw.choice([None, A, ONE, TWO]), "ssn": draw.choice([None, 6, 7, 9]), "title": draw_title(draw)}
+    if field == "title" and values["title"] == ("raw", 0, b""):
+        return octets
+    if field in ("called", "calling"):
+        new = m._replace(**{field: values[field]})
+    elif field in relays.Address._fields:
+        new = m._replace(called=m.called._replace(**{field: values[field]}))
+    else:
+        new = m._replace(**{field: values[field]})
+    return relays.encode(new) or octets
+
+
+def draw_mixture(draw, nodes):
+    """Messages of all kinds, sent as the plan has it, with other values, by users, or not at all."""
+    s = Scene(nodes)
+    points = [node.pc for node in nodes] + [USER, ONE, TWO, THREE]
+    for number in range(draw.randrange(4, 30)):
+        if draw.random() < .3:
+            s.held[draw.randrange(len(nodes))] = set(draw.sample(marks_at(nodes), draw.randrange(6)))
+        octets = draw_octets(draw, number)
+        to = draw.choice(points)
+        s.add(draw.choice(points), to, octets)
+        if to in s.at and draw.random() < .9:
+            try:
+                m = relays.decode(octets)
+            except relays.Bad:
+                continue
+            sent = None if isinstance(m, str) else relays.sends(nodes[s.at[to]], s.held[s.at[to]], s.events[-1][0], m)
+            if sent is not None:
+                out = relays.encode(sent[1])
+                out = redrawn(draw, out) if draw.random() < .4 else out
+                s.add(to, sent[0] if draw.random() < .9 else draw.choice(points), out)
+    return s.events
+
+
 def marks_at(nodes):
     points = [node.pc for node in nodes] + [ONE, TWO, THREE]
     return [(kind, pc) for kind in ("point", "sccp") for pc in points] + [("subsystem", pc, ssn) for pc in (ONE, TWO, THREE) for ssn in (6, 7)]
@@ -386,6 +463,11 @@ def kind_of(line):
 
 # ---- texts with other lines
 
+def answer(data):
+    """What relay a of the scenarios sends because of unit(data), with nothing prohibited."""
+    return relays.encode(relays.sends(relays.plan_of(PLAN)[0], frozenset(), USER, relays.decode(unit(data)))[1])
+
+
 def other_texts():
     one = data_message(USER, A, unit(b"\1")).hex()
     yield "nothing", b""
@@ -400,6 +482,11 @@ def other_texts():
     yield "a comment", b"# here\n"
     yield "a capture", bytes.fromhex("D4C3B2A1020004000000000000000000FFFF000001000000")
     yield "a capture in blocks", bytes.fromhex("0A0D0D0A1C0000004D3C2B1A01000000FFFFFFFFFFFFFFFF1C000000")
+    answered = text_of([event for _ in range(1023) for event in ((USER, A, unit(b"\1")), (A, B, answer(b"\1")))])
+    first = text_of([(USER, A, unit(b"\0")), (A, B, answer(b"\0"))])
+    yield "a message again after 1,023 answers", first + answered + text_of([(A, B, answer(b"\0"))])
+    last = text_of([(USER, A, unit(b"\2")), (A, B, answer(b"\2")), (A, B, answer(b"\0"))])
+    yield "a message again after 1,024 answers", first + answered + last
     yield "a line that is too long", b"0" * 8194 + b"\n"
     yield "the longest line", b"0" * 8192 + b"\n"
 
@@ -510,6 +597,9 @@ def replay(draw, check, title):
                 check.differs(title, plan, text, f"the marks that the replay held do not meet {line}")
         elif kind_of(line) == "unexplained":
             check.differs(title, plan, text, f"of a replay: {line}")
+    sent = sum(origin in s.at for origin, _, _ in s.events)
+    if explained != sent:
+        check.differs(title, plan, text, f"of {sent} messages of a replay {explained} are explained")
     return explained
 
 
@@ -548,6 +638,7 @@ def main():
                 check.kinds.update(kind_of(line) for line in relays.printed(nodes, text_of(events))[0])
             else:
                 check.compare(f"plan {number} of seed {given.seed}", plan, text_of(events))
+                check.compare(f"mixture {number} of seed {given.seed}", plan, text_of(draw_mixture(draw, nodes)))
         if not given.alone:
             for number in range(given.replays):
                 draw = random.Random(given.seed * 2_000_003 + number)

@@ -630,11 +630,10 @@ class Watch:
         if source is None and target is None:
             return [head + "%s other" % m.type]
         is_management = m.called.by_ssn and m.called.ssn == 1
-        words = management_text(m) if is_management else m.type
-        if source is not None:
-            verdict = self.sent(source, event, m, is_management)
-            words += verdict
-        lines = [head + words]
+        # A message for SCCP management that an arrival explains is told as any other.
+        verdict = self.sent(source, event, m, is_management) if source is not None else ""
+        words = management_text(m) if is_management and not verdict else m.type
+        lines = [head + words + verdict]
         if target is not None:
             lines += self.arrived(target, event, m, is_management)
         return lines

@@ -28,7 +28,7 @@ Fields in [] are only there if the line has them. A.B is the key B of the dict A
   too_long           [limit]                                      every command that reads a file
   read_fault                                                      the same
   bad_plan           [which] FAULT                                every command that reads a plan
-  bad_trace_line     line fault                                   show, import, replay
+  bad_trace_line     line fault                                   show, import, conform, replay
   unknown_node       [line]                                       route, connect, send-on; with a line: replay
   accepted           [which] bound                                verify, margin; with which ("old" or "new"): change, order
   refused            [which] KIND cover steady                    verify, margin, replay, load, connect; with which: change, order
@@ -82,6 +82,12 @@ Fields in [] are only there if the line has them. A.B is the key B of the dict A
   connection_refused cause text                                   connect
   unanswered, unsettled, end_is_node                              connect
   trace_message      node origin octets                           import, capture
+  captured           line from to VERDICT                         conform: a message; from and to are relays, or points
+  arrival_unanswered line node                                    conform
+  line_skipped       line why [number]                            conform: a line without a message
+  relay_counted      node arrived sent plain failing unexplained unanswered others markings, conform: how many
+  target_counted     node row target taken                        conform: how many messages went to it
+  judged             messages unexplained                         conform: how many
   skipped            why [number]                                 import
   packet_skipped     packet [chunk] why [number] [layer] [octets] capture: a packet or a chunk that gives no message
   capture_ended      octet why                                    capture: the file is cut off or damaged there
@@ -102,6 +108,10 @@ KIND is kind, and for "loop" hop, for "forbidden" point and ssn, for "no row" ca
 FAULT is fault, with place.node, place.row, place.cover and place.key as far as the place has them. "rule" also has rule: "twice" with
 place.rows, "strip too long" or "kind two" with place.row. "limit" has of and [limit], and "not toml" and "no cover" have no more. limit is the number that was passed, if it is not the standard
 one, as it is after wide.
+VERDICT is verdict and its fields: "arrived" and "other" have type; "own" type and ssn; "explained" type, by (the line of the arrival) and
+ways; "unexplained" type and either by and why, or again (the line that was explained before), or why "no arrival"; "management"
+status, and point and ssn unless that is None; "connection" type; "undecodable" WHY. A way has row and target, or cause, or all three,
+with held, a list of lists of marks, and free, a list of marks.
 WHY is fault, and for "bad pointer" and "bad part" number, for "address" number and why, for "field" name.
 
 title of a hop or a gap is title.selector, title.ssn and title.digits. step is "sent" with next and target, "ended" with point, ssn and
@@ -186,6 +196,31 @@ def without(causes):
     return Type(f"(?!(?:{'|'.join(map(str, causes))})\\b){WHOLE}", int, str)
 
 
+MARK_LIST = f"{MARK}(?:,{MARK})*"
+MARK_LISTS = f"{MARK}(?:\\|{MARK})*(?:,{MARK}(?:\\|{MARK})*)*"
+WAY = re.compile(f"(?:return (?P<cause>{WHOLE}))? ?(?:target (?P<row>{WHOLE})/(?P<target>{WHOLE}))? "
+                 f"held (?P<held>none|{MARK_LISTS}) free (?P<free>none|{MARK_LIST})")
+TARGET = f"target {WHOLE}/{WHOLE}"
+ONE_WAY = f"(?:return {WHOLE}(?: {TARGET})?|{TARGET}) held (?:none|{MARK_LISTS}) free (?:none|{MARK_LIST})"
+
+
+def read_way(text):
+    found = WAY.fullmatch(text)
+    way = {name: int(found[name]) for name in ("cause", "row", "target") if found[name]}
+    held, free = ([] if found[name] == "none" else found[name].split(",") for name in ("held", "free"))
+    way["held"] = [[read_mark(mark) for mark in marks.split("|")] for marks in held]
+    way["free"] = [read_mark(mark) for mark in free]
+    return way
+
+
+def write_way(way):
+    words = [f"return {way['cause']}"] if "cause" in way else []
+    words += [f"target {way['row']}/{way['target']}"] if "row" in way else []
+    held = ",".join("|".join(mark_text(mark) for mark in marks) for marks in way["held"]) or "none"
+    free = ",".join(mark_text(mark) for mark in way["free"]) or "none"
+    return " ".join([*words, "held", held, "free", free])
+
+
 CONNECTION_ORIENTED = "CR, CC, CREF, RLSD, RLC, DT1, DT2, AK, ED, EA, RSR, RSC, ERR, IT"
 CONNECTIONLESS = "UDT, UDTS, XUDT, XUDTS, LUDT, LUDTS"
 NUMBER = Type(WHOLE, int, str)
@@ -203,14 +238,16 @@ TYPES = {
     "point": POINT, "to": POINT, "origin": POINT,
     "octets": OCTETS, "data": OCTETS, "whole": OCTETS, "arrived": OCTETS, "digits": DIGITS, "prefix": DIGITS,
     "held": MARKS, "marks": MARKS, "mark": Type(MARK, read_mark, mark_text), "via": NAMES, "nodes": NAMES,
-    "selector": SELECTOR,
+    "selector": SELECTOR, "ways": Type(f"{ONE_WAY}(?: or {ONE_WAY})*", *listed(" or ", read_way, write_way)),
     "file": Type("[!-~]{1,255}"),
     "name": Type("[0-9A-F]{2}"),
     "rows": Type(f"{WHOLE} {WHOLE}", *listed(" ", int, str)),
     "shapes": Type(f"{SHAPE}(?: \\| {SHAPE})*", *listed(" | ")),
     # Types that the patterns name.
     "number": NUMBER,
-    "of_connection": one_of(CONNECTION_ORIENTED),
+    "of_connection": one_of(CONNECTION_ORIENTED), "of_unit": one_of(CONNECTIONLESS),
+    "test": one_of("type, not asked, class, cause, calling, parameters, stays, hops, point, national, routing, ssn, title, digits, "
+                   "called point, closed"),
     "status_word": one_of("ssa, ssp, sst, sor, sog, ssc"),
     "key_word": one_of("version, node, cover, name, point, subsystems, concerned, row, selector, prefix, first, backup, targets, ssn, "
                        "least, most, allowed, unknown key"),
@@ -254,6 +291,11 @@ NAMED = {
     "RAW": "title raw:{title.raw} digits {title.octets}",
     "OWN_TITLE": "({title:=null:title - digits -}|title {title.selector} digits {title.digits}|<RAW>)",
     "PARTY": "route ({route=ssn}|{route=title}) <DASHED> <OWN_TITLE>({national:=false:}|{national:=true: national})",
+    "UNIT": "{type:of_unit}",
+    "UNEXPLAINED": "{verdict=unexplained} (by {by} {why:test}|again {again}|{why=no arrival})",
+    "ON_UNIT": "({verdict:=\"arrived\":}| {verdict=other}| {verdict=own} {ssn}| {verdict=explained} by {by} {ways}| <UNEXPLAINED>)",
+    "VERDICT": "(<UNIT><ON_UNIT>|{verdict=management} <STATUS>|{verdict=connection} {type:of_connection}|{verdict=undecodable} <WHY>)",
+    "SENT_COUNTS": "sent {sent} plain {plain} failing {failing} unexplained {unexplained}",
     "YES": "({yes:=true:yes}|{yes:=false:no})",
     "LEFT_OUT": "({why=refused} {number}|{why=service} {number}|{why=point}|{why=unknown node}|{why=empty}|{why=long})",
     "UNREAD": "({why=short} {layer}|{why=bad} {layer})",
@@ -272,8 +314,8 @@ def causes(table, other):
     return f"({'|'.join(with_texts)}|{{cause:{other}}}{{text:=null:}})"
 
 
-EVERY = "show-hex show cuts route verify covers unused margin change order replay load send-on connect import capture wide"
-FILES = "show route verify covers unused margin change order replay send-on connect import capture"
+EVERY = "show-hex show cuts route verify covers unused margin change order replay load send-on connect import conform capture wide"
+FILES = "show route verify covers unused margin change order replay send-on connect import conform capture"
 COMMANDS = frozenset(EVERY.split())
 JUDGED = "verify margin replay load connect"
 OF_TWO = "change order"
@@ -284,8 +326,9 @@ TABLE = [
     ("usage", (EVERY, "usage: {shapes}")),
     ("too_long", (FILES, "too long<PASSED>")),
     ("read_fault", (FILES, "read fault")),
-    ("bad_plan", ("route verify covers unused margin replay send-on connect import capture", "<BAD_PLAN>"), (OF_TWO, "<WHICH><BAD_PLAN>")),
-    ("bad_trace_line", ("show import replay", "bad trace line {line} {fault:line_fault}")),
+    ("bad_plan",
+     ("route verify covers unused margin replay send-on connect import conform capture", "<BAD_PLAN>"), (OF_TWO, "<WHICH><BAD_PLAN>")),
+    ("bad_trace_line", ("show import conform replay", "bad trace line {line} {fault:line_fault}")),
     ("unknown_node", ("route connect send-on", "unknown node"), ("replay", "{line} unknown node")),
     ("accepted", ("verify margin", "accepted bound {bound}"), (OF_TWO, "<WHICH>accepted bound {bound}")),
     ("refused", (JUDGED, "refused <KIND> cover {cover} <STEADY>"), (OF_TWO, "<WHICH>refused <KIND> cover {cover} <STEADY>")),
@@ -347,6 +390,13 @@ TABLE = [
     ("end_is_node", ("connect", "end is a node")),
     ("trace_message", ("import capture", "msg {node} {origin} {octets}")),
     ("skipped", ("import", "# ({why=refused} {number}|{why=service} {number}|{why=point}|{why=unknown node}|{why=empty})")),
+    ("captured", ("conform", "{line} from {from:node} to {to:node} <VERDICT>")),
+    ("arrival_unanswered", ("conform", "{line} unanswered at {node}")),
+    ("line_skipped", ("conform", "# line {line} ({why=refused} {number}|{why=point}|{why=empty})")),
+    ("relay_counted",
+     ("conform", "relay {node} arrived {arrived:number} <SENT_COUNTS> unanswered {unanswered} others {others} markings {markings}")),
+    ("target_counted", ("conform", "relay {node} target {row}/{target} taken {taken}")),
+    ("judged", ("conform", "end {messages} unexplained {unexplained}")),
     ("packet_skipped",
      ("capture", "# packet {packet} (|chunk {chunk} )(<LEFT_OUT>|<UNREAD>)"),
      ("capture", "# packet {packet} ({why=sccp} {octets}|{why=link} {number}|{why=fragment}|{why=interface}|{why=length})"),

@@ -81,13 +81,19 @@ found : (named : List ℕ) (ws : List Waiting) (i : ℕ) (u : Unanswered) → sl
     → Found named ws u
 found named [] zero u at = absurd cc
 found named [] (suc i) u at = absurd cc
-found named (w ∷ ws) i u at = by (λ k h. found named ws k u h) (unanswered named w) refl i at where
-  by : ((k : ℕ) → slice_get (filter_map (unanswered named) ws) k ≡ Some u → Found named ws u)
-      → (o : Option Unanswered) → unanswered named w ≡ o → (k : ℕ)
-      → slice_get (cons_option o (filter_map (unanswered named) ws)) k ≡ Some u → Found named (w ∷ ws) u
-  by rest None e k h = later named w ws u (rest k h)
-  by rest (Some v) e zero h = (0, w, refl, e ∙ h)
-  by rest (Some v) e (suc k) h = later named w ws u (rest k h)
+found named (w ∷ ws) i u at = by (unanswered named w) refl (λ n h. found named ws n u h) i at where
+  later : (k : ℕ) × (x : Waiting) × (slice_get ws k ≡ Some x) × (unanswered named x ≡ Some u)
+      → (k : ℕ) × (x : Waiting) × (slice_get (w ∷ ws) k ≡ Some x) × (unanswered named x ≡ Some u)
+  later h = (suc h.0, h.1, h.2, h.3)
+
+  by : (o : Option Unanswered) → unanswered named w ≡ o
+      → ((n : ℕ) → slice_get (filter_map (unanswered named) ws) n ≡ Some u
+      → (k : ℕ) × (x : Waiting) × (slice_get ws k ≡ Some x) × (unanswered named x ≡ Some u))
+      → (i : ℕ) → slice_get (cons_option o (filter_map (unanswered named) ws)) i ≡ Some u
+      → (k : ℕ) × (x : Waiting) × (slice_get (w ∷ ws) k ≡ Some x) × (unanswered named x ≡ Some u)
+  by None e more i h = later (more i h)
+  by (Some v) e more zero h = (0, w, refl, e ∙ h)
+  by (Some v) e more (suc i) h = later (more i h)
 
 pub left_over : (plan : Network) (events : List Event) (j : Judgement) (i : ℕ) (u : Unanswered) → NumbersDiffer events
     → IsJudgement plan events j → slice_get (summary_of j.left).unanswered i ≡ Some u → IsUnanswered plan events j.lines u

@@ -86,7 +86,7 @@ fn first_other<R: Threads + Wait + Sync>(
 }
 
 /// Words, and the call on the files that fails.
-const FAILING: [(&str, u64); 25] = [
+const FAILING: [(&str, u64); 29] = [
     ("show f", 0),
     ("show f", 1),
     ("show f", 2),
@@ -112,6 +112,10 @@ const FAILING: [(&str, u64); 25] = [
     ("replay f f 1", 1),
     ("replay f f 1", 2),
     ("replay g f 1", 9),
+    ("conform f f", 0),
+    ("conform f f", 3),
+    ("conform f f", 5),
+    ("conform f g", 9),
 ];
 
 /// The file of a command is begun by the first call, the second takes its octets, and the third finds its end. An absent one
@@ -137,7 +141,7 @@ fn at_failing_sink<R: Threads + Wait + Sync>(
 }
 
 /// Words that write something at once.
-const WRITING: [&str; 10] = [
+const WRITING: [&str; 11] = [
     "show-hex 00",
     "show-hex 0",
     "show f",
@@ -148,6 +152,7 @@ const WRITING: [&str; 10] = [
     "margin f 1",
     "route f a 4:0:1:4 6 49",
     "replay f g 1",
+    "conform f f",
 ];
 
 /// The place of the first of these words that do not end so by a write fault.
