@@ -70,15 +70,8 @@ given_up plan events j i line u differ is at e =
 
 -- ---- one that waits at the end
 
--- an arrival that waits, and what is told of it
-abbrev Found : List ℕ → List Waiting → Unanswered → Type 0
-Found named ws u = (k : ℕ) × (w : Waiting) × (slice_get ws k ≡ Some w) × (unanswered named w ≡ Some u)
-
-later : (named : List ℕ) (w : Waiting) (ws : List Waiting) (u : Unanswered) → Found named ws u → Found named (w ∷ ws) u
-later named w ws u h = (suc h.0, h.1, h.2, h.3)
-
 found : (named : List ℕ) (ws : List Waiting) (i : ℕ) (u : Unanswered) → slice_get (filter_map (unanswered named) ws) i ≡ Some u
-    → Found named ws u
+    → (k : ℕ) × (w : Waiting) × (slice_get ws k ≡ Some w) × (unanswered named w ≡ Some u)
 found named [] zero u at = absurd cc
 found named [] (suc i) u at = absurd cc
 found named (w ∷ ws) i u at = by (unanswered named w) refl (λ n h. found named ws n u h) i at where
