@@ -25,12 +25,12 @@ use Rattle.plan_change.proofs.SafeMixtures.{safe_not_bad_under}
 use Rattle.plan_change.proofs.Verdicts.{settled}
 
 -- what follows a step is the same if it is the same from each spot that comes next
-onward_same : (o : Option Spot) (f g : Spot → List Hop) → ((next : Spot) → o ≡ Some next → f next ≡ g next) → onward o f ≡ onward o g
+pub onward_same : (o : Option Spot) (f g : Spot → List Hop) → ((next : Spot) → o ≡ Some next → f next ≡ g next) → onward o f ≡ onward o g
 onward_same None f g h = refl
 onward_same (Some next) f g h = h next refl
 
 -- if both plans do the same, it does not matter which is held
-any_held : (old new : Network) (spot : Spot) (marking : List Mark) → step old spot marking ≡ step new spot marking → (v w : Which)
+pub any_held : (old new : Network) (spot : Spot) (marking : List Mark) → step old spot marking ≡ step new spot marking → (v w : Which)
     → step (held old new v) spot marking ≡ step (held old new w) spot marking
 any_held old new spot marking same Old Old = refl
 any_held old new spot marking same Old New = same

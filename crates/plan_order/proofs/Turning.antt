@@ -4,14 +4,15 @@ use Rattle.std.specs.Prelude.{Option, Some, None, IsSomeAnd, slice_get, refl}
 use Rattle.std.specs.List.{All, AllPairs, concat}
 use Rattle.std.proofs.Common.{suc, sym, ◌∙◌, ap, subst, inl, inr, ⊎_elim, arith}
 use Rattle.std.proofs.lemmas.Bool.{false≢true, cases_Bool, cases_lt, or_parts}
-use Rattle.std.proofs.lemmas.List.{length-map, append_assoc, append-nil, reverse-append}
+use Rattle.std.proofs.lemmas.List.{append_assoc, append-nil, reverse-append}
 use Rattle.plan_model.specs.declared.node.Node.{Node}
 use Rattle.plan_model.specs.Network.{Network}
-use Rattle.plan_model.specs.SameNodes.{SameNodes, without_rows}
+use Rattle.plan_model.specs.SameNodes.{SameNodes}
 use Rattle.plan_mixed.specs.declared.which.Which.{Which}
 use Rattle.plan_mixed.specs.declared.holding.Holding.{Holding}
 use Rattle.plan_mixed.specs.declared.holding.Holding.TheVariants.{Old, New, Either}
 use Rattle.plan_mixed.specs.Holdings.{chosen, MayHold}
+use Rattle.plan_change.proofs.Verdicts.{same_length}
 use Rattle.plan_order.specs.declared.safe_step.SafeStep.{SafeStep}
 use Rattle.plan_order.specs.Sets.{is_in, IsStepSet, Differs}
 use Rattle.plan_order.specs.Steps.{during, IsStep, AreSteps, sets_of}
@@ -47,11 +48,6 @@ pub record AreThree (old new : Network) (done step later : List ℕ) : Type 0 wh
   pub third : (n : ℕ) → Differs old new n → is_in later n ≡ true → (is_in done n ≡ false) × (is_in step n ≡ false)
   pub some : (n : ℕ) → Differs old new n → is_in done n ≡ false → is_in step n ≡ false → is_in later n ≡ true
 
-same_count : (old new : Network) → SameNodes old new → length old.nodes ≡ length new.nodes
-same_count old new same =
-    sym (length-map old.nodes without_rows) ∙ ap (λ (ws : List (List ℕ × ℕ × List ℕ × List ℕ)). length ws) same
-    ∙ length-map new.nodes without_rows
-
 other_by : (a b : Option Node) → IsSomeAnd a (λ x. IsSomeAnd b (λ y. x.table ≢ y.table))
     → IsSomeAnd b (λ y. IsSomeAnd a (λ x. y.table ≢ x.table))
 other_by None b h = absurd h
@@ -78,7 +74,7 @@ mirror old new done step later same three n w holds =
         (λ l s. ⊎_elim (λ (d : is_in done n ≡ true). d) (λ (d : is_in done n ≡ false).
         absurd (false≢true (sym l ∙ three.some n differs d s))) (cases_Bool (is_in done n)))
         (subst (λ (h : Holding). chosen h w ≡ w)
-        (may_at (length new.nodes) later step n (subst (λ (k : ℕ). n < k) (same_count old new same) lt)) holds))
+        (may_at (length new.nodes) later step n (subst (λ (k : ℕ). n < k) (same_length old new same) lt)) holds))
 
     past : count ≤ n → MayHold (during count done step) n (other w)
     past le = subst (λ (h : Holding). chosen h (other w) ≡ other w) (sym (may_past count done step n le)) refl
