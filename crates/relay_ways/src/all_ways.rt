@@ -266,11 +266,7 @@ fn add_ways_under(
 }
 
 /// Adds the ways of all outcomes.
-fn add_all_ways(
-    alloc: Global,
-    at: &Incoming<'_>,
-    found: &mut List<Way>,
-) -> Result<(), OutOfMemory>
+fn add_all_ways(alloc: Global, at: &Incoming<'_>, found: &mut List<Way>) -> Result<(), OutOfMemory>
     ensures { OnOk result (AddsWays found.old found.new (ways at.now.plan.now at.now.node at.now.origin at.now.octets.now)) }
 {
     let outcomes = outcome_conditions(alloc, at.plan, at.node, at.octets)?;

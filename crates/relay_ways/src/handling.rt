@@ -221,11 +221,7 @@ fn of_arrival(
 }
 
 /// How the node handles octets under a marking.
-fn under(
-    alloc: Global,
-    at: &Incoming<'_>,
-    marking: &Marking,
-) -> Result<Handling, OutOfMemory>
+fn under(alloc: Global, at: &Incoming<'_>, marking: &Marking) -> Result<Handling, OutOfMemory>
     ensures { IfOk result (Handles at.now.plan.now at.now.node marking.now at.now.origin at.now.octets.now) }
 {
     let arrival = arrive(alloc, at.plan, at.node, marking, at.origin, at.octets)?;

@@ -40,7 +40,14 @@ fn add_service_step(
         ++ step_going_on service.now.plan.now service.now.node service.now.cause m address.now step.now) }
 {
     match onward(service.plan, service.node, address, spot, step) {
-        Some(going) => add_written(alloc, service.octets, service.cause, going.0, going.1, found),
+        Some(going) => add_written(
+            alloc,
+            service.octets,
+            service.cause,
+            going.0,
+            going.1,
+            found,
+        ),
         None => Ok(()),
     }
 }

@@ -90,9 +90,7 @@ fn add_step(
 {
     match returns(step) {
         Some(cause) => add_returned(alloc, at, cause, found),
-        None => add_going_on(
-            alloc, at, address, spot, step, found,
-        ),
+        None => add_going_on(alloc, at, address, spot, step, found),
     }
 }
 
@@ -112,9 +110,7 @@ fn add_steps(
 {
     let steps = turn_steps(alloc, at.plan, spot)?;
     for step in steps.as_slice() {
-        add_step(
-            alloc, at, address, spot, step, found,
-        )?;
+        add_step(alloc, at, address, spot, step, found)?;
     }
     Ok(())
 }
