@@ -91,7 +91,7 @@ after-laid o kind body more =
 
 -- ---- a block that begins no section
 
-section-front : (b : List ℕ) → kind_of b ≡ Pcapng → number_4 Big b 0 ≡ 0x0A0D0D0A
+pub section-front : (b : List ℕ) → kind_of b ≡ Pcapng → number_4 Big b 0 ≡ 0x0A0D0D0A
 section-front b e =
     by ((number_4 Big b 0 == 0xA1B2C3D4) || (number_4 Big b 0 == 0xA1B23C4D))
     ((number_4 Little b 0 == 0xA1B2C3D4) || (number_4 Little b 0 == 0xA1B23C4D)) (number_4 Big b 0 == 0x0A0D0D0A) refl e

@@ -11,4 +11,6 @@ pub mod BlockLemmas
 pub mod FramedLemmas
 pub mod SectionLemmas
 pub mod PartsLemmas
+pub mod OpenedLemmas
+pub mod PcapngLemmas
 pub mod FrontLemmas

@@ -103,7 +103,7 @@ pub record IsFramed (o : Order) (seen : List Interface) (kind : ℕ) (body : Lis
 four-joined : (a b c d : List ℕ) → a ++ b ++ c ++ d ≡ a ++ (b ++ (c ++ d))
 four-joined a b c d = append_assoc (a ++ b) c d ∙ append_assoc a b (c ++ d)
 
-five-joined : (a b c d e : List ℕ) → a ++ b ++ c ++ d ++ e ≡ a ++ (b ++ (c ++ (d ++ e)))
+pub five-joined : (a b c d e : List ℕ) → a ++ b ++ c ++ d ++ e ≡ a ++ (b ++ (c ++ (d ++ e)))
 five-joined a b c d e = append_assoc (a ++ b ++ c) d e ∙ four-joined a b c (d ++ e)
 
 description-of : (o : Order) (seen : List Interface) (body : List ℕ) → AreOctets body → length body % 4 ≡ 0 → 8 ≤ length body

@@ -58,7 +58,7 @@ length-header t is =
       length-octets_2 t.order t.minor,
     )
 
-header-told : (whole : Bool) (before : Section) (place : ℕ) (t : WholeSection) (more : List ℕ) → IsWholeSection t
+pub header-told : (whole : Bool) (before : Section) (place : ℕ) (t : WholeSection) (more : List ℕ) → IsWholeSection t
     → told_of whole (Block before) place (block_octets t.order 0x0A0D0D0A (header_body t) ++ more)
     ≡ told_of whole (Block (section_of t.order [])) (place + (12 + length (header_body t))) more
 header-told whole before place t more is =
