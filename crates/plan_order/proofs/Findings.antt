@@ -144,7 +144,7 @@ way_last old new done left bound some split safe reached = record {
     λ n differs. ⊎_elim (λ (h : is_in done n ≡ true). in-left done left n h)
         (λ (h : is_in done n ≡ false). in-right done left n (split.whole n differs h)) (cases_Bool (is_in done n)),
   );
-  among = (All-in (λ (n : ℕ). is_in left n ≡ true) left (λ n h. h), record { some = some; ascending = split.ascending; }, tt);
+  among = (All-in (λ (n : ℕ). is_in left n ≡ true) left (λ n h. h), record { some = some; ascending = split.ascending }, tt);
 }
 
 -- a step, and then the steps that are found after it
@@ -153,7 +153,7 @@ pub way_front : (old new : Network) (done left : List ℕ) (step : SafeStep) (st
 way_front old new done left step steps next way = record {
   safe = (next.safe, way.safe);
   on = ((step.bound, next.safe.0), way.on);
-  among = (next.among, record { some = next.some; ascending = next.ascending; }, way.among);
+  among = (next.among, record { some = next.some; ascending = next.ascending }, way.among);
 }
 
 -- no order goes on if no relay that is left can be next

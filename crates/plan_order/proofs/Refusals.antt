@@ -44,7 +44,7 @@ any_node (s ∷ stuck) n m =
 pub sets_more : (old new : Network) (done left : List ℕ) (steps : List SafeStep) (step : SafeStep) → IsSplit old new done left
     → relays_of steps ≡ done → IsNextStep old new done left step → AreStepSets (sets_of steps) → AreStepSets (sets_of (steps ++ step ∷ []))
 sets_more old new done left steps step split is next sets = record {
-  each = sets_push steps step sets.each (record { some = next.some; ascending = next.ascending; });
+  each = sets_push steps step sets.each (record { some = next.some; ascending = next.ascending });
   once = subst (AllPairs (λ (a : ℕ) (b : ℕ). a ≢ b)) (sym (relays_push steps step))
       (pairs_append (λ (a : ℕ) (b : ℕ). a ≢ b) (relays_of steps) step.nodes sets.once
       (pairs_map (λ (a : ℕ) (b : ℕ). a < b) (λ (a : ℕ) (b : ℕ). a ≢ b) step.nodes (λ a b lt e. omega (arith, lt, e)) next.ascending)
