@@ -76,7 +76,7 @@ pub with_all : (order : List PlacedKey) (key : CoverKey) (below next : ℕ) (pla
     → length order ≤ next → HasUpTo order below next places → HasPlacesOf (λ k. k ≡ key) order places
 with_all order key below next places parted all h =
     all_met (λ k. k ≡ key) order key below next places parted (same_not_below key)
-        (λ k d from lt same. absurd (omega (arith, all, from, lt))) h
+    (λ k d from lt same. absurd (omega (arith, all, from, lt))) h
 
 pub with_above : (order : List PlacedKey) (key : CoverKey) (below next : ℕ) (p : PlacedKey) (places : List ℕ)
     → IsSorted placed_cmp order → IsBelow order key below → next < length order → p ≡ get_or order next p

@@ -72,5 +72,5 @@ enter_parts-returns-clause-grows t c =
 pub enter_parts-returns-clause-ranked : goal.enter_parts-returns-clause-ranked
 enter_parts-returns-clause-ranked t c =
     on_ok_weaker {P = Puts c.loop-part.met c.rank.new.met c.args.class.now c.args.depth}
-        {Q = IsRankedBy c.rank.new.met c.args.class.now c.args.depth} c.rank.result
+    {Q = IsRankedBy c.rank.new.met c.args.class.now c.args.depth} c.rank.result
     (put_ranked c.loop-part.met c.rank.new.met c.args.class.now c.args.depth) c.rank.ensures.puts

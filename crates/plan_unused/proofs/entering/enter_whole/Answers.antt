@@ -16,5 +16,5 @@ returns-clause-grows c =
 pub returns-clause-ranked : goal.returns-clause-ranked
 returns-clause-ranked c =
     on_ok_weaker {P = Puts c.args.met.now c.rank.new.met c.args.class.now c.args.depth}
-        {Q = IsRankedBy c.rank.new.met c.args.class.now c.args.depth} c.rank.result
+    {Q = IsRankedBy c.rank.new.met c.args.class.now c.args.depth} c.rank.result
     (put_ranked c.args.met.now c.rank.new.met c.args.class.now c.args.depth) c.rank.ensures.puts

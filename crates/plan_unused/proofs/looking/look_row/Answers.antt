@@ -20,7 +20,7 @@ note_row-requires-clause-uses c =
 pub returns-clause-more : goal.returns-clause-more
 returns-clause-more c =
     on_ok_weaker {P = IsMore c.note_row.new.self c.look_targets.new.seen}
-        {Q = IsMore c.args.seen.now c.look_targets.new.seen} c.look_targets.result
+    {Q = IsMore c.args.seen.now c.look_targets.new.seen} c.look_targets.result
     (λ more. more_on c.args.seen.now c.note_row.new.self c.look_targets.new.seen
     (more_on c.args.seen.now c.note_relay.new.self c.note_row.new.self c.in_ok-note_relay.ensures.more c.in_ok-note_row.ensures.more) more)
     c.look_targets.ensures.more

@@ -9,7 +9,7 @@ pub returns-then-rank-depth-clause-settled : goal.returns-then-rank-depth-clause
 returns-then-rank-depth-clause-settled c =
     on_ok_weaker {P = Decided c.args.plan.now c.at-class.result.0
     → IsSettled c.args.plan.now c.look_if_stop.new.seen c.look_if_stop.new.met c.at-class.result.0 c.args.depth} {Q = (class : Titles)
-        → IsEntry c.args.met.now c.args.place class c.args.depth → Decided c.args.plan.now class
+    → IsEntry c.args.met.now c.args.place class c.args.depth → Decided c.args.plan.now class
     → IsSettled c.args.plan.now c.look_if_stop.new.seen c.look_if_stop.new.met class c.args.depth} c.look_if_stop.result
     (λ settled class is decided.
     let one : Some c.at-class.result.0 ≡ Some class = sym c.at-class.ensures.class ∙ is.at in
