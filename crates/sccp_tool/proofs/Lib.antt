@@ -19,6 +19,8 @@ mod SegmentLemmas
 mod SendOnLemmas
 mod ShowHexLemmas
 mod ShowLemmas
+mod TaskWords
+mod TitleWords
 mod TwoPlansLemmas
 mod UnusedLemmas
 mod VerifyLemmas
