@@ -21,6 +21,7 @@ mod ShowHexLemmas
 mod ShowLemmas
 mod TaskWords
 mod TitleWords
+mod TracedLoads
 mod TwoPlansLemmas
 mod UnusedLemmas
 mod VerifyLemmas

@@ -1,10 +1,10 @@
 -- What the words of a command give, so far as what its text says rests on it.
-use Rattle.std.specs.Prelude.{◌≡◌, ◌<◌, ◌≤◌, ℕ, ◌%◌, ◌==◌, ◌&&◌, nat_lt, Bool, true, false, cond, codes, List, [], ◌∷◌, length, Option, Some, None}
+use Rattle.std.specs.Prelude.{◌≡◌, ◌<◌, ◌≤◌, ℕ, ◌%◌, ◌==◌, ◌&&◌, nat_le, nat_lt, Bool, true, false, cond, codes, List, [], ◌∷◌, length, Option, Some, None}
 use Rattle.std.specs.Prelude.{refl, option_and_then, option_map}
 use Rattle.std.specs.List.{AllByRecursion}
 use Rattle.std.specs.Str.{bytes_eq}
 use Rattle.std.proofs.Common.{sym, ◌∙◌, ap, subst, arith}
-use Rattle.std.proofs.lemmas.Bool.{and_parts, eq-eqb, eqb-false, ltb-true}
+use Rattle.std.proofs.lemmas.Bool.{and_parts, eq-eqb, eqb-false, leb-true, ltb-true}
 use Rattle.std.proofs.lemmas.Option.{option_and_then_some}
 use Rattle.plan_margin.specs.declared.loss_kinds.LossKinds.{LossKinds}
 use Rattle.plan_margin.specs.declared.loss_kinds.LossKinds.TheVariants.{Points, PointsAndSubsystems}
@@ -58,6 +58,7 @@ pub record IsGiven (i : Incoming) : Type 0 where
 abbrev pub IsOfWords : Option Task → Type 0
 IsOfWords (Some (Connect file calling)) = IsCalled calling
 IsOfWords (Some (SendOn file incoming)) = IsGiven incoming
+IsOfWords (Some (Load number size workers)) = size ≤ 100000
 IsOfWords task = Unit {0}
 
 -- ---- a task of parts
@@ -70,9 +71,9 @@ mapped : {A : Type 0} (f : A → Task) (o : Option A) → ((a : A) → o ≡ Som
 mapped f None p = tt
 mapped f (Some a) p = p a refl
 
-chosen : {A : Type 0} (f : A → Option Task) (o : Option A) → ((a : A) → IsOfWords (f a)) → IsOfWords (option_and_then f o)
+chosen : {A : Type 0} (f : A → Option Task) (o : Option A) → ((a : A) → o ≡ Some a → IsOfWords (f a)) → IsOfWords (option_and_then f o)
 chosen f None p = tt
-chosen f (Some a) p = p a
+chosen f (Some a) p = p a refl
 
 -- ---- connect
 
@@ -152,8 +153,8 @@ connect_given : (limits : Limits) (words : List (List ℕ)) → IsOfWords (conne
 unfolding connect_words connect_of
 connect_given limits (plan ∷ node ∷ from ∷ selector ∷ ssn ∷ digits ∷ octets ∷ []) =
     chosen (λ name. option_map (Connect (plan_file name limits)) (calling_of node from selector ssn digits octets)) (file_name plan)
-    (λ name. mapped (Connect (plan_file name limits)) (calling_of node from selector ssn digits octets)
-    (λ calling e. calling_given node from selector ssn digits octets calling e))
+    (λ name e. mapped (Connect (plan_file name limits)) (calling_of node from selector ssn digits octets)
+    (λ calling made. calling_given node from selector ssn digits octets calling made))
 connect_given limits words = tt
 
 -- ---- send-on
@@ -187,8 +188,8 @@ send_on_given : (limits : Limits) (words : List (List ℕ)) → IsOfWords (send_
 unfolding send_on_words send_on_of
 send_on_given limits (plan ∷ node ∷ origin ∷ size ∷ digits ∷ []) =
     chosen (λ name. option_map (SendOn (plan_file name limits)) (incoming_of node origin size digits)) (file_name plan)
-    (λ name. mapped (SendOn (plan_file name limits)) (incoming_of node origin size digits)
-    (λ i e. incoming_given node origin size digits i e))
+    (λ name e. mapped (SendOn (plan_file name limits)) (incoming_of node origin size digits)
+    (λ i made. incoming_given node origin size digits i made))
 send_on_given limits words = tt
 
 -- ---- the other commands
@@ -208,9 +209,15 @@ unfolding cuts_words
 cuts_given (digits ∷ []) = mapped Cuts (hex_word digits) (λ b e. tt)
 cuts_given words = tt
 
+few_given : (word : List ℕ) (s : ℕ) → number_to 100000 word ≡ Some s → s ≤ 100000
+few_given word s e = option_and_then_some (λ n. cond (nat_le n 100000) (Some n) None) (decimal_of 10 word) s e (λ n is f.
+    let p = let_through (nat_le n 100000) n s f in
+    subst (λ k. k ≤ 100000) p.1 (leb-true n 100000 p.0))
+
 load_given : (words : List (List ℕ)) → IsOfWords (load_words words)
 unfolding load_words load_of
-load_given (number ∷ size ∷ workers ∷ []) = chosen _ (number_to 4294967295 number) (λ n. chosen _ (number_to 100000 size) (λ s. mapped _ _ (λ w e. tt)))
+load_given (number ∷ size ∷ workers ∷ []) = chosen _ (number_to 4294967295 number)
+    (λ n is. chosen _ (number_to 100000 size) (λ s sized. mapped _ _ (λ w e. few_given size s sized)))
 load_given words = tt
 
 verify_given : (limits : Limits) (words : List (List ℕ)) → IsOfWords (verify_words limits words)
@@ -230,7 +237,7 @@ unused_given limits words = tt
 
 with_given : (limits : Limits) (kinds : LossKinds) (name losses : List ℕ) → IsOfWords (margin_with limits kinds name losses)
 unfolding margin_with
-with_given limits kinds name losses = chosen _ (file_name name) (λ n. mapped (λ l. Margin (plan_file n limits) l) (limit_in kinds losses) (λ l e. tt))
+with_given limits kinds name losses = chosen _ (file_name name) (λ n is. mapped (λ l. Margin (plan_file n limits) l) (limit_in kinds losses) (λ l e. tt))
 
 margin_given : (limits : Limits) (words : List (List ℕ)) → IsOfWords (margin_words limits words)
 unfolding margin_words margin_of_kinds
@@ -244,38 +251,38 @@ margin_given limits (name ∷ losses ∷ kinds ∷ more ∷ words) = tt
 
 change_given : (limits : Limits) (words : List (List ℕ)) → IsOfWords (change_words limits words)
 unfolding change_words change_of
-change_given limits (old ∷ new ∷ []) = chosen _ (file_name old) (λ o. mapped _ (file_name new) (λ n e. tt))
+change_given limits (old ∷ new ∷ []) = chosen _ (file_name old) (λ o is. mapped _ (file_name new) (λ n e. tt))
 change_given limits words = tt
 
 order_given : (limits : Limits) (words : List (List ℕ)) → IsOfWords (order_words limits words)
 unfolding order_words order_of
-order_given limits (old ∷ new ∷ []) = chosen _ (file_name old) (λ o. mapped _ (file_name new) (λ n e. tt))
+order_given limits (old ∷ new ∷ []) = chosen _ (file_name old) (λ o is. mapped _ (file_name new) (λ n e. tt))
 order_given limits words = tt
 
 route_given : (limits : Limits) (words : List (List ℕ)) → IsOfWords (route_words limits words)
 unfolding route_words route_of
 route_given limits (plan ∷ node ∷ selector ∷ ssn ∷ digits ∷ []) =
-    chosen _ (file_name plan) (λ n. mapped (Route (plan_file n limits)) (start_of node selector ssn digits) (λ s e. tt))
+    chosen _ (file_name plan) (λ n is. mapped (Route (plan_file n limits)) (start_of node selector ssn digits) (λ s e. tt))
 route_given limits words = tt
 
 replay_given : (limits : Limits) (words : List (List ℕ)) → IsOfWords (replay_words limits words)
 unfolding replay_words replay_of
-replay_given limits (plan ∷ trace ∷ workers ∷ []) = chosen _ (file_name plan) (λ p. chosen _ (file_name trace) (λ t. mapped _ _ (λ n e. tt)))
+replay_given limits (plan ∷ trace ∷ workers ∷ []) = chosen _ (file_name plan) (λ p is. chosen _ (file_name trace) (λ t there. mapped _ _ (λ n e. tt)))
 replay_given limits words = tt
 
 import_given : (limits : Limits) (words : List (List ℕ)) → IsOfWords (import_words limits words)
 unfolding import_words import_of
-import_given limits (plan ∷ file ∷ []) = chosen _ (file_name plan) (λ p. mapped (Import (plan_file p limits)) (file_name file) (λ f e. tt))
+import_given limits (plan ∷ file ∷ []) = chosen _ (file_name plan) (λ p is. mapped (Import (plan_file p limits)) (file_name file) (λ f e. tt))
 import_given limits words = tt
 
 capture_given : (limits : Limits) (words : List (List ℕ)) → IsOfWords (capture_words limits words)
 unfolding capture_words capture_of
-capture_given limits (plan ∷ file ∷ []) = chosen _ (file_name plan) (λ p. mapped (Capture (plan_file p limits)) (file_name file) (λ f e. tt))
+capture_given limits (plan ∷ file ∷ []) = chosen _ (file_name plan) (λ p is. mapped (Capture (plan_file p limits)) (file_name file) (λ f e. tt))
 capture_given limits words = tt
 
 conform_given : (limits : Limits) (words : List (List ℕ)) → IsOfWords (conform_words limits words)
 unfolding conform_words conform_of
-conform_given limits (plan ∷ file ∷ []) = chosen _ (file_name plan) (λ p. mapped (Conform (plan_file p limits)) (file_name file) (λ f e. tt))
+conform_given limits (plan ∷ file ∷ []) = chosen _ (file_name plan) (λ p is. mapped (Conform (plan_file p limits)) (file_name file) (λ f e. tt))
 conform_given limits words = tt
 
 -- ---- the commands by their names
