@@ -16,6 +16,7 @@ use Rattle.sccp_base.specs.DigitText.{digits_of}
 use Rattle.sccp_base.specs.Names.{name_of}
 use Rattle.sccp_base.specs.Selector.{Numbers, IsSelector}
 use Rattle.sccp_base.specs.Text.{decimal_of, point_code_of, selector_of}
+use Rattle.sccp_replay.specs.Workers.{workers_in}
 use Rattle.sccp_tool.proofs.TitleWords.{are_digits, are_octets, is_below, is_ok, is_selector, let_through}
 use Rattle.sccp_tool.specs.Capture.{capture_words, capture_of}
 use Rattle.sccp_tool.specs.Change.{change_words, change_of}
@@ -217,7 +218,8 @@ few_given word s e = option_and_then_some (λ n. cond (nat_le n 100000) (Some n)
 load_given : (words : List (List ℕ)) → IsOfWords (load_words words)
 unfolding load_words load_of
 load_given (number ∷ size ∷ workers ∷ []) = chosen _ (number_to 4294967295 number)
-    (λ n is. chosen _ (number_to 100000 size) (λ s sized. mapped _ _ (λ w e. few_given size s sized)))
+    (λ n is. chosen _ (number_to 100000 size) (λ s sized. mapped (λ w. Load n s w) (workers_in workers)
+    (λ w e. few_given size s sized)))
 load_given words = tt
 
 verify_given : (limits : Limits) (words : List (List ℕ)) → IsOfWords (verify_words limits words)
@@ -251,12 +253,12 @@ margin_given limits (name ∷ losses ∷ kinds ∷ more ∷ words) = tt
 
 change_given : (limits : Limits) (words : List (List ℕ)) → IsOfWords (change_words limits words)
 unfolding change_words change_of
-change_given limits (old ∷ new ∷ []) = chosen _ (file_name old) (λ o is. mapped _ (file_name new) (λ n e. tt))
+change_given limits (old ∷ new ∷ []) = chosen _ (file_name old) (λ o is. mapped (λ n. Change (plan_file o limits) (plan_file n limits)) (file_name new) (λ n e. tt))
 change_given limits words = tt
 
 order_given : (limits : Limits) (words : List (List ℕ)) → IsOfWords (order_words limits words)
 unfolding order_words order_of
-order_given limits (old ∷ new ∷ []) = chosen _ (file_name old) (λ o is. mapped _ (file_name new) (λ n e. tt))
+order_given limits (old ∷ new ∷ []) = chosen _ (file_name old) (λ o is. mapped (λ n. Order (plan_file o limits) (plan_file n limits)) (file_name new) (λ n e. tt))
 order_given limits words = tt
 
 route_given : (limits : Limits) (words : List (List ℕ)) → IsOfWords (route_words limits words)
@@ -267,7 +269,8 @@ route_given limits words = tt
 
 replay_given : (limits : Limits) (words : List (List ℕ)) → IsOfWords (replay_words limits words)
 unfolding replay_words replay_of
-replay_given limits (plan ∷ trace ∷ workers ∷ []) = chosen _ (file_name plan) (λ p is. chosen _ (file_name trace) (λ t there. mapped _ _ (λ n e. tt)))
+replay_given limits (plan ∷ trace ∷ workers ∷ []) = chosen _ (file_name plan) (λ p is. chosen _ (file_name trace)
+    (λ t there. mapped (λ n. Replay (plan_file p limits) t n) (workers_in workers) (λ n e. tt)))
 replay_given limits words = tt
 
 import_given : (limits : Limits) (words : List (List ℕ)) → IsOfWords (import_words limits words)
