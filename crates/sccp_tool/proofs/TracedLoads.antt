@@ -1,11 +1,11 @@
 -- What a load counts is what is counted of the replay of its trace.
-use Rattle.std.specs.Prelude.{◌≡◌, ◌<◌, ℕ, zero, suc, ◌+◌, ◌-◌, ◌%◌, ◌==◌, Bool, true, false, cond, List, [], ◌∷◌, ◌++◌, length, map, fold}
+use Rattle.std.specs.Prelude.{◌≡◌, ◌<◌, ℕ, zero, suc, ◌+◌, ◌%◌, ◌==◌, Bool, true, false, cond, List, [], ◌∷◌, ◌++◌, length, map, fold}
 use Rattle.std.specs.Prelude.{slice_get, slice_set, Option, Some, None, option_map, refl}
 use Rattle.std.specs.Fmt.{digits}
 use Rattle.std.specs.Option.{option_map_or}
-use Rattle.std.proofs.Common.{sym, ◌∙◌, ap, subst, arith}
+use Rattle.std.proofs.Common.{sym, ◌∙◌, ap, arith}
 use Rattle.std.proofs.lemmas.List.{append_assoc, append-nil, map-set}
-use Rattle.made_load.specs.Draws.{after, drawn}
+use Rattle.made_load.specs.Draws.{after, after_digits, drawn}
 use Rattle.made_load.specs.Loads.{Load, all_sent, before_message, begun, counted, drawn_point, drawn_relay, load_counts, no_counts, sent}
 use Rattle.made_load.specs.Loads.{turn, turned}
 use Rattle.made_load.specs.Messages.{made_octets, origin}
@@ -14,7 +14,7 @@ use Rattle.made_load.specs.declared.counts.Counts.{Counts}
 use Rattle.plan_model.specs.Network.{Network}
 use Rattle.relay_net.specs.Batches.{due}
 use Rattle.relay_net.specs.Journeys.{held_at, journey}
-use Rattle.relay_net.specs.States.{State, applied, applied_at, first_states, happened, markings_of}
+use Rattle.relay_net.specs.States.{State, applied_at, first_states, happened, markings_of}
 use Rattle.relay_net.specs.declared.happening.Happening.TheVariants.{Managed}
 use Rattle.sccp_address.specs.Reading.{address_of}
 use Rattle.sccp_base.specs.Marks.{holds}
@@ -113,7 +113,8 @@ turn_role number node pc false lt =
     ap (λ o. alone (option_map (λ k. due k (Managed (events.Pause pc))) o)) (named_is number node lt)
 
 made_role : (i x : ℕ) → role_of_message (incoming 0 origin (made_octets i x)) (reading (made_octets i x)) ≡ routed (incoming 0 origin (made_octets i x))
-made_role i x = ap (role_of_message (incoming 0 origin (made_octets i x))) (made_reads i x)
+unfolding made_octets digits address_of parts_by message_in
+made_role i x = refl
 
 message_role : (number i x : ℕ) → role_of (load_plan number) (Msg (relay_name 0) origin (made_octets i x))
     ≡ routed (incoming 0 origin (made_octets i x))
