@@ -7,4 +7,10 @@ pub mod ReaderLemmas
 pub mod WordLemmas
 pub mod SpelledLemmas
 pub mod PcapLemmas
+pub mod BlockLemmas
+pub mod FramedLemmas
+pub mod SectionLemmas
+pub mod PartsLemmas
+pub mod OpenedLemmas
+pub mod PcapngLemmas
 pub mod FrontLemmas

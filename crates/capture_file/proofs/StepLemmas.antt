@@ -27,7 +27,7 @@ first-drop : (b : List ℕ) (n left : ℕ) → n ≤ left → get_or (drop n b) 
 first-drop b n left le =
     get_or-drop n b (left - n) 0 ∙ ap (λ i. get_or b i 0) (let same : n + (left - n) ≡ left = omega arith in same)
 
-number_4-drop : (order : Order) (b : List ℕ) (n left : ℕ) → n ≤ left → number_4 order (drop n b) (left - n) ≡ number_4 order b left
+pub number_4-drop : (order : Order) (b : List ℕ) (n left : ℕ) → n ≤ left → number_4 order (drop n b) (left - n) ≡ number_4 order b left
 number_4-drop Big b n left le =
     rw (first-drop b n left le, index-drop b n left 1 le, index-drop b n left 2 le, index-drop b n left 3 le) refl
 number_4-drop Little b n left le =
@@ -35,16 +35,16 @@ number_4-drop Little b n left le =
 
 -- ---- the unit of a rest
 
-rest-few : (s : Section) (left size start place : ℕ) (b : List ℕ) → length b < left + 4 → unit (Rest s left size start) place b ≡ Needs
+pub rest-few : (s : Section) (left size start place : ℕ) (b : List ℕ) → length b < left + 4 → unit (Rest s left size start) place b ≡ Needs
 unfolding unit
 rest-few s left size start place b few = rw (lt-ltb (length b) (left + 4) few) refl
 
-rest-read : (s : Section) (left size start place : ℕ) (b : List ℕ) → left + 4 ≤ length b → (number_4 s.order b left == size) ≡ true
+pub rest-read : (s : Section) (left size start place : ℕ) (b : List ℕ) → left + 4 ≤ length b → (number_4 s.order b left == size) ≡ true
     → unit (Rest s left size start) place b ≡ Takes [] (left + 4) (Block s)
 unfolding unit
 rest-read s left size start place b le e = rw (le-ltb (length b) (left + 4) le, e) refl
 
-rest-differs : (s : Section) (left size start place : ℕ) (b : List ℕ) → left + 4 ≤ length b → (number_4 s.order b left == size) ≡ false
+pub rest-differs : (s : Section) (left size start place : ℕ) (b : List ℕ) → left + 4 ≤ length b → (number_4 s.order b left == size) ≡ false
     → unit (Rest s left size start) place b ≡ Fails (Damaged start End)
 unfolding unit
 rest-differs s left size start place b le e = rw (le-ltb (length b) (left + 4) le, e) refl

@@ -1,10 +1,11 @@
 -- Numbers and the octets that spell them, in either order.
 use Rattle.std.proofs.Common.{◌≡◌, ℕ, zero, suc, ◌+◌, ◌^◌, ◌<◌, ◌≤◌, List, [], ◌∷◌, ◌++◌, length, drop, get_or, refl, sym, ◌∙◌, ap}
-use Rattle.std.proofs.Common.{subst}
+use Rattle.std.proofs.Common.{take, subst, ⊎_elim}
 use Rattle.std.proofs.Common.{arith}
-use Rattle.std.proofs.lemmas.List.{drop_more, get_or-drop, get_or-append-add}
+use Rattle.std.proofs.lemmas.Bool.{cases_lt}
+use Rattle.std.proofs.lemmas.List.{drop_more, get_or-drop, get_or-take, get_or-append-add, get_or_past, length-take}
 use Rattle.std.proofs.lemmas.Nat.{be_bytes_2, be_bytes_4, le_bytes_2, le_bytes_4, from_be_bytes-to_be_bytes_4}
-use Rattle.std.proofs.lemmas.Nat.{from_le_bytes-to_le_bytes_4}
+use Rattle.std.proofs.lemmas.Nat.{from_le_bytes-to_le_bytes_4, from_be_bytes-to_be_bytes_2, from_le_bytes-to_le_bytes_2}
 use Rattle.capture_file.specs.Numbers.{number_2, number_4}
 use Rattle.capture_file.specs.Spelled.{octets_2, octets_4, AreOctets}
 use Rattle.capture_file.specs.declared.order.Order.{Order}
@@ -39,6 +40,33 @@ number_4-after o front back n e = by o where
   by Big = rw (first, at 1, at 2, at 3) refl
   by Little = rw (first, at 1, at 2, at 3) refl
 
+pub number_2-written : (o : Order) (n : ℕ) (more : List ℕ) → n < 2 ^ 16 → number_2 o (octets_2 o n ++ more) 0 ≡ n
+number_2-written Big n more small = from_be_bytes-to_be_bytes_2 n small
+number_2-written Little n more small = from_le_bytes-to_le_bytes_2 n small
+
+-- numbers at a place after these octets
+get_or-past : (front back : List ℕ) (n k i : ℕ) → length front ≡ n → get_or (front ++ back) (n + k + i) 0 ≡ get_or back (k + i) 0
+get_or-past front back n k i e =
+    ap (λ (m : ℕ). get_or (front ++ back) m 0) (let same : n + k + i ≡ length front + (k + i) = omega (arith, e) in same)
+    ∙ get_or-append-add front back (k + i) 0
+
+get_or-first : (front back : List ℕ) (n k : ℕ) → length front ≡ n → get_or (front ++ back) (n + k) 0 ≡ get_or back k 0
+get_or-first front back n k e =
+    ap (λ (m : ℕ). get_or (front ++ back) m 0) (let same : n + k ≡ length front + k = omega (arith, e) in same)
+    ∙ get_or-append-add front back k 0
+
+pub number_4-past : (o : Order) (front back : List ℕ) (n k : ℕ) → length front ≡ n
+    → number_4 o (front ++ back) (n + k) ≡ number_4 o back k
+number_4-past Big front back n k e =
+    rw (get_or-first front back n k e, get_or-past front back n k 1 e, get_or-past front back n k 2 e, get_or-past front back n k 3 e) refl
+number_4-past Little front back n k e =
+    rw (get_or-first front back n k e, get_or-past front back n k 1 e, get_or-past front back n k 2 e, get_or-past front back n k 3 e) refl
+
+pub number_2-past : (o : Order) (front back : List ℕ) (n k : ℕ) → length front ≡ n
+    → number_2 o (front ++ back) (n + k) ≡ number_2 o back k
+number_2-past Big front back n k e = rw (get_or-first front back n k e, get_or-past front back n k 1 e) refl
+number_2-past Little front back n k e = rw (get_or-first front back n k e, get_or-past front back n k 1 e) refl
+
 -- ---- a number that was read spells its octets
 
 two_octets : (a b : ℕ) → a < 256 → b < 256 → AreOctets (a ∷ b ∷ [])
@@ -52,6 +80,11 @@ four_octets a b c d p q r s (suc zero) = q
 four_octets a b c d p q r s (suc (suc zero)) = r
 four_octets a b c d p q r s (suc (suc (suc zero))) = s
 four_octets a b c d p q r s (suc (suc (suc (suc i)))) = omega arith
+
+-- the octets of a number
+pub AreOctets-4 : (o : Order) (n : ℕ) → AreOctets (octets_4 o n)
+AreOctets-4 Big n = four_octets _ _ _ _ (omega arith) (omega arith) (omega arith) (omega arith)
+AreOctets-4 Little n = four_octets _ _ _ _ (omega arith) (omega arith) (omega arith) (omega arith)
 
 next_two : (b : List ℕ) (n : ℕ) → n + 2 ≤ length b → drop n b ≡ get_or b n 0 ∷ get_or b (n + 1) 0 ∷ drop (n + 2) b
 next_two b n le =
@@ -94,3 +127,47 @@ spelled_4 o b n each le = ap (λ (l : List ℕ). l ++ drop (n + 4) b) (by o) ∙
 pub number_4-small : (o : Order) (b : List ℕ) (n : ℕ) → AreOctets b → number_4 o b n < 2 ^ 32
 number_4-small Big b n each = omega (arith, each n, each (n + 1), each (n + 2), each (n + 3))
 number_4-small Little b n each = omega (arith, each n, each (n + 1), each (n + 2), each (n + 3))
+
+pub number_2-small : (o : Order) (b : List ℕ) (n : ℕ) → AreOctets b → number_2 o b n < 2 ^ 16
+number_2-small Big b n each = omega (arith, each n, each (n + 1))
+number_2-small Little b n each = omega (arith, each n, each (n + 1))
+
+-- ---- octets of a part
+
+pub AreOctets-take : (n : ℕ) (b : List ℕ) → AreOctets b → AreOctets (take n b)
+AreOctets-take n b each i =
+    ⊎_elim (λ (inside : i < n). subst (λ (x : ℕ). x < 256) (sym (get_or-take n b i 0 inside)) (each i))
+    (λ (past : n ≤ i). subst (λ (x : ℕ). x < 256) (sym (get_or_past (take n b) i 0 (omega (arith, past, length-take n b)))) (omega arith))
+    (cases_lt i n)
+
+get_or-part : (b : List ℕ) (start n k i : ℕ) → k + i < n → get_or (take n (drop start b)) (k + i) 0 ≡ get_or b (start + k + i) 0
+get_or-part b start n k i inside =
+    get_or-take n (drop start b) (k + i) 0 inside ∙ get_or-drop start b (k + i) 0
+    ∙ ap (λ (m : ℕ). get_or b m 0) (let same : start + (k + i) ≡ start + k + i = omega arith in same)
+
+get_or-part_first : (b : List ℕ) (start n k : ℕ) → k < n → get_or (take n (drop start b)) k 0 ≡ get_or b (start + k) 0
+get_or-part_first b start n k inside = get_or-take n (drop start b) k 0 inside ∙ get_or-drop start b k 0
+
+pub number_4-part : (o : Order) (b : List ℕ) (start n k : ℕ) → k + 4 ≤ n
+    → number_4 o (take n (drop start b)) k ≡ number_4 o b (start + k)
+number_4-part Big b start n k le =
+    rw (
+      get_or-part_first b start n k (omega (arith, le)),
+      get_or-part b start n k 1 (omega (arith, le)),
+      get_or-part b start n k 2 (omega (arith, le)),
+      get_or-part b start n k 3 (omega (arith, le)),
+    ) refl
+number_4-part Little b start n k le =
+    rw (
+      get_or-part_first b start n k (omega (arith, le)),
+      get_or-part b start n k 1 (omega (arith, le)),
+      get_or-part b start n k 2 (omega (arith, le)),
+      get_or-part b start n k 3 (omega (arith, le)),
+    ) refl
+
+pub number_2-part : (o : Order) (b : List ℕ) (start n k : ℕ) → k + 2 ≤ n
+    → number_2 o (take n (drop start b)) k ≡ number_2 o b (start + k)
+number_2-part Big b start n k le =
+    rw (get_or-part_first b start n k (omega (arith, le)), get_or-part b start n k 1 (omega (arith, le))) refl
+number_2-part Little b start n k le =
+    rw (get_or-part_first b start n k (omega (arith, le)), get_or-part b start n k 1 (omega (arith, le))) refl

@@ -5,5 +5,6 @@ pub mod Units
 pub mod Steps
 pub mod Told
 pub mod Spelled
+pub mod Sections
 pub mod Views
 pub mod Standings

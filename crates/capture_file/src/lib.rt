@@ -25,6 +25,9 @@ mod units;
 pub use fed::Fed;
 pub use file_fault::{Damage, FileFault};
 pub use held::{BadPacket, Held, Packet, PacketOctets};
-pub use laws::{beginnings_give_first_packets, pcap_files_are_read, what_is_read_is_pcap};
+pub use laws::{
+    beginnings_give_first_packets, pcap_files_are_read, pcapng_files_are_read,
+    what_is_read_is_pcap, what_is_read_is_pcapng,
+};
 pub use order::Order;
 pub use reader::Reader;

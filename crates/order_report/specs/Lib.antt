@@ -1,3 +1,2 @@
 -- The definitions of this crate, one file a subject.
 pub mod Orders
-pub mod Retold

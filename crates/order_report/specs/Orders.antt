@@ -1,5 +1,5 @@
 -- The printed text of an order of the steps of a changeover between two plans of the same nodes.
-use Rattle.std.specs.Prelude.{ℕ, ◌+◌, List, [], ◌∷◌, ◌++◌, length, codes}
+use Rattle.std.specs.Prelude.{ℕ, ◌+◌, ◌≤◌, List, [], ◌∷◌, ◌++◌, length, codes}
 use Rattle.std.specs.List.{flat_map}
 use Rattle.plan_model.specs.Network.{Network}
 use Rattle.plan_change.specs.declared.answer.Change.{Change}
@@ -44,6 +44,12 @@ broken_text plan (Broken old_cover new_cover spot turns hops kind) =
     (kind_words kind ++ covers_words old_cover new_cover) ++ mixed_hops_text plan hops turns
 broken_text plan (Kept bound spot turns) = []
 broken_text plan TooWide = []
+
+-- the answer shows a bad mixed route, with a turn for each hop
+abbrev pub HasTurns : Change → Type 0
+HasTurns (Broken old_cover new_cover spot turns hops kind) = length hops ≤ length turns
+HasTurns (Kept bound spot turns) = ⊥
+HasTurns TooWide = ⊥
 
 abbrev pub stuck_text : Network → Stuck → List ℕ
 stuck_text plan stuck = stuck_words plan stuck.node ++ broken_text plan stuck.why

@@ -2,12 +2,10 @@
 //!
 //! `order_text` gives a line for each step, with its relays and its bound. Without an order it shows, for each relay that is left, the
 //! mixed route that goes wrong if that relay is next. The crate above may rely on the text being exactly that of `specs/Orders`.
-//! A mixed route has the lines that `change_text` of `sccp_report` gives it.
+//! A mixed route has the lines that `sccp_report` gives it.
 #![tactic(auto)]
 
-mod nodes;
 mod order;
-mod retold;
 mod stuck;
 
 pub use order::order_text;

@@ -4,12 +4,11 @@ ghost use Rattle.plan_model.specs.SameNodes.{SameNodes};
 ghost use Rattle.plan_order.specs.Orders.{IsLawfulOrder};
 ghost use Rattle.order_report.specs.Orders.{order_line, step_line, steps_text, no_order_line, undecided_line, order_text};
 
-use crate::nodes::put_names;
 use crate::stuck::put_stuck_relays;
 use plan_model::Plan;
 use plan_order::{Order, SafeStep};
 use sccp_base::{Octets, OutOfMemory};
-use sccp_report::Text;
+use sccp_report::{Text, put_path};
 use std::alloc::Global;
 
 /// Appends how many steps an order has.
@@ -28,7 +27,7 @@ fn put_step(text: &mut Text, plan: &Plan, number: usize, step: &SafeStep) -> Res
 {
     text.put_counted(b"step ", number)?;
     text.put(b" ")?;
-    put_names(text, plan, step.nodes.as_slice())?;
+    put_path(text, plan, step.nodes.as_slice())?;
     text.put_numbered(b" bound ", u32::from(step.bound))?;
     text.put(b"\n")
 }
@@ -72,7 +71,6 @@ pub fn order_text(
     requires lawful { IsLawfulOrder old.now new.now order.now }
     ensures { IfOk result (λ text. text ≡ order_text old.now order.now) }
 {
-    prove!(old.nodes().as_slice().len() == new.nodes().as_slice().len());
     let mut text = Text::new(alloc);
     match order {
         Order::Steps(steps) => {
@@ -82,7 +80,7 @@ pub fn order_text(
         Order::NoOrder(steps, stuck) => {
             put_no_order(&mut text)?;
             put_steps(&mut text, old, steps.as_slice())?;
-            put_stuck_relays(alloc, &mut text, old, new, stuck.as_slice())?;
+            put_stuck_relays(&mut text, old, stuck.as_slice())?;
         }
         Order::Undecided => put_undecided(&mut text)?,
     }

@@ -1,17 +1,17 @@
 -- lists and keys between two others, in their order
-use Rattle.std.specs.Prelude.{ℕ, ◌≡◌, true, false, List, [], ◌∷◌, ◌++◌, length, drop, nat_eq, refl}
-use Rattle.std.specs.Ordering.{nat_cmp, ordering_then, ordering_reverse, is_lt, is_eq}
+use Rattle.std.specs.Prelude.{ℕ, ◌≡◌, false, List, [], ◌∷◌, ◌++◌, length, drop, refl}
+use Rattle.std.specs.Ordering.{nat_cmp, ordering_then, ordering_reverse, is_lt}
 use Rattle.std.specs.declared.cmp.Ordering.{Ordering}
 use Rattle.std.specs.declared.cmp.Ordering.TheVariants.{Less, Equal, Greater}
-use Rattle.std.specs.Cmp.{IsTotalOrder, then_total, on_total, nat_cmp_total, unsigned_ties}
+use Rattle.std.specs.Cmp.{IsTotalOrder, nat_cmp_total}
 use Rattle.std.specs.Cmp.Lexicographic.{slice_cmp}
-use Rattle.std.proofs.Common.{sym, ◌∙◌, ap, subst, arith}
+use Rattle.std.proofs.Common.{sym, ◌∙◌, ap, subst}
 use Rattle.std.proofs.lemmas.Bool.{false≢true}
-use Rattle.std.proofs.lemmas.Bool.Decides.{nat_tests}
 use Rattle.std.proofs.lemmas.Cmp.{tied_itself}
-use Rattle.sccp_base.specs.Selector.{Numbers}
+use Rattle.std.proofs.lemmas.Map.Lookups.{exact_unsigned}
 use Rattle.sccp_base.proofs.Prefix.{split-starts_with, starts_with-split}
 use Rattle.plan_classes.specs.Order.{selector_cmp}
+use Rattle.plan_classes.proofs.Ordered.{selector_total, same_selector}
 use Rattle.plan_covers.specs.Keys.{key_cmp}
 use Rattle.plan_covers.specs.declared.cover_key.CoverKey.{CoverKey}
 use Rattle.plan_change.specs.Near.{Begins}
@@ -33,32 +33,6 @@ tied R total x y o p h g = by (R y x) (R x y) (total.antisymm x y) h g
     by Equal b e h g = record { tie = refl; first = h; second = subst (λ c. is_lt (ordering_then c p) ≡ false) e g }
     by Greater b e h g = absurd (false≢true (sym (subst (λ c. is_lt (ordering_then c p) ≡ false) e g)))
 
--- what ties is equal
-
-nat_tied : (x y : ℕ) → nat_cmp x y ≡ Equal → x ≡ y
-nat_tied x y h = let e : nat_eq x y ≡ true = unsigned_ties x y ∙ ap is_eq h in grind (arith, nat_tests)
-
-both_tie : (o p : Ordering) → ordering_then o p ≡ Equal → (o ≡ Equal) × (p ≡ Equal)
-both_tie Less p h = absurd (false≢true (ap is_eq h))
-both_tie Equal p h = (refl, h)
-both_tie Greater p h = absurd (false≢true (ap is_eq h))
-
-selector_tied : (a b : Numbers) → selector_cmp a b ≡ Equal → a ≡ b
-selector_tied a b h =
-    let one = both_tie (nat_cmp a.kind b.kind) _ h in
-    let two = both_tie (nat_cmp a.translation b.translation) _ one.1 in
-    let three = both_tie (nat_cmp a.plan b.plan) (nat_cmp a.nature b.nature) two.1 in
-    let kind = nat_tied a.kind b.kind one.0 in
-    let translation = nat_tied a.translation b.translation two.0 in
-    let plan = nat_tied a.plan b.plan three.0 in
-    let nature = nat_tied a.nature b.nature three.1 in
-    λ i. record { kind = kind i; translation = translation i; plan = plan i; nature = nature i }
-
-selector_total : IsTotalOrder selector_cmp
-selector_total =
-    then_total (on_total (λ (s : Numbers). s.kind) nat_cmp_total) (then_total (on_total (λ (s : Numbers). s.translation) nat_cmp_total)
-    (then_total (on_total (λ (s : Numbers). s.plan) nat_cmp_total) (on_total (λ (s : Numbers). s.nature) nat_cmp_total)))
-
 -- ---- lists
 
 -- a list is not below what begins it
@@ -75,7 +49,7 @@ list_between (x ∷ p) [] z h g = absurd (false≢true (sym h))
 list_between (x ∷ p) (y ∷ r) z h g =
     let t = tied nat_cmp nat_cmp_total x y (slice_cmp nat_cmp r p) (slice_cmp nat_cmp (p ++ z) r) h g in
     let w = list_between p r z t.first t.second in
-    let e : y ≡ x = nat_tied y x t.tie in
+    let e : y ≡ x = exact_unsigned y x t.tie in
     (w.0, λ i. e i ∷ w.1 i)
 
 -- ---- keys
@@ -104,8 +78,8 @@ key_between key x y low high h =
     let w = list_between key.prefix x.prefix (drop (length key.prefix) y.prefix) three.first
     (subst (λ l. is_lt (slice_cmp nat_cmp l x.prefix) ≡ false) (split-starts_with y.prefix key.prefix h.prefix) three.second) in
     record {
-      node = sym (nat_tied x.node key.node one.tie);
-      selector = sym (selector_tied x.selector key.selector two.tie);
-      ssn = sym (nat_tied x.ssn key.ssn three.tie);
+      node = sym (exact_unsigned x.node key.node one.tie);
+      selector = sym (same_selector x.selector key.selector two.tie);
+      ssn = sym (exact_unsigned x.ssn key.ssn three.tie);
       prefix = starts_with-split x.prefix key.prefix w.0 w.1;
     }

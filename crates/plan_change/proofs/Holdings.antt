@@ -25,12 +25,12 @@ use Rattle.plan_change.proofs.SafeMixtures.{safe_not_bad_under}
 use Rattle.plan_change.proofs.Verdicts.{settled}
 
 -- what follows a step is the same if it is the same from each spot that comes next
-onward_same : (o : Option Spot) (f g : Spot → List Hop) → ((next : Spot) → o ≡ Some next → f next ≡ g next) → onward o f ≡ onward o g
+pub onward_same : (o : Option Spot) (f g : Spot → List Hop) → ((next : Spot) → o ≡ Some next → f next ≡ g next) → onward o f ≡ onward o g
 onward_same None f g h = refl
 onward_same (Some next) f g h = h next refl
 
 -- if both plans do the same, it does not matter which is held
-any_held : (old new : Network) (spot : Spot) (marking : List Mark) → step old spot marking ≡ step new spot marking → (v w : Which)
+pub any_held : (old new : Network) (spot : Spot) (marking : List Mark) → step old spot marking ≡ step new spot marking → (v w : Which)
     → step (held old new v) spot marking ≡ step (held old new w) spot marking
 any_held old new spot marking same Old Old = refl
 any_held old new spot marking same Old New = same
@@ -106,6 +106,19 @@ safe_for_fewer old new more fewer bound lets safe spot turns old_covered new_cov
     let found = as_turns old new more fewer lets turns spot in
     subst (λ (hops : List Hop). IsSomeAnd (last hops) (MayEnd (BothAllow old new spot))) found.2
     (safe spot found.0 old_covered new_covered (found.1 ∙ size))
+
+-- a mixed route has no more hops than turns
+pub tags_short : (may : List Holding) (hops : List Hop) (turns : List Turn) → length (tagged_under may hops turns) ≤ length turns
+tags_short may [] turns = omega arith
+tags_short may (hop ∷ hops) [] = omega arith
+tags_short may (hop ∷ hops) (turn ∷ turns) = let h = tags_short may hops turns in omega (arith, h)
+
+-- nor has a bad one
+pub bad_short : (old new : Network) (may : List Holding) (i j : ℕ) (spot : Spot) (turns : List Turn) (hops : List MixedHop) (kind : Kind)
+    → BadUnder may old new i j spot turns hops kind → length hops ≤ length turns
+bad_short old new may i j spot turns hops kind bad =
+    subst (λ (hs : List MixedHop). length hs ≤ length turns) (sym bad.is_route)
+    (tags_short may (mixed_under may old new spot turns) turns)
 
 -- turns under other holdings that give the same hops, with the same plans
 record Refitted (old new : Network) (may also : List Holding) (spot : Spot) (turns : List Turn) : Type 0 where

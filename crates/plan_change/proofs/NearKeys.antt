@@ -1,14 +1,13 @@
 -- the covers whose keys are near a cover's key, in the order of keys
-use Rattle.std.specs.Prelude.{ℕ, ◌≡◌, ◌+◌, ◌<◌, ◌≤◌, true, false, List, [], ◌∷◌, ◌++◌, length, take, drop, get_or, refl}
+use Rattle.std.specs.Prelude.{ℕ, ◌≡◌, ◌+◌, ◌<◌, ◌≤◌, true, false, List, [], ◌∷◌, ◌++◌, length, take, drop, get_or}
 use Rattle.std.specs.Prelude.{nat_eq}
 use Rattle.std.specs.Ordering.{nat_cmp, is_lt}
 use Rattle.std.specs.List.{Contains, starts_with}
-use Rattle.std.specs.List.Sorted.{IsSorted, IsPartitionPoint, IsPermutation}
+use Rattle.std.specs.List.Sorted.{IsSorted, IsPermutation}
 use Rattle.std.proofs.Common.{sym, ◌∙◌, ap, subst, ⊎_elim, arith}
 use Rattle.std.proofs.Math.Seq.{take-append_seam}
 use Rattle.std.proofs.lemmas.Bool.{cases_lt, false≢true}
-use Rattle.std.proofs.lemmas.Cmp.{tied_itself}
-use Rattle.std.proofs.lemmas.List.{get_or_default}
+use Rattle.std.proofs.lemmas.List.{append-nil, get_or_default}
 use Rattle.std.proofs.lemmas.List.Elements.{Contains-push, Contains-append_left}
 use Rattle.std.proofs.lemmas.List.Sorted.{Contains-permutation}
 use Rattle.sccp_base.proofs.Prefix.{split-starts_with, starts_with-split, fits-starts_with, same_prefix}
@@ -16,14 +15,10 @@ use Rattle.plan_model.specs.declared.cover.Cover.{Cover}
 use Rattle.plan_covers.specs.Keys.{key_of, front_key, key_cmp, placed_cmp}
 use Rattle.plan_covers.specs.declared.cover_key.CoverKey.{CoverKey}
 use Rattle.plan_covers.specs.declared.cover_order.PlacedKey.{PlacedKey}
-use Rattle.plan_covers.proofs.KeyOrder.{key_total, later, by_first}
+use Rattle.plan_covers.proofs.KeyOrder.{later, by_first}
+use Rattle.plan_covers.proofs.Groups.{IsBelow, not_below}
 use Rattle.plan_change.specs.Near.{Begins, AreNear, HasPlacesOf, StayAmong}
 use Rattle.plan_change.proofs.Between.{begun_not_below, key_between}
-
--- how many keys in order are below a key
-abbrev pub IsBelow : List PlacedKey → CoverKey → ℕ → Type 0
-IsBelow order key below = IsPartitionPoint (λ (p : PlacedKey). is_lt (key_cmp p.key key) ≡ true)
-    (λ (p : PlacedKey). is_lt (key_cmp p.key key) ≡ false) order below
 
 -- the places of the keys from `below` up to this place in the order are among these
 abbrev pub HasUpTo : List PlacedKey → ℕ → ℕ → List ℕ → Type 0
@@ -73,20 +68,21 @@ after order next k p d sorted inside is le lt =
     ∙ by_first (key_cmp (get_or order k d).key (get_or order next d).key) (nat_cmp (get_or order k d).place (get_or order next d).place)
     (later order next k d sorted le lt)
 
-not_below : (key k : CoverKey) → k ≡ key → is_lt (key_cmp k key) ≡ false
-not_below key k e = ap (λ c. is_lt (key_cmp c key)) e ∙ ap is_lt (tied_itself key_total key)
+same_not_below : (key k : CoverKey) → k ≡ key → is_lt (key_cmp k key) ≡ false
+same_not_below key k e = ap (λ c. is_lt (key_cmp c key)) e ∙ not_below key
 
 -- the search for one key ends with the keys, or with the first one above
 pub with_all : (order : List PlacedKey) (key : CoverKey) (below next : ℕ) (places : List ℕ) → IsBelow order key below
     → length order ≤ next → HasUpTo order below next places → HasPlacesOf (λ k. k ≡ key) order places
 with_all order key below next places parted all h =
-    all_met (λ k. k ≡ key) order key below next places parted (not_below key) (λ k d from lt same. absurd (omega (arith, all, from, lt))) h
+    all_met (λ k. k ≡ key) order key below next places parted (same_not_below key)
+    (λ k d from lt same. absurd (omega (arith, all, from, lt))) h
 
 pub with_above : (order : List PlacedKey) (key : CoverKey) (below next : ℕ) (p : PlacedKey) (places : List ℕ)
     → IsSorted placed_cmp order → IsBelow order key below → next < length order → p ≡ get_or order next p
     → is_lt (key_cmp key p.key) ≡ true → HasUpTo order below next places → HasPlacesOf (λ k. k ≡ key) order places
 with_above order key below next p places sorted parted inside is above h =
-    all_met (λ k. k ≡ key) order key below next places parted (not_below key)
+    all_met (λ k. k ≡ key) order key below next places parted (same_not_below key)
     (λ k d from lt same. false≢true (sym (after order next k p d sorted inside is from lt)
     ∙ ap (λ c. is_lt (key_cmp c p.key)) same ∙ above))
     h
@@ -139,15 +135,11 @@ front_of cover k h = λ i. record {
     front = sym (take-append_seam k.prefix (drop (length k.prefix) cover.prefix))
         ∙ ap (take (length k.prefix)) (sym (split-starts_with cover.prefix k.prefix h.prefix))
 
-whole : (d : List ℕ) → d ≡ d ++ []
-whole [] = refl
-whole (x ∷ d) = ap (λ l. x ∷ l) (whole d)
-
 -- as many digits are all digits
 own : (cover : Cover) (k : CoverKey) → Begins k (key_of cover) → length cover.prefix ≤ length k.prefix → Begins (key_of cover) k
 own cover k h le =
     let fits = fits-starts_with cover.prefix k.prefix h.prefix in
-    let itself = starts_with-split cover.prefix cover.prefix [] (whole cover.prefix) in
+    let itself = starts_with-split cover.prefix cover.prefix [] (sym (append-nil cover.prefix)) in
     let same : k.prefix ≡ cover.prefix = same_prefix cover.prefix k.prefix cover.prefix h.prefix itself (omega (arith, le, fits)) in
     record {
       node = sym h.node;

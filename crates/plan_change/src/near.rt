@@ -1,5 +1,6 @@
 //! The covers of a plan that may share titles with a cover, by the order of their keys.
 ghost use Rattle.std.specs.Prelude.{◌≡◌, ◌↔◌, IsTrue, IfOk, OnOk};
+ghost use Rattle.std.specs.Ordering.{nat_cmp};
 ghost use Rattle.std.specs.List.Sorted.{IsSorted};
 ghost use Rattle.plan_covers.specs.Keys.{key_of, placed_cmp};
 ghost use Rattle.plan_change.specs.Near.{Begins, AreNear, HasPlacesOf, StayAmong};
@@ -70,7 +71,8 @@ pub(crate) fn near_places(
     cover: &Cover,
 ) -> Result<Vec<usize>, OutOfMemory>
     requires { IsSorted placed_cmp order.now }
-    ensures { IfOk result (λ places. HasPlacesOf (AreNear (key_of cover.now)) order.now places.items) }
+    ensures near { IfOk result (λ places. HasPlacesOf (AreNear (key_of cover.now)) order.now places.items) }
+    ensures ascend { IfOk result (λ places. IsSorted nat_cmp places.items) }
 {
     let mut places = Vec::new(alloc);
     for count in 0..cover.prefix.len() {

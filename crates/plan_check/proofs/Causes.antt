@@ -2,26 +2,17 @@
 use Rattle.std.specs.Prelude.{ℕ, ◌≡◌, ◌<◌, ◌≤◌, List, length, Option, Some, None, IsSome, IsSomeAnd, refl}
 use Rattle.std.specs.List.{All, Contains}
 use Rattle.std.proofs.Common.{sym, subst, inl, inr, ⊎_elim}
-use Rattle.std.proofs.lemmas.Bool.{cases_lt}
 use Rattle.std.proofs.lemmas.List.Elements.{All-weaker, All-contains}
 use Rattle.plan_model.specs.Network.{Network}
 use Rattle.plan_classes.specs.declared.leads.Image.{Image}
 use Rattle.plan_classes.specs.declared.leads.Image.TheVariants.{Next, Ends, NotEquipped, TooLong}
 use Rattle.plan_classes.specs.Titles.{Titles, IsClass, parts_of}
 use Rattle.plan_classes.specs.Classes.{Decided, class_row}
-use Rattle.plan_classes.proofs.Deciding.{one_decided}
+use Rattle.plan_classes.proofs.Deciding.{open_digits}
 use Rattle.plan_check.specs.declared.check_fault.CheckFault.{CheckFault}
 use Rattle.plan_check.specs.declared.check_fault.CheckFault.TheVariants.{NoStart, NoRank, NotLower, BadEnd, NotTight, OutOfMemory}
 use Rattle.plan_check.specs.Ranked.{RanksUpTo, LeadsWell, IsRankedDecided, IsRankedOpen, IsRankedClass}
 use Rattle.plan_check.specs.Checks.{LeadsTo, MayLead, NextHasRank, NextIsLower, HasGoodEnds, HasRanks, IsLower, IsClassFault}
-
--- an undecided class has open digits
-pub open_more : (plan : Network) (c : Titles) → (Decided plan c → ⊥) → 0 < c.most
-open_more plan c undecided =
-    ⊎_elim
-    (λ (lt : 0 < c.most). lt)
-    (λ (none : c.most ≤ 0). absurd (undecided (one_decided plan c none)))
-    (cases_lt 0 c.most)
 
 -- an undecided class of the plan has no end
 pub open_ends : (plan : Network) (c : Titles) → c.cover < length plan.covers → c.node < length plan.nodes → (Decided plan c → ⊥)
@@ -117,7 +108,7 @@ open_ranked plan rank c r class cover node undecided lower = record {
   class = class;
   node = node;
   cover = cover;
-  follows = inl (record { undecided = undecided; more = open_more plan c undecided; parts = lower.2 });
+  follows = inl (record { undecided = undecided; more = open_digits plan c undecided; parts = lower.2 });
 }
 
 -- what the tests of a decided class show, test by test: each one holds if it passes, and does not hold if it fails

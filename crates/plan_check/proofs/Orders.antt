@@ -1,14 +1,14 @@
 -- what the order of classes says of a table of ranks
-use Rattle.std.specs.Prelude.{ℕ, ◌≡◌, Bool, true, false, List, [], ◌∷◌, ◌++◌, map, Option, Some, None, refl, cond}
+use Rattle.std.specs.Prelude.{ℕ, ◌≡◌, ◌⊎◌, Bool, true, false, if◌then◌else◌, List, [], ◌∷◌, ◌++◌, map, Option, Some, None, refl, cond}
 use Rattle.std.specs.List.{All}
 use Rattle.std.specs.List.Sorted.{IsStrictlySortedBy}
-use Rattle.std.specs.Ordering.{ordering_reverse, is_eq}
-use Rattle.std.specs.declared.cmp.Ordering.{Ordering}
-use Rattle.std.specs.declared.cmp.Ordering.TheVariants.{Less, Equal, Greater}
+use Rattle.std.specs.Ordering.{is_eq}
+use Rattle.std.specs.declared.cmp.Ordering.TheVariants.{Less, Equal}
 use Rattle.std.specs.Iterator.{Yields}
 use Rattle.std.specs.Map.Iter.{TakesFirst}
 use Rattle.std.specs.BTreeMap.{is_at}
-use Rattle.std.proofs.Common.{sym, ◌∙◌, ap, subst}
+use Rattle.std.proofs.Common.{sym, ◌∙◌, ap, subst, inl, inr}
+use Rattle.std.proofs.lemmas.Cmp.{tied_itself}
 use Rattle.std.proofs.lemmas.List.Elements.{All-head, All-tail, All-from_recursion}
 use Rattle.std.proofs.lemmas.Map.{lookup-none}
 use Rattle.std.proofs.lemmas.Map.Entries.{none_below_head}
@@ -20,17 +20,29 @@ use Rattle.plan_classes.proofs.Ordered.{class_total, same_class}
 use Rattle.plan_check.specs.Ranking.{rank_in, class_cmp, classes_in}
 use Rattle.plan_check.specs.Ranked.{IsRankedClass, IsRanked}
 
-own : (o : Ordering) → o ≡ ordering_reverse o → o ≡ Equal
-own Less e = absurd (cc)
-own Equal e = refl
-own Greater e = absurd (cc)
-
 -- a class compares as equal with itself
 pub own_order : (c : Titles) → class_cmp c c ≡ Equal
-own_order c = own (class_cmp c c) (class_total.antisymm c c)
+own_order c = tied_itself class_total c
 
 pub own_class : (c : Titles) → is_eq (class_cmp c c) ≡ true
 own_class c = ap is_eq (own_order c)
+
+-- one more class has a rank
+abbrev pub Puts : List (Titles × ℕ) → List (Titles × ℕ) → Titles → ℕ → Type 0
+Puts before after c rank = (d : Titles) → rank_in after d ≡ (if is_eq (class_cmp c d) then Some rank else rank_in before d)
+
+pub puts_own : (before after : List (Titles × ℕ)) (c : Titles) (rank : ℕ) → Puts before after c rank → rank_in after c ≡ Some rank
+puts_own before after c rank puts = puts c ∙ ap (λ (b : Bool). if b then Some rank else rank_in before c) (own_class c)
+
+-- a rank of the new table is the new one, or an old one
+pub puts_case : (before after : List (Titles × ℕ)) (c d : Titles) (rank r : ℕ) → Puts before after c rank → rank_in after d ≡ Some r
+    → ((c ≡ d) × (rank ≡ r)) ⊎ (rank_in before d ≡ Some r)
+puts_case before after c d rank r puts e =
+    elim (is_eq (class_cmp c d)) as (λ b. is_eq (class_cmp c d) ≡ b → (if b then Some rank else rank_in before d) ≡ Some r
+    → ((c ≡ d) × (rank ≡ r)) ⊎ (rank_in before d ≡ Some r)) [
+      | true ↦ λ same k. inl (same_class c d same, cc)
+      | false ↦ λ other k. inr k
+    ] refl (sym (puts d) ∙ e)
 
 -- a class that is before another is not the same one
 apart : (a b : Titles) → class_cmp a b ≡ Less → is_eq (class_cmp b a) ≡ true → ⊥

@@ -15,7 +15,8 @@ use Rattle.plan_check.proofs.Causes.{ranked_faultless}
 use Rattle.plan_check.proofs.Greatest.{starts_ranked, same_greatest}
 use Rattle.plan_check.proofs.Soundness.{ranked_safe}
 
-none-some : {X : Type 0} (o : Option X) → o ≡ None → IsSome o → ⊥
+-- an option is not both
+pub none-some : {X : Type 0} (o : Option X) → o ≡ None → IsSome o → ⊥
 none-some None e h = cc
 none-some (Some x) e h = cc
 

@@ -1,4 +1,4 @@
--- the order of classes is total, and classes of one place in it are equal
+-- the orders of selectors and of classes are total, and what ties in them is equal
 use Rattle.std.specs.Prelude.{◌≡◌, true, refl}
 use Rattle.std.specs.Ordering.{nat_cmp, ordering_then, is_eq}
 use Rattle.std.specs.declared.cmp.Ordering.{Ordering}
@@ -11,7 +11,7 @@ use Rattle.sccp_base.specs.Selector.{Numbers}
 use Rattle.plan_classes.specs.Titles.{Titles}
 use Rattle.plan_classes.specs.Order.{class_cmp, selector_cmp}
 
-selector_total : IsTotalOrder selector_cmp
+pub selector_total : IsTotalOrder selector_cmp
 selector_total =
     then_total (on_total (λ (s : Numbers). s.kind) nat_cmp_total) (then_total (on_total (λ (s : Numbers). s.translation) nat_cmp_total)
     (then_total (on_total (λ (s : Numbers). s.plan) nat_cmp_total) (on_total (λ (s : Numbers). s.nature) nat_cmp_total)))
@@ -23,12 +23,13 @@ class_total =
     (then_total (on_total (λ (c : Titles). c.known) nat_list_cmp_total) (then_total (on_total (λ (c : Titles). c.least) nat_cmp_total)
     (on_total (λ (c : Titles). c.most) nat_cmp_total))))))
 
-both_equal : (o p : Ordering) → ordering_then o p ≡ Equal → (o ≡ Equal) × (p ≡ Equal)
+-- two orders, one after the other, tie exactly if both do
+pub both_equal : (o p : Ordering) → ordering_then o p ≡ Equal → (o ≡ Equal) × (p ≡ Equal)
 both_equal Less p e = absurd (cc)
 both_equal Equal p e = (refl, e)
 both_equal Greater p e = absurd (cc)
 
-same_selector : (a b : Numbers) → selector_cmp a b ≡ Equal → a ≡ b
+pub same_selector : (a b : Numbers) → selector_cmp a b ≡ Equal → a ≡ b
 same_selector a b e =
     let k = both_equal (nat_cmp a.kind b.kind) _ e in
     let t = both_equal (nat_cmp a.translation b.translation) _ k.1 in
@@ -40,7 +41,7 @@ same_selector a b e =
       nature = exact_unsigned a.nature b.nature p.1 i;
     }
 
-is_equal : (o : Ordering) → is_eq o ≡ true → o ≡ Equal
+pub is_equal : (o : Ordering) → is_eq o ≡ true → o ≡ Equal
 is_equal Less e = absurd (false≢true e)
 is_equal Equal e = refl
 is_equal Greater e = absurd (false≢true e)

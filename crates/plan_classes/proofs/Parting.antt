@@ -6,7 +6,11 @@ use Rattle.std.proofs.lemmas.Bool.{eqb-true, eq-eqb, cases_lt}
 use Rattle.std.proofs.Common.{⊎_elim}
 use Rattle.std.proofs.lemmas.List.Elements.{All-cons, All-head, All-tail}
 use Rattle.std.proofs.lemmas.List.FromFn.{length-map-range_with_len, map-range_with_len_more, get_or-map-range_with_len}
-use Rattle.plan_classes.specs.Titles.{Titles, IsClass, IsMember, closed, extended, parts_of, IsPart, Splits}
+use Rattle.plan_classes.specs.Titles.{Titles, IsClass, IsMember, closed, extended, parts_of, IsPart, Splits, spot_of}
+
+-- a title of a part is the same spot as a title of the class
+pub same_spot : (c part : Titles) (digits : List ℕ) → IsPart c part → spot_of part digits ≡ spot_of c digits
+same_spot c part digits is = λ i. record { node = is.node i; selector = is.selector i; ssn = is.ssn i; digits = digits }
 
 -- the digit after the known ones is a member's next one
 member_extended : (c : Titles) (d : ℕ) (digits : List ℕ) → d < 10 → 0 < c.most → IsMember (extended c d) digits → IsMember c digits

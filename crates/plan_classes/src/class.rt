@@ -36,26 +36,20 @@ impl Model for Class {
 impl Class {
     ghost use Rattle.plan_classes.specs.Titles.{titles, IsClass, IsMember, spot_of, closed, extended};
 
-    /// The class with these fields. It is `None` if `least` is above `most`, or if the number of known digits and `most` add up
-    /// to more than 32.
-    pub fn new(
-        cover: u32,
-        node: u8,
-        selector: Selector,
-        ssn: u8,
-        known: Digits,
-        least: u8,
-        most: u8,
-    ) -> Option<Class>
-        ensures { SomeIff result ((least ≤ most) × (length known + most ≤ 32)) (titles cover node selector ssn known least most) }
+    /// The titles at the node of a spot, under its selector and subsystem number, whose digits are the spot's and then `least` to
+    /// `most` further ones. It is `None` if `least` is above `most`, or if the number of the spot's digits and `most` add up to more
+    /// than 32.
+    pub fn new(cover: u32, first: &Spot, least: u8, most: u8) -> Option<Class>
+        ensures { SomeIff result ((least ≤ most) × (length first.now.digits + most ≤ 32))
+            (titles cover first.now.node first.now.selector first.now.ssn first.now.digits least most) }
     {
-        if least <= most && known.len() + usize::from(most) <= 32 {
+        if least <= most && first.digits.len() + usize::from(most) <= 32 {
             Some(Class {
                 cover,
-                node,
-                selector,
-                ssn,
-                known,
+                node: first.node,
+                selector: first.selector,
+                ssn: first.ssn,
+                known: first.digits,
                 least,
                 most,
             })

@@ -7,7 +7,7 @@ ghost use Rattle.plan_classes.specs.Titles.{IsMember, HasTitle};
 ghost use Rattle.plan_classes.specs.Classes.{start_of, sample_of};
 
 use crate::class::Class;
-use plan_model::{Cover, Plan};
+use plan_model::{Cover, Plan, Spot};
 use sccp_base::Digits;
 
 /// The cover at a place of the plan.
@@ -27,12 +27,15 @@ fn class_of(place: u32, cover: &Cover) -> Class
     ensures { result ≡ start_of place cover.now }
 {
     let given = cover.prefix.count();
+    let first = Spot {
+        node: cover.node,
+        selector: cover.selector,
+        ssn: cover.ssn,
+        digits: cover.prefix,
+    };
     match Class::new(
         place,
-        cover.node,
-        cover.selector,
-        cover.ssn,
-        cover.prefix,
+        &first,
         cover.least.saturating_sub(given),
         cover.most.saturating_sub(given),
     ) {

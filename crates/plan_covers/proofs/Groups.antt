@@ -65,7 +65,8 @@ abbrev pub IsBelow : List PlacedKey → CoverKey → ℕ → Type 0
 IsBelow order key below = IsPartitionPoint (λ (p : PlacedKey). is_lt (key_cmp p.key key) ≡ true)
     (λ (p : PlacedKey). is_lt (key_cmp p.key key) ≡ false) order below
 
-not_below : (key : CoverKey) → is_lt (key_cmp key key) ≡ false
+-- a key is not below itself
+pub not_below : (key : CoverKey) → is_lt (key_cmp key key) ≡ false
 not_below key = ap is_lt (tied_itself key_total key)
 
 -- the place in the order of a cover with the key: it is not among those that are below the key

@@ -10,16 +10,10 @@ use Rattle.std.proofs.Common.{sym, subst, arith, ltb}
 use Rattle.std.proofs.lemmas.Bool.{false≢true}
 use Rattle.std.proofs.lemmas.Bool.Decides.{nat_tests}
 use Rattle.std.proofs.lemmas.List.Sorted.{ranks_by, sorted_far, searchable_from_sorted, IsPartitionedBy-ltb}
-use Rattle.sccp_base.specs.Selector.{Numbers}
-use Rattle.plan_classes.specs.Order.{selector_cmp}
+use Rattle.plan_classes.proofs.Ordered.{selector_total}
 use Rattle.plan_covers.specs.declared.cover_key.CoverKey.{CoverKey}
 use Rattle.plan_covers.specs.declared.cover_order.PlacedKey.{PlacedKey}
 use Rattle.plan_covers.specs.Keys.{key_cmp, placed_cmp}
-
-selector_total : IsTotalOrder selector_cmp
-selector_total =
-    then_total (on_total (λ (s : Numbers). s.kind) nat_cmp_total) (then_total (on_total (λ (s : Numbers). s.translation) nat_cmp_total)
-    (then_total (on_total (λ (s : Numbers). s.plan) nat_cmp_total) (on_total (λ (s : Numbers). s.nature) nat_cmp_total)))
 
 pub key_total : IsTotalOrder key_cmp
 key_total =

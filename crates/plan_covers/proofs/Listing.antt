@@ -80,7 +80,8 @@ pub so_far_none : (covers : List Cover) → AreSoFar covers 0 []
 so_far_none covers = none_yet (λ (n : Needless). n.cover) (λ i j. i < j) (λ n. IsFirstNeedlessBy covers n.cover n.within)
     (HasNeedless covers) (λ j. j < 0) (λ k lt h. omega (arith, lt))
 
-or_present : (place k : ℕ) → k < place + 1 → (k < place) ⊎ (place ≡ k)
+-- a place before the next one is before this one, or it is this one
+pub or_present : (place k : ℕ) → k < place + 1 → (k < place) ⊎ (place ≡ k)
 or_present place k lt = ⊎_elim (λ (l : k < place). inl l) (λ (l : place ≤ k). inr (omega (arith, l, lt))) (cases_lt k place)
 
 pub so_far_more : (covers : List Cover) (place : ℕ) (before after : List Needless) (n : Needless) → after ≡ before ++ n ∷ []

@@ -16,6 +16,7 @@ use Rattle.plan_classes.specs.Titles.{Titles, IsClass, IsMember, IsPart, Splits,
 use Rattle.plan_classes.specs.Classes.{Decided, class_row, class_targets, sample_of}
 use Rattle.plan_classes.specs.Leading.{brought}
 use Rattle.plan_classes.proofs.Images.{sample_member}
+use Rattle.plan_classes.proofs.Parting.{same_spot}
 use Rattle.plan_margin.specs.declared.outage_set.OutageSet.{OutageSet}
 use Rattle.plan_margin.specs.declared.found.Found.{Found}
 use Rattle.plan_margin.specs.declared.found.Found.TheVariants.{Stopped, Through, Wide}
@@ -30,10 +31,6 @@ use Rattle.plan_margin.proofs.Sets.{own_outage, lost_inner, lost_outer, up_inner
 pub ok_is : {E : Type 0} (r : Result Found E) (f : Found) (P : Found → Type 0) → IfOk r (λ x. x ≡ f) → P f → IfOk r P
 ok_is (Ok x) f P e h = subst P (sym e) h
 ok_is (Err e) f P h k = h
-
-pub ok_map : {E : Type 0} (r : Result Found E) (P Q : Found → Type 0) → ((f : Found) → P f → Q f) → IfOk r P → IfOk r Q
-ok_map (Ok x) P Q f h = f x h
-ok_map (Err e) P Q f h = h
 
 -- the losses of each outage of the set stop this title
 pub own_stop : (plan : Network) (c : Titles) (left : ℕ) (set : OutageSet) (digits : List ℕ) → IsOutageSet plan set → IsMember c digits
@@ -95,9 +92,6 @@ found_same plan c left most In Out (Through cut) f g all =
 found_same plan c left most In Out Wide f g wide = tt
 
 -- a title of a part is one of the class
-same_spot : (c part : Titles) (digits : List ℕ) → IsPart c part → spot_of part digits ≡ spot_of c digits
-same_spot c part digits is = λ i. record { node = is.node i; selector = is.selector i; ssn = is.ssn i; digits = digits }
-
 pub part_stop : (plan : Network) (c part : Titles) (left most : ℕ) (In : List Mark → Type 0) (digits : List ℕ) (lost : List Mark)
     → IsPart c part → StopsOne plan part left most In digits lost → StopsOne plan c left most In digits lost
 part_stop plan c part left most In digits lost is stop = record {

@@ -15,13 +15,13 @@ use Rattle.plan_model.specs.Network.{Network}
 use Rattle.plan_model.specs.Steps.{marks as closing_marks}
 use Rattle.plan_classes.specs.Titles.{Titles}
 use Rattle.plan_classes.specs.Classes.{class_targets}
+use Rattle.plan_classes.proofs.Openings.{own_mark}
 use Rattle.plan_check.proofs.Soundness.{some_of}
 use Rattle.plan_margin.specs.declared.loss_kinds.LossKinds.{LossKinds}
 use Rattle.plan_margin.specs.declared.outage_set.OutageSet.{OutageSet}
 use Rattle.plan_margin.specs.declared.turn.Turn.TheVariants.{Either}
 use Rattle.plan_margin.specs.Outages.{is_loss}
 use Rattle.plan_margin.specs.Searching.{IsTurn, IsTurnBy, IsWithUp, is_free}
-use Rattle.plan_margin.proofs.Sets.{own_mark}
 
 abbrev one_if : Bool → ℕ
 one_if true = 1

@@ -7,7 +7,6 @@ use Rattle.std.proofs.lemmas.Bool.{false≢true, cases_lt, or_cases, or_left, or
 use Rattle.std.proofs.lemmas.Bool.{and_parts, not-true}
 use Rattle.std.proofs.lemmas.Option.{slice_get_within}
 use Rattle.sccp_base.specs.declared.mark.Mark.{Mark}
-use Rattle.sccp_base.specs.declared.mark.Mark.TheVariants.{PointCode, Sccp, Subsystem}
 use Rattle.sccp_base.specs.Marks.{IsAscending, same_mark, holds}
 use Rattle.sccp_base.proofs.Among.{find-Some, find-None}
 use Rattle.sccp_base.proofs.MarkPlaces.{same_mark_is}
@@ -17,6 +16,7 @@ use Rattle.plan_model.specs.Network.{Network}
 use Rattle.plan_model.specs.Steps.{marks as closing_marks, closing}
 use Rattle.plan_classes.specs.Titles.{Titles}
 use Rattle.plan_classes.specs.Classes.{class_targets}
+use Rattle.plan_classes.proofs.Openings.{own_mark}
 use Rattle.plan_check.proofs.Soundness.{some_of}
 use Rattle.plan_margin.specs.declared.loss_kinds.LossKinds.{LossKinds}
 use Rattle.plan_margin.specs.declared.outage_set.OutageSet.{OutageSet}
@@ -111,11 +111,6 @@ pub passes_same : (plan : Network) (c : Titles) (place : ℕ) (set more : Outage
     → ((marks : List Mark) → IsIn plan more marks → IsIn plan set marks) → PassesOver plan c place more
 passes_same plan c place set more passes inner =
     record { closed = λ marks inside k near. passes.closed marks (inner marks inside) k near; within = passes.within }
-
-pub own_mark : (m : Mark) → same_mark m m ≡ true
-own_mark (PointCode p) = grind (arith)
-own_mark (Sccp p) = grind (arith)
-own_mark (Subsystem p s) = grind (arith)
 
 -- marks that are losses of one kind are losses of the same kind
 same_losses : (plan : Network) (kinds others : LossKinds) (ms ns : List Mark) → kinds ≡ others → ms ≡ ns → All (IsLoss plan kinds) ms

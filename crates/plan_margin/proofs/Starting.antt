@@ -19,6 +19,7 @@ use Rattle.plan_model.proofs.Spots.{cover_at}
 use Rattle.plan_classes.specs.Titles.{Titles, IsMember, spot_of}
 use Rattle.plan_classes.specs.Classes.{start_of}
 use Rattle.plan_classes.proofs.Starting.{start_member, start_spot, member_covered}
+use Rattle.plan_classes.proofs.Openings.{own_mark}
 use Rattle.plan_check.proofs.Soundness.{some_of}
 use Rattle.plan_margin.specs.declared.loss_kinds.LossKinds.{LossKinds}
 use Rattle.plan_margin.specs.declared.outage_set.OutageSet.{OutageSet}
@@ -28,7 +29,6 @@ use Rattle.plan_margin.specs.Outages.{Outage, SparesEntry, ArrivesWithin, Arrive
 use Rattle.plan_margin.specs.Margins.{IsStop}
 use Rattle.plan_margin.specs.Searching.{IsIn, IsFoundIf, IsFound, Spares, AllArrive, StopsOne}
 use Rattle.plan_margin.proofs.Counting.{once_from}
-use Rattle.plan_margin.proofs.Sets.{own_mark}
 use Rattle.plan_margin.proofs.Following.{found_same}
 
 -- the set in which nothing is lost and this node is not

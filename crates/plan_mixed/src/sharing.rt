@@ -8,7 +8,7 @@ ghost use Rattle.plan_classes.specs.Titles.{HasTitle};
 ghost use Rattle.plan_mixed.specs.Pairs.{Meet, place_range, longer, least_of_both, most_of_both, pair, old_of, new_of, shared};
 
 use plan_classes::Class;
-use plan_model::{Cover, Plan};
+use plan_model::{Cover, Plan, Spot};
 use sccp_base::Digits;
 
 /// How many places two octets can name. A plan has fewer covers.
@@ -85,14 +85,17 @@ fn shared_by(number: u32, a: &Cover, b: &Cover) -> Class
     requires most { a.now.most ≤ 32 }
     ensures { result ≡ shared number a.now b.now }
 {
-    let known = longer(&a.prefix, &b.prefix);
-    let given = known.count();
+    let digits = longer(&a.prefix, &b.prefix);
+    let given = digits.count();
+    let first = Spot {
+        node: a.node,
+        selector: a.selector,
+        ssn: a.ssn,
+        digits,
+    };
     match Class::new(
         number,
-        a.node,
-        a.selector,
-        a.ssn,
-        known,
+        &first,
         least_of_both(a, b).saturating_sub(given),
         most_of_both(a, b).saturating_sub(given),
     ) {

@@ -134,17 +134,17 @@ way_none old new done left none split = record {
 }
 
 -- all relays that are left as one step
-pub way_last : (old new : Network) (done left : List ℕ) (bound : ℕ) → IsSplit old new done left
+pub way_last : (old new : Network) (done left : List ℕ) (bound : ℕ) → 0 < length left → IsSplit old new done left
     → IsSafeFor old new done left bound → IsReached old new done left bound
     → IsWayOn old new done left (record { nodes = left; bound = bound } ∷ [])
-way_last old new done left bound split safe reached = record {
+way_last old new done left bound some split safe reached = record {
   safe = ((safe, reached), tt);
   on = (
     (bound, safe),
     λ n differs. ⊎_elim (λ (h : is_in done n ≡ true). in-left done left n h)
         (λ (h : is_in done n ≡ false). in-right done left n (split.whole n differs h)) (cases_Bool (is_in done n)),
   );
-  among = (All-in (λ (n : ℕ). is_in left n ≡ true) left (λ n h. h), split.ascending, tt);
+  among = (All-in (λ (n : ℕ). is_in left n ≡ true) left (λ n h. h), record { some = some; ascending = split.ascending }, tt);
 }
 
 -- a step, and then the steps that are found after it
@@ -153,7 +153,7 @@ pub way_front : (old new : Network) (done left : List ℕ) (step : SafeStep) (st
 way_front old new done left step steps next way = record {
   safe = (next.safe, way.safe);
   on = ((step.bound, next.safe.0), way.on);
-  among = (next.among, next.ascending, way.among);
+  among = (next.among, record { some = next.some; ascending = next.ascending }, way.among);
 }
 
 -- no order goes on if no relay that is left can be next

@@ -1,7 +1,6 @@
 -- routes while the plans have changed their places
 use Rattle.std.specs.Prelude.{ℕ, ◌≡◌, ◌⊎◌, List, [], ◌∷◌, length, Option, Some, None, IsSomeAnd, refl}
 use Rattle.std.proofs.Common.{suc, sym, ◌∙◌, ap, subst, inl, inr}
-use Rattle.sccp_base.specs.declared.mark.Mark.{Mark}
 use Rattle.plan_model.specs.declared.spot.Spot.{Spot}
 use Rattle.plan_model.specs.declared.hop.Step.{Step}
 use Rattle.plan_model.specs.declared.hop.Step.TheVariants.{Sent, Ended, Blocked, NoRow, Overgrown}
@@ -20,20 +19,8 @@ use Rattle.plan_change.specs.declared.turn.Turn.{Turn}
 use Rattle.plan_change.specs.Mixture.{made_under, mixed_under, BothAllow, SafeUnder}
 use Rattle.plan_change.specs.Changes.{IsLongestUnder}
 use Rattle.plan_change.specs.Holdings.{DoSame}
+use Rattle.plan_change.proofs.Holdings.{any_held, onward_same}
 use Rattle.plan_change.proofs.Verdicts.{settled}
-
--- what follows a step is the same if it is the same from each spot that comes next
-same_onward : (o : Option Spot) (f g : Spot → List Hop) → ((next : Spot) → o ≡ Some next → f next ≡ g next) → onward o f ≡ onward o g
-same_onward None f g h = refl
-same_onward (Some next) f g h = h next refl
-
--- if both plans do the same, it does not matter which is held
-either_held : (old new : Network) (spot : Spot) (marking : List Mark) → step old spot marking ≡ step new spot marking → (v w : Which)
-    → step (held old new v) spot marking ≡ step (held old new w) spot marking
-either_held old new spot marking same Old Old = refl
-either_held old new spot marking same Old New = same
-either_held old new spot marking same New Old = sym same
-either_held old new spot marking same New New = refl
 
 -- the other one of the two plans
 abbrev pub other : Which → Which
@@ -65,7 +52,7 @@ back_turn old new may back mirror turn spot = by (mirror spot.node which (settle
     )
     by (inr same) = (
       turn,
-      either_held old new spot turn.marking (same spot turn.marking refl) (chosen (may_hold may spot.node) turn.which) (other which)
+      any_held old new spot turn.marking (same spot turn.marking refl) (chosen (may_hold may spot.node) turn.which) (other which)
           ∙ sym (ap (λ (p : Network). step p spot turn.marking) (held_other old new which)),
     )
 
@@ -83,7 +70,7 @@ same_route f g each (turn ∷ turns) spot = by (same_route f g each turns) (next
     joined ts rest =
         ap (λ (x : Step). (let h : Hop = record { spot = spot; step = x } in h) ∷ onward (next_of x) (λ next. route_by f next ts)) first.1
         ∙ ap (λ (hs : List Hop). (let h : Hop = record { spot = spot; step = g turn spot } in h) ∷ hs)
-        (same_onward (next_of (g turn spot)) (λ next. route_by f next ts) (λ next. route_by g next turns) rest)
+        (onward_same (next_of (g turn spot)) (λ next. route_by f next ts) (λ next. route_by g next turns) rest)
 
     by : ((next : Spot) → (ts : List Turn) × (length ts ≡ length turns) × (route_by f next ts ≡ route_by g next turns))
         → (o : Option Spot) → next_of (g turn spot) ≡ o

@@ -3,13 +3,13 @@ use Rattle.std.specs.Prelude.{ℕ, ◌≡◌, ◌≢◌, ◌<◌, Bool, true, fa
 use Rattle.std.specs.List.{All, AllPairs, filter, concat}
 use Rattle.std.proofs.Common.{sym, ◌∙◌, subst, inl, ⊎_elim, arith}
 use Rattle.std.proofs.lemmas.Bool.{false≢true, or_parts}
-use Rattle.std.proofs.lemmas.List.Elements.{All-append, All-filter}
+use Rattle.std.proofs.lemmas.List.Elements.{All-append, All-cons, All-filter, All-nil}
 use Rattle.std.proofs.lemmas.List.Filters.{length-filter_both}
 use Rattle.std.proofs.lemmas.List.Kept.{AllPairs-filter}
 use Rattle.sccp_base.proofs.Among.{Among, Among-filter}
 use Rattle.plan_model.specs.Network.{Network}
 use Rattle.plan_order.specs.declared.safe_step.SafeStep.{SafeStep}
-use Rattle.plan_order.specs.Sets.{is_in, Differs}
+use Rattle.plan_order.specs.Sets.{is_in, IsStepSet, Differs}
 use Rattle.plan_order.specs.Steps.{sets_of}
 use Rattle.plan_order.specs.Orders.{IsLawfulSteps}
 use Rattle.plan_order.specs.Searching.{IsSplit, AreAmong, IsWayOn, is_out, without}
@@ -74,12 +74,17 @@ pub no_repeats : (left : List ℕ) (sets : List (List ℕ)) → AreAmong left se
 no_repeats left [] among = pairs_none (λ (a : ℕ) (b : ℕ). a ≢ b)
 no_repeats left (step ∷ sets) among =
     pairs_append (λ (a : ℕ) (b : ℕ). a ≢ b) step (concat sets)
-    (pairs_map (λ (a : ℕ) (b : ℕ). a < b) (λ (a : ℕ) (b : ℕ). a ≢ b) step (λ a b lt e. omega (arith, lt, e)) among.1)
+    (pairs_map (λ (a : ℕ) (b : ℕ). a < b) (λ (a : ℕ) (b : ℕ). a ≢ b) step (λ a b lt e. omega (arith, lt, e)) among.1.ascending)
     (no_repeats (without left step) sets among.2)
     (All-in (λ (a : ℕ). All (λ (b : ℕ). a ≢ b) (concat sets)) step
     (λ a h. All-in (λ (b : ℕ). a ≢ b) (concat sets)
     (λ b k e. false≢true (sym (in-without left step b (all_left (without left step) sets among.2 b k)).1
     ∙ subst (λ (c : ℕ). is_in step c ≡ true) e h))))
+
+-- each of them has a relay
+all_sets : (left : List ℕ) (sets : List (List ℕ)) → AreAmong left sets → All IsStepSet sets
+all_sets left [] among = All-nil IsStepSet
+all_sets left (step ∷ sets) among = All-cons IsStepSet step sets among.1 (all_sets (without left step) sets among.2)
 
 -- the steps that are found from the beginning are an order
 pub steps_lawful : (old new : Network) (left : List ℕ) (steps : List SafeStep) → IsSplit old new [] left
@@ -89,4 +94,5 @@ steps_lawful old new left steps split way = record {
   safe = way.safe;
   differ = All-in (Differs old new) (concat (sets_of steps))
       (λ n h. in-All (Differs old new) left n split.after (all_left left (sets_of steps) way.among n h));
+  sets = all_sets left (sets_of steps) way.among;
 }

@@ -2,25 +2,26 @@
 use Rattle.std.specs.Prelude.{ℕ, ◌≡◌, ◌≢◌, ◌<◌, ◌≤◌, Bool, true, false, if◌then◌else◌, List, [], ◌∷◌, ◌++◌, length, reverse}
 use Rattle.std.specs.Prelude.{Option, Some, None, IsSomeAnd, slice_get, refl}
 use Rattle.std.specs.List.{All, AllPairs, concat}
-use Rattle.std.proofs.Common.{sym, ◌∙◌, ap, subst, inl, inr, ⊎_elim}
+use Rattle.std.proofs.Common.{suc, sym, ◌∙◌, ap, subst, inl, inr, ⊎_elim, arith}
 use Rattle.std.proofs.lemmas.Bool.{false≢true, cases_Bool, cases_lt, or_parts}
-use Rattle.std.proofs.lemmas.List.{length-map, append_assoc, append-nil, reverse-append}
+use Rattle.std.proofs.lemmas.List.{append_assoc, append-nil, reverse-append}
 use Rattle.plan_model.specs.declared.node.Node.{Node}
 use Rattle.plan_model.specs.Network.{Network}
-use Rattle.plan_model.specs.SameNodes.{SameNodes, without_rows}
+use Rattle.plan_model.specs.SameNodes.{SameNodes}
 use Rattle.plan_mixed.specs.declared.which.Which.{Which}
 use Rattle.plan_mixed.specs.declared.holding.Holding.{Holding}
 use Rattle.plan_mixed.specs.declared.holding.Holding.TheVariants.{Old, New, Either}
 use Rattle.plan_mixed.specs.Holdings.{chosen, MayHold}
+use Rattle.plan_change.proofs.Verdicts.{same_length}
 use Rattle.plan_order.specs.declared.safe_step.SafeStep.{SafeStep}
-use Rattle.plan_order.specs.Sets.{is_in, Differs}
+use Rattle.plan_order.specs.Sets.{is_in, IsStepSet, Differs}
 use Rattle.plan_order.specs.Steps.{during, IsStep, AreSteps, sets_of}
 use Rattle.plan_order.specs.Orders.{GoesOn, IsLawfulSteps}
 use Rattle.plan_order.proofs.Members.{in-append, in-left, in-right, in-either, out-both, in-All, All-in}
 use Rattle.plan_order.proofs.Relays.{differs_told}
 use Rattle.plan_order.proofs.Parts.{may_at, may_past}
 use Rattle.plan_order.proofs.Joining.{pairs_append, pairs_left, pairs_right, pairs_between}
-use Rattle.plan_order.proofs.Pushed.{relays_of, relays_append, relays_one, steps_push}
+use Rattle.plan_order.proofs.Pushed.{relays_of, relays_append, relays_one, sets_push, steps_push}
 use Rattle.plan_order.proofs.Mirrors.{other, IsMirror, safe_back, longest_back}
 
 -- ---- one step back
@@ -46,11 +47,6 @@ pub record AreThree (old new : Network) (done step later : List ℕ) : Type 0 wh
   pub second : (n : ℕ) → Differs old new n → is_in step n ≡ true → (is_in done n ≡ false) × (is_in later n ≡ false)
   pub third : (n : ℕ) → Differs old new n → is_in later n ≡ true → (is_in done n ≡ false) × (is_in step n ≡ false)
   pub some : (n : ℕ) → Differs old new n → is_in done n ≡ false → is_in step n ≡ false → is_in later n ≡ true
-
-same_count : (old new : Network) → SameNodes old new → length old.nodes ≡ length new.nodes
-same_count old new same =
-    sym (length-map old.nodes without_rows) ∙ ap (λ (ws : List (List ℕ × ℕ × List ℕ × List ℕ)). length ws) same
-    ∙ length-map new.nodes without_rows
 
 other_by : (a b : Option Node) → IsSomeAnd a (λ x. IsSomeAnd b (λ y. x.table ≢ y.table))
     → IsSomeAnd b (λ y. IsSomeAnd a (λ x. y.table ≢ x.table))
@@ -78,7 +74,7 @@ mirror old new done step later same three n w holds =
         (λ l s. ⊎_elim (λ (d : is_in done n ≡ true). d) (λ (d : is_in done n ≡ false).
         absurd (false≢true (sym l ∙ three.some n differs d s))) (cases_Bool (is_in done n)))
         (subst (λ (h : Holding). chosen h w ≡ w)
-        (may_at (length new.nodes) later step n (subst (λ (k : ℕ). n < k) (same_count old new same) lt)) holds))
+        (may_at (length new.nodes) later step n (subst (λ (k : ℕ). n < k) (same_length old new same) lt)) holds))
 
     past : count ≤ n → MayHold (during count done step) n (other w)
     past le = subst (λ (h : Holding). chosen h (other w) ≡ other w) (sym (may_past count done step n le)) refl
@@ -233,6 +229,13 @@ pairs_back (step ∷ steps) pairs =
     false≢true (sym (not_later step steps pairs b k)
     ∙ subst (λ (c : ℕ). is_in (relays_of steps) c ≡ true) e ((relays_back steps a).0 h))))))
 
+-- each of the steps in reverse has a relay
+sets_back : (steps : List SafeStep) → All IsStepSet (sets_of steps) → All IsStepSet (sets_of (reverse steps))
+sets_back [] sets = sets
+sets_back (step ∷ steps) sets =
+    subst (λ (ss : List SafeStep). All IsStepSet (sets_of ss)) (sym (reverse_cons step steps))
+    (sets_push (reverse steps) step (sets_back steps (λ k d lt. sets (suc k) d (omega (arith, lt)))) (sets 0 step.nodes (omega arith)))
+
 -- The steps of an order in reverse are an order back.
 pub turn_back : (old new : Network) (steps : List SafeStep) → SameNodes old new → IsLawfulSteps old new steps
     → IsLawfulSteps new old (reverse steps)
@@ -252,4 +255,5 @@ turn_back old new steps same lawful =
       safe = safe;
       differ = All-in (Differs new old) (relays_of (reverse steps)) (λ n h.
           differs_back new old n (in-All (Differs old new) (relays_of steps) n lawful.differ ((relays_back steps n).0 h)));
+      sets = sets_back steps lawful.sets;
     }

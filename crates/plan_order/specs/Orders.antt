@@ -1,5 +1,5 @@
 -- What an answer says of an order of steps from one plan to another.
-use Rattle.std.specs.Prelude.{ℕ, ◌≡◌, ◌≢◌, ◌≤◌, ◌⊎◌, false, IsTrue, List, [], ◌∷◌, ◌++◌, length}
+use Rattle.std.specs.Prelude.{ℕ, ◌≡◌, ◌≢◌, ◌<◌, ◌≤◌, ◌⊎◌, false, IsTrue, List, [], ◌∷◌, ◌++◌, length, map}
 use Rattle.std.specs.List.{All, Any, AllPairs, concat}
 use Rattle.plan_model.specs.Network.{Network}
 use Rattle.plan_mixed.specs.Mixed.{MixedReachAtLeast}
@@ -11,7 +11,7 @@ use Rattle.plan_order.specs.declared.safe_step.SafeStep.{SafeStep}
 use Rattle.plan_order.specs.declared.stuck.Stuck.{Stuck}
 use Rattle.plan_order.specs.declared.answer.Order.{Order}
 use Rattle.plan_order.specs.declared.answer.Order.TheVariants.{Steps, NoOrder, Undecided}
-use Rattle.plan_order.specs.Sets.{is_in, SameSet, Differs}
+use Rattle.plan_order.specs.Sets.{is_in, SameSet, IsStepSet, AreStepSets, Differs}
 use Rattle.plan_order.specs.Steps.{during, IsSafeStep, AreSteps, sets_of}
 
 -- Safe steps after these relays. After the last of them all relays whose rows differ have the new plan.
@@ -45,18 +45,24 @@ pub record IsStuck (old new : Network) (done : List ℕ) (stuck : Stuck) : Type 
   pub left : is_in done stuck.node ≡ false
   pub why : IsRefusal (during (length old.nodes) done (stuck.node ∷ [])) old new stuck.why
 
--- an order, each step of which is safe for its bound, which one of its mixed routes reaches; only relays that differ are in steps
+-- an order, each step of which is safe for its bound, which one of its mixed routes reaches; only relays that differ are in steps,
+-- and each step has one
 pub record IsLawfulSteps (old new : Network) (steps : List SafeStep) : Type 0 where
   pub order : IsOrder old new (sets_of steps)
   pub safe : AreSteps old new [] steps
   pub differ : All (Differs old new) (concat (sets_of steps))
+  pub sets : All IsStepSet (sets_of steps)
 
--- There is no order. The steps are safe one after the other, and after them no relay that is left can be next.
+-- There is no order. The steps are safe one after the other, of relays that differ, and after them no relay that is left can be next.
+-- Those that are left are in the order of the plan.
 pub record IsLawfulRefusal (old new : Network) (steps : List SafeStep) (stuck : List Stuck) : Type 0 where
   pub none : (sets : List (List ℕ)) → IsOrder old new sets → ⊥
   pub safe : AreSteps old new [] steps
+  pub differ : All (Differs old new) (concat (sets_of steps))
+  pub sets : AreStepSets (sets_of steps)
   pub each : All (IsStuck old new (concat (sets_of steps))) stuck
   pub whole : (node : ℕ) → Differs old new node → is_in (concat (sets_of steps)) node ≡ false → Any (λ s. s.node ≡ node) stuck
+  pub ordered : AllPairs (λ a b. a < b) (map (λ s. s.node) stuck)
 
 -- An order is one, and if none is given there is none. It is undecided only if there are many dead ends, or the two plans reach at
 -- least as many classes as the old plan's limit says.

@@ -12,7 +12,7 @@ use Rattle.plan_order.specs.declared.outcome.Outcome.TheVariants.{Safe, Refused,
 use Rattle.plan_order.specs.declared.known.Known.{Known}
 use Rattle.plan_order.specs.declared.found.Found.{Found}
 use Rattle.plan_order.specs.declared.found.Found.TheVariants.{Steps, Nowhere, GaveUp}
-use Rattle.plan_order.specs.Sets.{is_in, SameSet, Differs}
+use Rattle.plan_order.specs.Sets.{is_in, SameSet, IsStepSet, Differs}
 use Rattle.plan_order.specs.Steps.{during, IsSafeFor, IsSafeStep, IsReached, IsStep, AreSteps, sets_of}
 use Rattle.plan_order.specs.Orders.{GoesOn, IsDeadEnd, IsRefusal}
 use Rattle.plan_order.specs.Refusing.{Refuses}
@@ -89,7 +89,7 @@ pub record IsKnown (old new : Network) (known : Known) : Type 0 where
 abbrev pub AreAmong : List ℕ → List (List ℕ) → Type 0
 AreAmong left [] = Unit {0}
 AreAmong left (step ∷ steps) =
-    All (λ node. IsTrue (is_in left node)) step × AllPairs (λ a b. a < b) step × AreAmong (without left step) steps
+    All (λ node. IsTrue (is_in left node)) step × IsStepSet step × AreAmong (without left step) steps
 
 -- safe steps after which all relays that differ have the new plan
 pub record IsWayOn (old new : Network) (done left : List ℕ) (steps : List SafeStep) : Type 0 where

@@ -19,7 +19,8 @@ use std::alloc::Global;
 
 /// Steps from the old plan to the new one, each of which is safe whichever of the two plans its relays hold meanwhile. The relays of
 /// earlier steps hold the new plan then, and all others the old one. Each title that both plans cover is blocked, or reaches a place
-/// that all its covers in both plans allow, within the bound of the step. Only relays whose rows differ are in steps.
+/// that all its covers in both plans allow, within the bound of the step. Only relays whose rows differ are in steps, each step has at
+/// least one, and none is in two.
 /// The answer is `NoOrder` only if no sets of relays are an order, and `Undecided` only if there are at least 256 sets from which no
 /// order goes on, or the two plans reach at least as many classes as the limit of the old plan says.
 /// The fault is `OtherNodes` exactly if names, point codes, subsystems and concerned points, in order, are not the same.

@@ -3,6 +3,7 @@ ghost use Rattle.std.specs.Prelude.{ℕ, ◌≡◌, ◌∷◌, [], List, IfOk, I
 ghost use Rattle.std.specs.List.{All, concat};
 ghost use Rattle.plan_model.specs.SameNodes.{SameNodes};
 ghost use Rattle.plan_mixed.specs.Mixed.{MixedReachAtLeast};
+ghost use Rattle.plan_order.specs.Sets.{AreStepSets};
 ghost use Rattle.plan_order.specs.Steps.{IsSafeStep, AreSteps, sets_of};
 ghost use Rattle.plan_order.specs.Orders.{IsOrder, IsLawfulOrder};
 ghost use Rattle.plan_order.specs.Searching.{IsSplit, IsNextStep, IsWhy};
@@ -33,6 +34,7 @@ pub(crate) fn stop_at(
     requires split { IsSplit plans.now.old.now plans.now.new.now done.now left.now }
     requires steps { AreSteps plans.now.old.now plans.now.new.now [] steps }
     requires done { concat (sets_of steps) ≡ done.now }
+    requires sets { AreStepSets (sets_of steps) }
     ensures { IfOk result (IsLawfulOrder plans.now.old.now plans.now.new.now) }
 {
     let mut known = Known::new(alloc);
@@ -66,6 +68,7 @@ fn stop_after(
     requires split { IsSplit plans.now.old.now plans.now.new.now done.now left.now }
     requires steps { AreSteps plans.now.old.now plans.now.new.now [] steps }
     requires done { concat (sets_of steps) ≡ done.now }
+    requires sets { AreStepSets (sets_of steps) }
     requires step { IsNextStep plans.now.old.now plans.now.new.now done.now left.now step }
     ensures { IfOk result (IsLawfulOrder plans.now.old.now plans.now.new.now) }
 {
@@ -89,6 +92,7 @@ fn stuck_here(
     requires split { IsSplit plans.now.old.now plans.now.new.now done.now left.now }
     requires steps { AreSteps plans.now.old.now plans.now.new.now [] steps }
     requires done { concat (sets_of steps) ≡ done.now }
+    requires sets { AreStepSets (sets_of steps) }
     requires refused { All (λ node. IsSafeStep plans.now.old.now plans.now.new.now done.now (node ∷ []) → ⊥) left.now }
     ensures { IfOk result (IsLawfulOrder plans.now.old.now plans.now.new.now) }
 {

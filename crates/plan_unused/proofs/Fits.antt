@@ -22,11 +22,8 @@ use Rattle.plan_classes.specs.Leading.{brought}
 use Rattle.plan_classes.proofs.Images.{sample_member, rewritten_known, rewritten_member}
 use Rattle.plan_classes.proofs.Taking.{row_targets, target_leads, target_strips, brought_at, grown}
 use Rattle.plan_classes.proofs.Openings.{first_open-at}
+use Rattle.plan_check.proofs.Soundness.{some_of}
 use Rattle.plan_unused.specs.Fitting.{at_most_32, fitting, HasFitting, IsSentOnAs}
-
-pub some_is : {X : Type 0} (o : Option X) (P : X → Type 0) → IsSomeAnd o P → (x : X) × (o ≡ Some x) × P x
-some_is (Some x) P h = (x, refl, h)
-some_is None P h = absurd h
 
 pub is_some_and : {X : Type 0} (o : Option X) (P : X → Type 0) (x : X) → o ≡ Some x → P x → IsSomeAnd o P
 is_some_and o P x e p = subst (λ q. IsSomeAnd q P) (sym e) p
@@ -139,7 +136,7 @@ pub fits : (plan : Network) (c : Titles) (place : ℕ) (next : Titles) → IsPla
     → Decided plan c → HasFitting plan c place next → Fits plan c place next
 fits plan c place next is class lt decided has =
     let node = node_of_class plan c lt in
-    let t = some_is (slice_get (class_targets plan c) place) (λ t. fitting plan c t ≡ Some next) has in
+    let t = some_of (slice_get (class_targets plan c) place) (λ t. fitting plan c t ≡ Some next) has in
     fits_at plan node.0 c place t.0 next is class decided node.1 t.1 t.2
 
 -- a title that a target sends on is one of those that the target makes

@@ -1,5 +1,5 @@
 -- classes that are put at a hop
-use Rattle.std.specs.Prelude.{ℕ, ◌≡◌, ◌+◌, ◌<◌, ◌⊎◌, Bool, true, false, List, length, take, get_or, Option, Some, None}
+use Rattle.std.specs.Prelude.{ℕ, ◌≡◌, ◌+◌, ◌<◌, ◌⊎◌, true, false, List, length, take, get_or, Option, Some, None}
 use Rattle.std.specs.Prelude.{is_some, if◌then◌else◌, refl}
 use Rattle.std.specs.List.{All}
 use Rattle.std.specs.Ordering.{is_eq}
@@ -10,28 +10,10 @@ use Rattle.plan_classes.specs.Titles.{Titles, parts_of}
 use Rattle.plan_classes.specs.Classes.{Decided}
 use Rattle.plan_classes.proofs.Ordered.{same_class}
 use Rattle.plan_check.specs.Ranking.{rank_in, class_cmp}
-use Rattle.plan_check.proofs.Orders.{own_class}
+use Rattle.plan_check.proofs.Orders.{Puts, puts_own, puts_case}
 use Rattle.plan_unused.specs.Meets.{Meets}
 use Rattle.plan_unused.specs.Walks.{IsRankedBy, AreRanks, IsPut, KeepsPlaces, Grows}
 use Rattle.plan_unused.proofs.Places.{same_places, more_places}
-
--- one more class has a rank
-abbrev pub Puts : List (Titles × ℕ) → List (Titles × ℕ) → Titles → ℕ → Type 0
-Puts before after c depth = (d : Titles) → rank_in after d ≡ (if is_eq (class_cmp c d) then Some depth else rank_in before d)
-
-puts_own : (before after : List (Titles × ℕ)) (c : Titles) (depth : ℕ) → Puts before after c depth → rank_in after c ≡ Some depth
-puts_own before after c depth puts =
-    puts c ∙ ap (λ (b : Bool). if b then Some depth else rank_in before c) (own_class c)
-
--- a rank of the new table is the new one, or an old one
-puts_case : (before after : List (Titles × ℕ)) (c d : Titles) (depth r : ℕ) → Puts before after c depth → rank_in after d ≡ Some r
-    → ((c ≡ d) × (depth ≡ r)) ⊎ (rank_in before d ≡ Some r)
-puts_case before after c d depth r puts e =
-    elim (is_eq (class_cmp c d)) as (λ b. is_eq (class_cmp c d) ≡ b → (if b then Some depth else rank_in before d) ≡ Some r
-    → ((c ≡ d) × (depth ≡ r)) ⊎ (rank_in before d ≡ Some r)) [
-      | true ↦ λ same k. inl (same_class c d same, cc)
-      | false ↦ λ other k. inr k
-    ] refl (sym (puts d) ∙ e)
 
 -- an old rank stays, unless it is that of the class, which then has the new one
 puts_kept : (before after : List (Titles × ℕ)) (c d : Titles) (depth r : ℕ) → Puts before after c depth

@@ -1,9 +1,9 @@
 -- lists of what is unused, in ascending order
-use Rattle.std.specs.Prelude.{ℕ, ◌≡◌, ◌+◌, ◌<◌, ◌≤◌, ◌⊎◌, ◌↔◌, Bool, true, false, List, [], ◌∷◌, ◌++◌, length, Option, Some, None}
-use Rattle.std.specs.Prelude.{IsSome, IsSomeAnd, slice_get, slice_index_or, refl}
+use Rattle.std.specs.Prelude.{ℕ, ◌≡◌, ◌+◌, ◌<◌, ◌≤◌, ◌⊎◌, ◌↔◌, Bool, true, false, List, [], ◌∷◌, ◌++◌, length, Some, None}
+use Rattle.std.specs.Prelude.{IsSomeAnd, slice_get, slice_index_or, refl}
 use Rattle.std.specs.List.{Contains}
 use Rattle.std.proofs.Common.{sym, ◌∙◌, ap, subst, inl, inr, ⊎_elim, arith}
-use Rattle.std.proofs.lemmas.Bool.{cases_lt, false≢true}
+use Rattle.std.proofs.lemmas.Bool.{false≢true}
 use Rattle.std.proofs.lemmas.Option.{slice_get_within}
 use Rattle.std.proofs.lemmas.List.Elements.{All-contains}
 use Rattle.plan_rules.specs.Rule.{Rule}
@@ -12,6 +12,9 @@ use Rattle.plan_model.specs.declared.spot.Spot.{Spot}
 use Rattle.plan_model.specs.Network.{Network}
 use Rattle.plan_model.specs.Covered.{Covers}
 use Rattle.plan_covers.proofs.Ascending.{SoFar, none_yet, one_more, no_more}
+use Rattle.plan_covers.proofs.Listing.{or_present}
+use Rattle.plan_check.proofs.Soundness.{some_of}
+use Rattle.plan_check.proofs.Verdict.{none-some}
 use Rattle.plan_unused.specs.declared.survey.RowPlace.{RowPlace}
 use Rattle.plan_unused.specs.declared.survey.TargetPlace.{TargetPlace}
 use Rattle.plan_unused.specs.declared.survey.Gap.{Gap}
@@ -21,7 +24,7 @@ use Rattle.plan_unused.specs.Surveys.{IsUnusedRelay, IsUnusedRow, IsUnusedTarget
 use Rattle.plan_unused.specs.Surveys.{ListsTargets, ListsGaps}
 use Rattle.plan_unused.specs.Walks.{row_at, target_at, has_relay, has_row, has_target, gap_in, IsSeen, IsWhole}
 use Rattle.plan_unused.specs.Listed.{AreBefore, RowsSoFar, TargetsSoFar, HasCount, HasPlace, HasTarget, HasTargetCount}
-use Rattle.plan_unused.proofs.Fits.{some_is, is_some_and}
+use Rattle.plan_unused.proofs.Fits.{is_some_and}
 
 so_far : {X : Type 0} (Less : X → X → Type 0) (Is : X → Type 0) (p : X) (xs : List X) → AreBefore Less Is p xs
     → SoFar (λ (x : X). x) Less Is Is (λ x. Less x p) xs
@@ -60,8 +63,6 @@ all_listed {X} Less Is p xs inside h x = (
     get_is y k = slice_index_or xs k y ≡ y
 
 -- numbers
-or_own : (n k : ℕ) → k < n + 1 → (k < n) ⊎ (n ≡ k)
-or_own n k lt = ⊎_elim (λ (l : k < n). inl l) (λ (l : n ≤ k). inr (omega (arith, l, lt))) (cases_lt k n)
 
 is_false : (b c : Bool) → b ≡ c → b ≡ false → c ≡ true → ⊥
 is_false b c same f t = false≢true (sym f ∙ same ∙ t)
@@ -76,14 +77,14 @@ pub relays_more : (plan : Network) (seen : Seen) (n : ℕ) (xs ys : List ℕ) (b
 relays_more plan seen n xs ys b lt whole told not_in e h =
     before_more (λ i j. i < j) (IsUnusedRelay plan) n (n + 1) xs ys e
     (lt, λ uses. is_false b (has_relay seen n) told not_in (whole.relays n uses))
-    (λ k l. or_own n k l) (λ k l. omega (arith, l)) (omega arith) h
+    (λ k l. or_present n k l) (λ k l. omega (arith, l)) (omega arith) h
 
 pub relays_same : (plan : Network) (seen : Seen) (n : ℕ) (xs : List ℕ) (b : Bool) → IsSeen plan seen → b ≡ has_relay seen n → b ≡ true
     → AreBefore (λ i j. i < j) (IsUnusedRelay plan) n xs → AreBefore (λ i j. i < j) (IsUnusedRelay plan) (n + 1) xs
 relays_same plan seen n xs b seen_is told is_in h =
     before_same (λ i j. i < j) (IsUnusedRelay plan) n (n + 1) xs
     (λ k l is. ⊎_elim (λ (lt : k < n). lt) (λ (same : n ≡ k). absurd (is.1 (subst (UsesRelay plan) same
-    (seen_is.relays n (sym told ∙ is_in))))) (or_own n k l))
+    (seen_is.relays n (sym told ∙ is_in))))) (or_present n k l))
     (λ k l. omega (arith, l)) h
 
 pub relays_all : (plan : Network) (n : ℕ) (xs : List ℕ) → length plan.nodes ≤ n → AreBefore (λ i j. i < j) (IsUnusedRelay plan) n xs
@@ -99,7 +100,7 @@ row_step : (n r : ℕ) (y : RowPlace) → IsRowBefore y (row_at n (r + 1)) → I
 row_step n r y (inl lt) = inl (inl lt)
 row_step n r y (inr h) =
     ⊎_elim (λ (lt : y.row < r). inl (inr (h.0, lt))) (λ (same : r ≡ y.row). inr (λ i. record { node = sym h.0 i; row = same i }))
-    (or_own r y.row h.1)
+    (or_present r y.row h.1)
 
 row_on : (n r : ℕ) (y : RowPlace) → IsRowBefore y (row_at n r) → IsRowBefore y (row_at n (r + 1))
 row_on n r y (inl lt) = inl lt
@@ -127,7 +128,7 @@ rows_more plan seen place xs ys b whole there relay told not_in e h =
 -- a place before the number of rows is one
 pub place_there : (plan : Network) (n r count : ℕ) → HasCount plan n count → r < count → HasPlace plan (row_at n r)
 place_there plan n r count counts lt =
-    let node = some_is (slice_get plan.nodes n) (λ x. count ≡ length x.table) counts in
+    let node = some_of (slice_get plan.nodes n) (λ x. count ≡ length x.table) counts in
     is_some_and (slice_get plan.nodes n) (λ x. r < length x.table) node.0 node.1 (omega (arith, node.2, lt))
 
 pub rows_same : (plan : Network) (seen : Seen) (n r : ℕ) (xs : List RowPlace) (b : Bool) → IsSeen plan seen → b ≡ has_row seen (row_at n r)
@@ -146,15 +147,15 @@ rows_end plan n r count xs counts le h = before_same IsRowBefore (IsUnusedRow pl
   where
     inside : (y : RowPlace) → y.node ≡ n → IsUnusedRow plan y → y.row < r
     inside y same is =
-        let node = some_is (slice_get plan.nodes n) (λ x. count ≡ length x.table) counts in
-        let own = some_is (slice_get plan.nodes y.node) (λ x. y.row < length x.table) is.row in
+        let node = some_of (slice_get plan.nodes n) (λ x. count ≡ length x.table) counts in
+        let own = some_of (slice_get plan.nodes y.node) (λ x. y.row < length x.table) is.row in
         let one : Some own.0 ≡ Some node.0 = sym own.1 ∙ (ap (slice_get plan.nodes) same ∙ node.1) in
         let e : own.0 ≡ node.0 = cc in
         omega (arith, own.2, ap (λ (x : Node). length x.table) e, node.2, le)
 
     back : (y : RowPlace) → IsRowBefore y (row_at (n + 1) 0) → IsUnusedRow plan y → IsRowBefore y (row_at n r)
     back y (inl lt) is = ⊎_elim (λ (l : y.node < n). inl l) (λ (same : n ≡ y.node). inr (sym same, inside y (sym same) is))
-        (or_own n y.node lt)
+        (or_present n y.node lt)
     back y (inr bad) is = absurd (omega (arith, bad.1))
 
 -- the rows of an unused relay are not listed
@@ -168,7 +169,7 @@ rows_skip plan seen n xs b whole told not_in h = before_same IsRowBefore (IsUnus
     back y (inl lt) is = ⊎_elim (λ (l : y.node < n). inl l)
         (λ (same : n ≡ y.node). absurd (is_false b (has_relay seen n) told not_in
         (whole.relays n (subst (UsesRelay plan) (sym same) is.relay))))
-        (or_own n y.node lt)
+        (or_present n y.node lt)
     back y (inr bad) is = absurd (omega (arith, bad.1))
 
 pub rows_all : (plan : Network) (n : ℕ) (xs : List RowPlace) → length plan.nodes ≤ n → RowsSoFar plan n 0 xs → ListsRows plan xs
@@ -180,7 +181,7 @@ rows_all plan n xs le h =
   where
     inside : (y : RowPlace) → IsUnusedRow plan y → IsRowBefore y (row_at n 0)
     inside y is =
-        let own = some_is (slice_get plan.nodes y.node) (λ x. y.row < length x.table) is.row in
+        let own = some_of (slice_get plan.nodes y.node) (λ x. y.row < length x.table) is.row in
         inl (let lt : y.node < length plan.nodes = slice_get_within plan.nodes y.node own.0 own.1 in omega (arith, lt, le))
 
 -- targets
@@ -192,7 +193,7 @@ target_step n r t y (inr h) = by h.1
     by : (y.row < r) ⊎ ((y.row ≡ r) × (y.target < t + 1)) → IsTargetBefore y (target_at n r t) ⊎ (target_at n r t ≡ y)
     by (inl lt) = inl (inr (h.0, inl lt))
     by (inr k) = ⊎_elim (λ (lt : y.target < t). inl (inr (h.0, inr (k.0, lt))))
-        (λ (same : t ≡ y.target). inr (λ i. record { node = sym h.0 i; row = sym k.0 i; target = same i })) (or_own t y.target k.1)
+        (λ (same : t ≡ y.target). inr (λ i. record { node = sym h.0 i; row = sym k.0 i; target = same i })) (or_present t y.target k.1)
 
 target_on : (n r t : ℕ) (y : TargetPlace) → IsTargetBefore y (target_at n r t) → IsTargetBefore y (target_at n r (t + 1))
 target_on n r t y (inl lt) = inl lt
@@ -238,9 +239,9 @@ targets_more plan seen place xs ys b whole there row told not_in e h =
 pub target_there : (plan : Network) (place : RowPlace) (t count : ℕ) → HasTargetCount plan place count → t < count
     → HasTarget plan (target_at place.node place.row t)
 target_there plan place t count counts lt =
-    let node = some_is (slice_get plan.nodes place.node) (λ n. IsSomeAnd (slice_get n.table place.row)
+    let node = some_of (slice_get plan.nodes place.node) (λ n. IsSomeAnd (slice_get n.table place.row)
     (λ r. count ≡ length r.targets)) counts in
-    let rule = some_is (slice_get node.0.table place.row) (λ r. count ≡ length r.targets) node.2 in
+    let rule = some_of (slice_get node.0.table place.row) (λ r. count ≡ length r.targets) node.2 in
     is_some_and (slice_get plan.nodes place.node) (λ n. IsSomeAnd (slice_get n.table place.row) (λ r. t < length r.targets)) node.0 node.1
     (is_some_and (slice_get node.0.table place.row) (λ r. t < length r.targets) rule.0 rule.1 (omega (arith, rule.2, lt)))
 
@@ -262,12 +263,12 @@ targets_end plan place t count xs counts le h =
   where
     inside : (y : TargetPlace) → y.node ≡ place.node → y.row ≡ place.row → IsUnusedTarget plan y → y.target < t
     inside y same line is =
-        let node = some_is (slice_get plan.nodes place.node) (λ n. IsSomeAnd (slice_get n.table place.row)
+        let node = some_of (slice_get plan.nodes place.node) (λ n. IsSomeAnd (slice_get n.table place.row)
         (λ r. count ≡ length r.targets)) counts in
-        let rule = some_is (slice_get node.0.table place.row) (λ r. count ≡ length r.targets) node.2 in
-        let own = some_is (slice_get plan.nodes y.node) (λ n. IsSomeAnd (slice_get n.table y.row) (λ r. y.target < length r.targets))
+        let rule = some_of (slice_get node.0.table place.row) (λ r. count ≡ length r.targets) node.2 in
+        let own = some_of (slice_get plan.nodes y.node) (λ n. IsSomeAnd (slice_get n.table y.row) (λ r. y.target < length r.targets))
         is.target in
-        let its = some_is (slice_get own.0.table y.row) (λ r. y.target < length r.targets) own.2 in
+        let its = some_of (slice_get own.0.table y.row) (λ r. y.target < length r.targets) own.2 in
         let one : Some own.0 ≡ Some node.0 = sym own.1 ∙ (ap (slice_get plan.nodes) same ∙ node.1) in
         let e : own.0 ≡ node.0 = cc in
         let two : Some its.0 ≡ Some rule.0 = sym its.1 ∙ (ap (λ (x : Node). slice_get x.table y.row) e
@@ -285,7 +286,7 @@ targets_end plan place t count xs counts le h =
             sym same,
             inside y k.0 (sym same) is,
           ),
-        )) (or_own place.row y.row (first_of_row place.node (place.row + 1) y k.1))
+        )) (or_present place.row y.row (first_of_row place.node (place.row + 1) y k.1))
 
 -- the targets of an unused row are not listed
 pub targets_skip : (plan : Network) (seen : Seen) (place : RowPlace) (xs : List TargetPlace) (b : Bool) → IsWhole plan seen
@@ -303,7 +304,7 @@ targets_skip plan seen place xs b whole told not_in h =
     back y (inr k) is =
         ⊎_elim (λ (lt : y.row < place.row). inr (k.0, inl lt)) (λ (same : place.row ≡ y.row). absurd
         (is_false b (has_row seen place) told not_in (whole.rows place (uses_own y k.0 (sym same) is))))
-        (or_own place.row y.row (first_of_row place.node (place.row + 1) y k.1))
+        (or_present place.row y.row (first_of_row place.node (place.row + 1) y k.1))
 
 -- all rows of the node were looked at
 pub targets_next : (plan : Network) (n r count : ℕ) (xs : List TargetPlace) → HasCount plan n count → count ≤ r → TargetsSoFar plan n r 0 xs
@@ -313,17 +314,17 @@ targets_next plan n r count xs counts le h =
   where
     inside : (y : TargetPlace) → y.node ≡ n → IsUnusedTarget plan y → y.row < r
     inside y same is =
-        let node = some_is (slice_get plan.nodes n) (λ x. count ≡ length x.table) counts in
-        let own = some_is (slice_get plan.nodes y.node) (λ n. IsSomeAnd (slice_get n.table y.row) (λ r. y.target < length r.targets))
+        let node = some_of (slice_get plan.nodes n) (λ x. count ≡ length x.table) counts in
+        let own = some_of (slice_get plan.nodes y.node) (λ n. IsSomeAnd (slice_get n.table y.row) (λ r. y.target < length r.targets))
         is.target in
-        let its = some_is (slice_get own.0.table y.row) (λ r. y.target < length r.targets) own.2 in
+        let its = some_of (slice_get own.0.table y.row) (λ r. y.target < length r.targets) own.2 in
         let one : Some own.0 ≡ Some node.0 = sym own.1 ∙ (ap (slice_get plan.nodes) same ∙ node.1) in
         let e : own.0 ≡ node.0 = cc in
         omega (arith, slice_get_within own.0.table y.row its.0 its.1, ap (λ (x : Node). length x.table) e, node.2, le)
 
     back : (y : TargetPlace) → IsTargetBefore y (target_at (n + 1) 0 0) → IsUnusedTarget plan y → IsTargetBefore y (target_at n r 0)
     back y (inl lt) is = ⊎_elim (λ (l : y.node < n). inl l)
-        (λ (same : n ≡ y.node). inr (sym same, inl (inside y (sym same) is))) (or_own n y.node lt)
+        (λ (same : n ≡ y.node). inr (sym same, inl (inside y (sym same) is))) (or_present n y.node lt)
     back y (inr k) is = absurd (let lt = first_of_row (n + 1) 0 y k.1 in omega (arith, lt))
 
 pub targets_all : (plan : Network) (n : ℕ) (xs : List TargetPlace) → length plan.nodes ≤ n → TargetsSoFar plan n 0 0 xs
@@ -336,7 +337,7 @@ targets_all plan n xs le h =
   where
     inside : (y : TargetPlace) → IsUnusedTarget plan y → IsTargetBefore y (target_at n 0 0)
     inside y is =
-        let own = some_is (slice_get plan.nodes y.node) (λ x. IsSomeAnd (slice_get x.table y.row) (λ r. y.target < length r.targets))
+        let own = some_of (slice_get plan.nodes y.node) (λ x. IsSomeAnd (slice_get x.table y.row) (λ r. y.target < length r.targets))
         is.target in
         inl (let lt : y.node < length plan.nodes = slice_get_within plan.nodes y.node own.0 own.1 in omega (arith, lt, le))
 
@@ -355,19 +356,15 @@ pub gaps_more : (plan : Network) (seen : Seen) (n : ℕ) (spot : Spot) (xs ys : 
     → ys ≡ xs ++ record { cover = n; spot = spot } ∷ [] → GapsSoFar plan n xs → GapsSoFar plan (n + 1) ys
 gaps_more plan seen n spot xs ys seen_is here e h =
     one_more (λ (g : Gap). g.cover) (λ i j. i < j) (λ g. HasGap plan g.cover g.spot) (AnyGap plan) (λ k. k < n) (λ k. k < n + 1) xs ys
-    (record { cover = n; spot = spot }) e (seen_is.gaps n spot here) (λ k lt. lt) (λ k lt. or_own n k lt) (λ k lt. omega (arith, lt))
+    (record { cover = n; spot = spot }) e (seen_is.gaps n spot here) (λ k lt. lt) (λ k lt. or_present n k lt) (λ k lt. omega (arith, lt))
     (omega arith) h
-
-none_is : {X : Type 0} (o : Option X) → o ≡ None → IsSome o → ⊥
-none_is None e h = cc
-none_is (Some x) e h = cc
 
 pub gaps_same : (plan : Network) (seen : Seen) (n : ℕ) (xs : List Gap) → IsWhole plan seen → gap_in seen n ≡ None → GapsSoFar plan n xs
     → GapsSoFar plan (n + 1) xs
 gaps_same plan seen n xs whole none h =
     no_more (λ (g : Gap). g.cover) (λ i j. i < j) (λ g. HasGap plan g.cover g.spot) (AnyGap plan) (λ k. k < n) (λ k. k < n + 1) xs
-    (λ k lt any. ⊎_elim (λ (l : k < n). l) (λ (same : n ≡ k). absurd (none_is (gap_in seen n) none
-    (whole.gaps n any.0 (subst (λ m. HasGap plan m any.0) (sym same) any.1)))) (or_own n k lt))
+    (λ k lt any. ⊎_elim (λ (l : k < n). l) (λ (same : n ≡ k). absurd (none-some (gap_in seen n) none
+    (whole.gaps n any.0 (subst (λ m. HasGap plan m any.0) (sym same) any.1)))) (or_present n k lt))
     (λ k lt. omega (arith, lt)) h
 
 pub gaps_all : (plan : Network) (n : ℕ) (xs : List Gap) → length plan.covers ≤ n → GapsSoFar plan n xs → ListsGaps plan xs
@@ -380,5 +377,5 @@ gaps_all plan n xs le h =
   where
     covered : (number : ℕ) (spot : Spot) → HasGap plan number spot → number < n
     covered number spot gap =
-        let c = some_is (slice_get plan.covers number) (λ c. Covers c gap.0.start) gap.0.covered in
+        let c = some_of (slice_get plan.covers number) (λ c. Covers c gap.0.start) gap.0.covered in
         let lt : number < length plan.covers = slice_get_within plan.covers number c.0 c.1 in omega (arith, lt, le)

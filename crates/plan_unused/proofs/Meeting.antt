@@ -1,8 +1,7 @@
 -- the titles of the classes that are met
 use Rattle.std.specs.Prelude.{ℕ, ◌≡◌, ◌+◌, ◌<◌, ◌≤◌, List, [], ◌∷◌, ◌++◌, length, get_or, Some, slice_get, refl}
 use Rattle.std.specs.List.{Contains}
-use Rattle.std.proofs.Common.{sym, ◌∙◌, ap, subst, ⊎_elim, arith, length-append}
-use Rattle.std.proofs.lemmas.Bool.{cases_lt}
+use Rattle.std.proofs.Common.{sym, ◌∙◌, ap, subst, arith, length-append}
 use Rattle.std.proofs.lemmas.List.Elements.{All-contains}
 use Rattle.sccp_base.specs.declared.mark.Mark.{Mark}
 use Rattle.plan_model.specs.declared.cover.Cover.{Cover}
@@ -17,27 +16,20 @@ use Rattle.plan_model.proofs.Spots.{cover_at}
 use Rattle.plan_model.proofs.Ways.{Sends, Sends-append}
 use Rattle.plan_classes.specs.Titles.{Titles, IsClass, IsMember, IsPart, HasTitle, spot_of, parts_of}
 use Rattle.plan_classes.specs.Classes.{start_of, Decided, IsReached, Reaches, class_targets}
-use Rattle.plan_classes.proofs.Parting.{splits_parts}
-use Rattle.plan_classes.proofs.Deciding.{one_decided}
+use Rattle.plan_classes.proofs.Parting.{same_spot, splits_parts}
+use Rattle.plan_classes.proofs.Deciding.{open_digits}
 use Rattle.plan_classes.proofs.Starting.{start_exact}
 use Rattle.plan_classes.proofs.Taking.{opens_takes}
+use Rattle.plan_check.proofs.Soundness.{some_of}
 use Rattle.plan_unused.specs.Met.{IsMet}
 use Rattle.plan_unused.specs.Meets.{Meets}
 use Rattle.plan_unused.specs.Meets.Meets.{Start, Part, Onward}
 use Rattle.plan_unused.proofs.Sending.{does, met_from}
-use Rattle.plan_unused.proofs.Fits.{Fits, fits, some_is, is_some_and}
-
--- an undecided class has open digits
-pub open_digits : (plan : Network) (c : Titles) → (Decided plan c → ⊥) → 0 < c.most
-open_digits plan c undecided =
-    ⊎_elim (λ (lt : 0 < c.most). lt) (λ (none : c.most ≤ 0). absurd (undecided (one_decided plan c none))) (cases_lt 0 c.most)
+use Rattle.plan_unused.proofs.Fits.{Fits, fits, is_some_and}
 
 pub part_of_class : (plan : Network) (c part : Titles) → IsClass c → (Decided plan c → ⊥) → Contains (parts_of c) part → IsPart c part
 part_of_class plan c part class undecided among =
     All-contains (IsPart c) (parts_of c) part (splits_parts c class (open_digits plan c undecided)).each among
-
-pub same_spot : (c part : Titles) (digits : List ℕ) → IsPart c part → spot_of part digits ≡ spot_of c digits
-same_spot c part digits is = λ i. record { node = is.node i; selector = is.selector i; ssn = is.ssn i; digits = digits }
 
 -- a class that is met is one, at a node of the plan
 abbrev pub IsClassOf : Network → Titles → Type 0
@@ -96,7 +88,7 @@ opening : (plan : Network) (c next : Titles) (place : ℕ) (spot : Spot) → IsC
     × (next_of (step plan (spot_of c digits) marking) ≡ Some spot)
 opening plan c next place spot class decided reached f has =
     let back = f.sent.every has.0 has.1 in
-    let node = some_is (slice_get plan.nodes c.node) (λ n. IsReached n c.ssn (class_targets plan c) place) reached in
+    let node = some_of (slice_get plan.nodes c.node) (λ n. IsReached n c.ssn (class_targets plan c) place) reached in
     let takes = opens_takes plan node.0 c place node.2.0 class.0 decided node.1 (node.2.1, node.2.2) back.0 back.1 in
     let e : Some (Sent (spot_of next has.0) place) ≡ Some (step plan (spot_of c back.0) node.2.0) = sym back.2 ∙ takes in
     let same : Sent (spot_of next has.0) place ≡ step plan (spot_of c back.0) node.2.0 = cc in

@@ -3,13 +3,11 @@ use Rattle.std.specs.Prelude.{ℕ, ◌≡◌, ◌⊎◌, true, false, cond, IsTr
 use Rattle.std.specs.Prelude.{refl}
 use Rattle.std.specs.Ordering.{nat_cmp, ordering_then, is_eq}
 use Rattle.std.specs.declared.cmp.Ordering.{Ordering}
-use Rattle.std.specs.declared.cmp.Ordering.TheVariants.{Less, Equal, Greater}
 use Rattle.std.specs.BTreeMap as map
 use Rattle.std.specs.BTreeMap.{BTreeMap}
 use Rattle.std.specs.BTreeSet as sorted
 use Rattle.std.specs.BTreeSet.{BTreeSet}
 use Rattle.std.proofs.Common.{sym, ◌∙◌, ap, subst, inl, inr, ⊎_elim}
-use Rattle.std.proofs.lemmas.Bool.{false≢true}
 use Rattle.std.proofs.lemmas.Map.Lookups.{CmpEqualImpliesEq, exact_unsigned}
 use Rattle.plan_rules.specs.Rule.{Rule}
 use Rattle.plan_model.specs.declared.spot.Spot.{Spot}
@@ -17,6 +15,7 @@ use Rattle.plan_model.specs.Network.{Network}
 use Rattle.plan_classes.specs.Titles.{Titles, IsClass, spot_of}
 use Rattle.plan_classes.specs.Classes.{sample_of, Reaches, class_row}
 use Rattle.plan_classes.proofs.Images.{sample_member}
+use Rattle.plan_classes.proofs.Ordered.{both_equal, is_equal}
 use Rattle.plan_unused.specs.declared.survey.RowPlace.{RowPlace}
 use Rattle.plan_unused.specs.declared.survey.TargetPlace.{TargetPlace}
 use Rattle.plan_unused.specs.declared.seen.Seen.{Seen}
@@ -25,18 +24,9 @@ use Rattle.plan_unused.specs.Uses.{HasRow, CountsFor, UsesRelay, UsesRow, UsesTa
 use Rattle.plan_unused.specs.Walks.{row_cmp, target_cmp, IsSeen, IsMore, MayLook}
 use Rattle.plan_unused.proofs.Meeting.{meets_class, titles_met}
 
-pub on_ok : {T E : Type 0} (r : Result T E) (P Q : Type 0) → (P → Q) → OnOk r P → OnOk r Q
-on_ok (Ok t) P Q f p = f p
-on_ok (Err e) P Q f p = p
-
 pub ok_both : {T E : Type 0} (r : Result T E) (P Q R : Type 0) → (P → Q → R) → OnOk r P → OnOk r Q → OnOk r R
 ok_both (Ok t) P Q R f p q = f p q
 ok_both (Err e) P Q R f p q = p
-
-both_equal : (o p : Ordering) → ordering_then o p ≡ Equal → (o ≡ Equal) × (p ≡ Equal)
-both_equal Less p e = absurd (cc)
-both_equal Equal p e = (refl, e)
-both_equal Greater p e = absurd (cc)
 
 pub exact_rows : CmpEqualImpliesEq row_cmp
 exact_rows a b e =
@@ -52,11 +42,6 @@ exact_targets a b e =
       row = exact_unsigned a.row b.row l.0 i;
       target = exact_unsigned a.target b.target l.1 i;
     }
-
-is_equal : (o : Ordering) → is_eq o ≡ true → o ≡ Equal
-is_equal Less e = absurd (false≢true e)
-is_equal Equal e = refl
-is_equal Greater e = absurd (false≢true e)
 
 -- a key of the larger set is the new one, or an old one
 pub noted_case : {K : Type 0} (cmp : K → K → Ordering) → CmpEqualImpliesEq cmp → (before after : BTreeSet K) (k q : K)

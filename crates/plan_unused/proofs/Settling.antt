@@ -24,6 +24,7 @@ use Rattle.plan_classes.specs.Classes.{start_of, sample_of, Decided, IsReached, 
 use Rattle.plan_classes.proofs.Openings.{first_open-at}
 use Rattle.plan_classes.proofs.Taking.{row_targets}
 use Rattle.plan_check.specs.Ranking.{rank_in}
+use Rattle.plan_check.proofs.Soundness.{some_of}
 use Rattle.plan_unused.specs.declared.survey.RowPlace.{RowPlace}
 use Rattle.plan_unused.specs.declared.seen.Seen.{Seen}
 use Rattle.plan_unused.specs.Uses.{HasRow}
@@ -32,7 +33,6 @@ use Rattle.plan_unused.specs.Meets.{Meets}
 use Rattle.plan_unused.specs.Meets.Meets.{Start}
 use Rattle.plan_unused.specs.Walks.{row_at, target_at, has_relay, has_row, has_target, gap_in, IsSeen, IsMore, IsRankedBy, AreRanks, IsPut}
 use Rattle.plan_unused.specs.Walks.{Grows, MayEnter, IsFollowed, IsSettled, IsEntry, IsWalk}
-use Rattle.plan_unused.proofs.Fits.{some_is}
 use Rattle.plan_unused.proofs.Meeting.{meets_class}
 use Rattle.plan_unused.proofs.Growing.{ranked_more, ranks_grown}
 
@@ -75,7 +75,7 @@ settled_more plan s t before after c depth more keeps h =
 pub reaches_within : (plan : Network) (c : Titles) (row : Rule) (t : ℕ) → class_row plan c ≡ Some row → Reaches plan c t
     → t < length row.targets
 reaches_within plan c row t counts reached =
-    let node = some_is (slice_get plan.nodes c.node) (λ n. IsReached n c.ssn (class_targets plan c) t) reached in
+    let node = some_of (slice_get plan.nodes c.node) (λ n. IsReached n c.ssn (class_targets plan c) t) reached in
     let at = first_open-at node.0 c.ssn node.2.0 0 (class_targets plan c) (t, node.2.1) node.2.2 in
     let lt : at.0 < length (class_targets plan c) = slice_get_within (class_targets plan c) at.0 node.2.1 at.2 in
     omega (arith, at.1, lt, ap (λ (ts : List Target). length ts) (row_targets plan c row counts))
@@ -113,10 +113,10 @@ one_place plan n r q row is h k =
     (cases_lt r q)
   where
     node : (x : Node) × (slice_get plan.nodes n ≡ Some x) × (slice_get x.table r ≡ Some row)
-    node = some_is (slice_get plan.nodes n) (λ x. slice_get x.table r ≡ Some row) h
+    node = some_of (slice_get plan.nodes n) (λ x. slice_get x.table r ≡ Some row) h
 
     other : (x : Node) × (slice_get plan.nodes n ≡ Some x) × (slice_get x.table q ≡ Some row)
-    other = some_is (slice_get plan.nodes n) (λ x. slice_get x.table q ≡ Some row) k
+    other = some_of (slice_get plan.nodes n) (λ x. slice_get x.table q ≡ Some row) k
 
     same : other.0 ≡ node.0
     same = let e : Some other.0 ≡ Some node.0 = sym other.1 ∙ node.1 in cc
@@ -218,7 +218,7 @@ no_ranks plan depth c r e = absurd (nothing_ranked c r e)
 pub may_start : (plan : Network) (number : ℕ) (s : Titles) → IsPlan plan
     → IsSomeAnd (slice_get plan.covers number) (λ c. s ≡ start_of number c) → MayEnter plan 0 s
 may_start plan number s is h =
-    let cover = some_is (slice_get plan.covers number) (λ c. s ≡ start_of number c) h in
+    let cover = some_of (slice_get plan.covers number) (λ c. s ≡ start_of number c) h in
     let meets : Meets plan 0 s = subst (Meets plan 0) (sym cover.2) (Start number cover.0 cover.1) in
     record { node = (meets_class plan is 0 s meets).1; meets = meets }
 
@@ -231,7 +231,7 @@ starts_more plan before after n s keeps ranked is so_far number cover lt at =
     (λ (l : number < n). ranked_more before after (start_of number cover) 0 keeps (so_far number cover l at))
     (λ (l : n ≤ number).
     let same : n ≡ number = omega (arith, l, lt) in
-    let own = some_is (slice_get plan.covers n) (λ c. s ≡ start_of n c) is in
+    let own = some_of (slice_get plan.covers n) (λ c. s ≡ start_of n c) is in
     let one : Some own.0 ≡ Some cover = sym own.1 ∙ (ap (slice_get plan.covers) same ∙ at) in
     let cover_is : own.0 ≡ cover = cc in
     subst (λ (x : Titles). IsRankedBy after x 0) (own.2 ∙ (ap (start_of n) cover_is ∙ ap (λ (k : ℕ). start_of k cover) same)) ranked)

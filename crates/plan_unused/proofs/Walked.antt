@@ -19,9 +19,11 @@ use Rattle.plan_model.proofs.Ways.{Sends}
 use Rattle.plan_classes.specs.Titles.{Titles, IsClass, IsPart, HasTitle, parts_of}
 use Rattle.plan_classes.specs.Classes.{start_of, sample_of, Decided, class_row, IsReached, Reaches}
 use Rattle.plan_classes.proofs.Images.{sample_member}
-use Rattle.plan_classes.proofs.Parting.{splits_parts}
+use Rattle.plan_classes.proofs.Deciding.{open_digits}
+use Rattle.plan_classes.proofs.Parting.{same_spot, splits_parts}
 use Rattle.plan_classes.proofs.Starting.{start_exact}
 use Rattle.plan_check.specs.Ranking.{rank_in}
+use Rattle.plan_check.proofs.Soundness.{some_of}
 use Rattle.plan_unused.specs.declared.survey.RowPlace.{RowPlace}
 use Rattle.plan_unused.specs.declared.survey.TargetPlace.{TargetPlace}
 use Rattle.plan_unused.specs.declared.seen.Seen.{Seen}
@@ -30,8 +32,8 @@ use Rattle.plan_unused.specs.Uses.{HasRow, TakesTarget, UsesRelay, UsesRow, Uses
 use Rattle.plan_unused.specs.Walks.{row_at, target_at, has_relay, has_row, has_target, gap_in, IsWhole, IsRankedBy, IsSettled}
 use Rattle.plan_unused.specs.Walks.{IsWalk}
 use Rattle.plan_unused.proofs.Sending.{does, hop_sends}
-use Rattle.plan_unused.proofs.Fits.{some_is, sent_by, IsSentBy}
-use Rattle.plan_unused.proofs.Meeting.{meets_class, open_digits, same_spot}
+use Rattle.plan_unused.proofs.Fits.{sent_by, IsSentBy}
+use Rattle.plan_unused.proofs.Meeting.{meets_class}
 
 -- a decided class of the table that has the title
 pub record IsAt (plan : Network) (met : List (Titles × ℕ)) (number depth : ℕ) (spot : Spot) : Type 0 where
@@ -164,7 +166,7 @@ found plan met seen first number spot is walk m =
     size = length-take-le hop.0 m.markings (omega (arith, hop.1))
 
     cover : (c : Cover) × (slice_get plan.covers number ≡ Some c) × Covers c m.start
-    cover = some_is (slice_get plan.covers number) (λ c. Covers c m.start) m.covered
+    cover = some_of (slice_get plan.covers number) (λ c. Covers c m.start) m.covered
 
     started : HasTitle (start_of number cover.0) m.start
     started = (start_exact plan.nodes number cover.0 (start_of number cover.0)

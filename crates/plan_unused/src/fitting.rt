@@ -1,6 +1,5 @@
 //! The titles that a target makes of those of a class, without those that get too many digits (Q.714 section 2).
-ghost use Rattle.std.specs.Prelude.{◌≡◌, ◌≤◌, ◌<◌, ℕ, List, length, IfSome, None, Some};
-ghost use Rattle.sccp_base.specs.Selector.{Numbers};
+ghost use Rattle.std.specs.Prelude.{◌≡◌, ◌<◌, length, IfSome, None, Some};
 ghost use Rattle.plan_model.specs.Network.{LeadsOn};
 ghost use Rattle.plan_classes.specs.Titles.{Titles, IsClass, titles};
 ghost use Rattle.plan_classes.specs.Classes.{Decided, class_row};
@@ -8,25 +7,22 @@ ghost use Rattle.plan_unused.specs.Fitting.{at_most_32, fitting, HasFitting, IsS
 
 use crate::rows::class_node;
 use plan_classes::Class;
-use plan_model::{Node, Plan};
+use plan_model::{Node, Plan, Spot};
 use plan_rules::{Row, Target};
-use sccp_base::{Digits, Selector};
 
-/// The titles at another node that begin with other digits and go on as those of the class, as far as they have at most 32 digits.
-/// `None` if the shortest has more.
-fn at_most_32(class: &Class, node: u8, selector: Selector, ssn: u8, known: Digits) -> Option<Class>
-    ensures { result ≡ at_most_32 (titles class.now.cover node selector ssn known class.now.least class.now.most) }
+/// The titles at another node that begin with other digits, those of a spot, and go on as those of the class, as far as they have at
+/// most 32 digits. `None` if the shortest has more.
+fn at_most_32(class: &Class, first: &Spot) -> Option<Class>
+    ensures { result ≡ at_most_32 (titles class.now.cover first.now.node first.now.selector first.now.ssn first.now.digits
+        class.now.least class.now.most) }
 {
-    let room = 32 - known.len();
+    let room = 32 - first.digits.len();
     if room < usize::from(class.least()) {
         return None;
     }
     Class::new(
         class.cover(),
-        node,
-        selector,
-        ssn,
-        known,
+        first,
         class.least(),
         class.most().min(room as u8),
     )
@@ -48,13 +44,15 @@ fn fitting(plan: &Plan, node: &Node, class: &Class, target: &Target) -> Option<C
         } => {
             let to = plan.relay_at(*pc);
             match class.known().rewritten(*strip, put) {
-                Some(known) => at_most_32(
-                    class,
-                    to,
-                    selector.unwrap_or(class.selector()),
-                    ssn.unwrap_or(class.ssn()),
-                    known,
-                ),
+                Some(digits) => {
+                    let first = Spot {
+                        node: to,
+                        selector: selector.unwrap_or(class.selector()),
+                        ssn: ssn.unwrap_or(class.ssn()),
+                        digits,
+                    };
+                    at_most_32(class, &first)
+                }
                 None => None,
             }
         }

@@ -1,7 +1,7 @@
 -- a table of ranks after one more class
-use Rattle.std.specs.Prelude.{ℕ, ◌≡◌, ◌-◌, ◌≤◌, ◌<◌, ◌⊎◌, Bool, true, false, if◌then◌else◌, List, Option, Some, None, IsSomeAnd, refl}
+use Rattle.std.specs.Prelude.{ℕ, ◌≡◌, ◌-◌, ◌≤◌, ◌<◌, ◌⊎◌, true, false, if◌then◌else◌, List, Option, Some, None, IsSomeAnd, refl}
 use Rattle.std.specs.Ordering.{is_eq}
-use Rattle.std.proofs.Common.{sym, ◌∙◌, ap, subst, inl, inr, ⊎_elim}
+use Rattle.std.proofs.Common.{sym, ◌∙◌, subst, inl, inr, ⊎_elim}
 use Rattle.std.proofs.lemmas.List.Elements.{All-weaker}
 use Rattle.plan_model.specs.Network.{Network}
 use Rattle.plan_classes.specs.declared.leads.Image.{Image}
@@ -11,7 +11,7 @@ use Rattle.plan_classes.specs.Classes.{Reachable}
 use Rattle.plan_check.specs.Ranking.{rank_in, class_cmp}
 use Rattle.plan_check.specs.Ranked.{RanksUpTo, LeadsWell, IsRankedDecided, IsRankedOpen, IsRankedClass}
 use Rattle.plan_classes.proofs.Ordered.{same_class}
-use Rattle.plan_check.proofs.Orders.{own_class}
+use Rattle.plan_check.proofs.Orders.{Puts, puts_case}
 use Rattle.plan_verify.specs.Attained.{LeadsHigh, IsAttainedOpen, IsAttainedDecided, IsAttainedClass}
 use Rattle.plan_verify.specs.Searching.{Keeps, IsSound, IsBorneOut}
 
@@ -91,9 +91,6 @@ attained_kept plan old new c r keeps h =
 pub keeps_more : (a b c : List (Titles × ℕ)) → Keeps a b → Keeps b c → Keeps a c
 keeps_more a b c h k = record { kept = λ q r e. k.kept q r (h.kept q r e) }
 
-abbrev pub Puts : List (Titles × ℕ) → List (Titles × ℕ) → Titles → ℕ → Type 0
-Puts old new class rank = (c : Titles) → rank_in new c ≡ (if is_eq (class_cmp class c) then Some rank else rank_in old c)
-
 pub keeps_put : (old new : List (Titles × ℕ)) (class : Titles) (rank : ℕ) → rank_in old class ≡ None → Puts old new class rank
     → Keeps old new
 keeps_put old new class rank absent puts =
@@ -116,29 +113,18 @@ sound_put plan old new class rank depth sound absent puts here reached =
           (λ (own : (class ≡ c) × (rank ≡ r)). subst (λ (q : Titles). IsRankedClass plan (rank_in new) q r) own.0
           (subst (λ (n : ℕ). IsRankedClass plan (rank_in new) class n) own.1 (ranked_kept plan old new class rank keeps here.ranked)))
           (λ (was : rank_in old c ≡ Some r). ranked_kept plan old new c r keeps (sound.ranked c r was))
-          (whose c r e);
+          (puts_case old new class c rank r puts e);
       attained = λ c r e two. ⊎_elim
           (λ (own : (class ≡ c) × (rank ≡ r)). subst (λ (q : Titles). IsAttainedClass plan (rank_in new) q r) own.0
           (subst (λ (n : ℕ). IsAttainedClass plan (rank_in new) class n) own.1
           (attained_kept plan old new class rank keeps (here.attained (subst (λ (n : ℕ). 2 ≤ n) (sym own.1) two)))))
           (λ (was : rank_in old c ≡ Some r). attained_kept plan old new c r keeps (sound.attained c r was two))
-          (whose c r e);
+          (puts_case old new class c rank r puts e);
       reached = λ c r e. ⊎_elim
           (λ (own : (class ≡ c) × (rank ≡ r)). (depth, subst (λ (q : Titles). Reachable plan depth q) own.0 reached))
           (λ (was : rank_in old c ≡ Some r). sound.reached c r was)
-          (whose c r e);
+          (puts_case old new class c rank r puts e);
     }
   where
     keeps : Keeps old new
     keeps = keeps_put old new class rank absent puts
-
-    whose : (c : Titles) (r : ℕ) → rank_in new c ≡ Some r → ((class ≡ c) × (rank ≡ r)) ⊎ (rank_in old c ≡ Some r)
-    whose c r e =
-        elim (is_eq (class_cmp class c)) as (λ b. is_eq (class_cmp class c) ≡ b → rank_in new c ≡ (if b then Some rank else rank_in old c)
-        → ((class ≡ c) × (rank ≡ r)) ⊎ (rank_in old c ≡ Some r)) [
-          | true ↦ λ same n. inl (same_class class c same, (let k : Some rank ≡ Some r = sym n ∙ e in let l : rank ≡ r = cc in l))
-          | false ↦ λ other n. inr (sym n ∙ e)
-        ] refl (puts c)
-
-pub own_rank : (old new : List (Titles × ℕ)) (class : Titles) (rank : ℕ) → Puts old new class rank → rank_in new class ≡ Some rank
-own_rank old new class rank puts = puts class ∙ ap (λ (b : Bool). if b then Some rank else rank_in old class) (own_class class)

@@ -62,7 +62,7 @@ not_among plan node to sent xs i w ways r none at =
 
 -- ---- the search finds one place
 
-in_front : {X : Type 0} (xs : List X) (i n : ℕ) → i < n → slice_get (take n xs) i ≡ slice_get xs i
+pub in_front : {X : Type 0} (xs : List X) (i n : ℕ) → i < n → slice_get (take n xs) i ≡ slice_get xs i
 in_front xs i zero lt = absurd (omega arith)
 in_front [] i (suc n) lt = refl
 in_front (x ∷ xs) zero (suc n) lt = refl

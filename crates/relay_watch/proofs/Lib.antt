@@ -19,4 +19,9 @@ mod Said
 mod Watched
 mod WhyLemmas
 mod KeptLemmas
+mod Repeated
+mod WaitingBefore
+mod NearestOf
+mod AnsweredBefore
+mod ReasonedRuns
 pub mod Agree

@@ -13,6 +13,7 @@ use Rattle.relay_watch.specs.Arrivals.{target}
 use Rattle.relay_watch.specs.Judging.{IsWithout, IsOfSent, IsVerdict}
 use Rattle.relay_watch.specs.Kept.{is_unexplained}
 use Rattle.relay_watch.specs.Reasons.{AreReasons}
+use Rattle.relay_watch.specs.Repeats.{with_near}
 use Rattle.relay_watch.specs.Whys.{has_data, near_of, nearer, nearest_of, IsNoAnswered, IsAgain, SaysWhy}
 use Rattle.relay_watch.specs.Verdicts.{of_unsent}
 use Rattle.relay_watch.specs.declared.answered.Answered.{Answered}
@@ -26,10 +27,6 @@ use Rattle.relay_watch.specs.declared.why.Why.TheVariants.{NoArrival}
 use Rattle.relay_watch.proofs.Reasoned.{at_place, no_ways, some_ways}
 
 -- ---- the nearest
-
--- one more arrival
-abbrev pub with_near : Network → ℕ → ℕ → Message → Option Near → Waiting → Option Near
-with_near plan node to sent best w = if has_data node sent w then nearer best (near_of plan node to sent w) else best
 
 next_at : (plan : Network) (node to : ℕ) (sent : Message) (best : Option Near) (ws : List Waiting) (i : ℕ) (w : Waiting) → i < length ws
     → w ≡ get_or ws i w

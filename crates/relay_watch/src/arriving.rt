@@ -11,7 +11,7 @@ use crate::event::Event;
 use crate::relays::relay_at;
 use crate::waiting::Waiting;
 use plan_model::Plan;
-use relay_ways::{Way, ways};
+use relay_ways::{Incoming, Way, ways};
 use sccp_address::Address;
 use sccp_base::{Octets, OutOfMemory};
 use sccp_message::{Message, wants_return};
@@ -62,8 +62,15 @@ fn is_due(alloc: Global, plan: &Plan, node: u8, event: &Event) -> Result<bool, O
     requires { node < length plan.now.nodes }
     ensures { IfOk result (λ due. due ≡ is_some (sends plan.now node [] event.now.origin event.now.octets)) }
 {
+    let origin = event.origin;
     let octets = event.octets.as_slice();
-    let found = ways(alloc, plan, node, event.origin, octets)?;
+    let at = Incoming {
+        plan,
+        node,
+        origin,
+        octets,
+    };
+    let found = ways(alloc, &at)?;
     let listed = found.as_slice();
     Ok(has_plain(listed))
 }

@@ -13,6 +13,7 @@ ghost use Rattle.relay_watch.specs.Whys.{IsOfWaiting, AreAnswered};
 
 use crate::answered::Answered;
 use crate::arriving::{begins, is_management};
+use crate::captured::Captured;
 use crate::counting::{
     count_arrived, count_sent, count_unanswered, is_unexplained, next_of, one_more_if,
 };
@@ -25,12 +26,12 @@ use crate::line::Line;
 use crate::next::Next;
 use crate::relays::relay_at;
 use crate::searching::search;
+use crate::sent::Sent;
 use crate::verdict::Verdict;
 use crate::verdicts::{place_of, verdict_by};
 use crate::waiting::Waiting;
 use crate::why::Why;
 use plan_model::Plan;
-use sccp_address::Address;
 use sccp_base::OutOfMemory;
 use sccp_message::{DecodeFault, Message, decode};
 use std::alloc::Global;
@@ -38,16 +39,23 @@ use std::alloc::Global;
 /// The arrival that explains a message, if a relay of the plan sent it.
 fn reason_of(
     alloc: Global,
-    plan: &Plan,
+    captured: &Captured<'_>,
     waiting: &[Waiting],
-    event: &Event,
-    message: &Message,
 ) -> Result<Option<Found>, OutOfMemory>
     requires { All IsWaiting waiting.now }
-    ensures { IfOk result (λ found. IsFoundAt plan.now waiting.now event.now message.now found (source plan.now event.now)) }
+    ensures { IfOk result (λ found. IsFoundAt captured.now.plan.now waiting.now captured.now.event.now captured.now.message.now found
+        (source captured.now.plan.now captured.now.event.now)) }
 {
-    match relay_at(plan, event.origin) {
-        Some(node) => search(alloc, plan, waiting, node, event.destination, message),
+    match relay_at(captured.plan, captured.event.origin) {
+        Some(node) => {
+            let sent = Sent {
+                plan: captured.plan,
+                node,
+                to: captured.event.destination,
+                message: captured.message,
+            };
+            search(alloc, &sent, waiting)
+        }
         None => Ok(None),
     }
 }
@@ -55,31 +63,33 @@ fn reason_of(
 /// What is said of a message with a called address.
 fn addressed(
     alloc: Global,
-    plan: &Plan,
+    captured: &Captured<'_>,
     waiting: &[Waiting],
     answered: &[Answered],
-    event: &Event,
-    message: &Message,
-    address: &Address,
 ) -> Result<Judged, OutOfMemory>
     requires waiting { All IsWaiting waiting.now }
     requires answered { All IsOfWaiting answered.now }
-    requires reads { reading event.now.octets ≡ Ok message.now }
-    requires again { ReadsAgain message.now }
-    ensures said { IfOk result (IsSaidAt plan.now waiting.now answered.now event.now message.now address.now) }
+    requires reads { reading captured.now.event.now.octets ≡ Ok captured.now.message.now }
+    requires again { ReadsAgain captured.now.message.now }
+    ensures said { IfOk result (IsSaidAt captured.now.plan.now waiting.now answered.now captured.now.event.now captured.now.message.now
+        captured.now.address.now) }
     ensures kept { IfOk result (λ j. IfSome j.begins IsWaiting) }
 {
-    let new = begins(alloc, plan, event, message, address)?;
-    let found = reason_of(alloc, plan, waiting, event, message)?;
-    let place = place_of(&found);
-    let verdict = verdict_by(
-        alloc, plan, waiting, answered, event, message, address, found,
+    let new = begins(
+        alloc,
+        captured.plan,
+        captured.event,
+        captured.message,
+        captured.address,
     )?;
+    let found = reason_of(alloc, captured, waiting)?;
+    let place = place_of(&found);
+    let verdict = verdict_by(alloc, captured, waiting, answered, found)?;
     Ok(Judged {
         verdict,
         place,
         begins: new,
-        other: is_management(address),
+        other: is_management(captured.address),
     })
 }
 
@@ -115,7 +125,15 @@ fn decoded(
     ensures kept { IfOk result (λ j. IfSome j.begins IsWaiting) }
 {
     match message.called() {
-        Some(address) => addressed(alloc, plan, waiting, answered, event, message, address),
+        Some(address) => {
+            let captured = Captured {
+                plan,
+                event,
+                message,
+                address,
+            };
+            addressed(alloc, &captured, waiting, answered)
+        }
         None => Ok(only(Verdict::Connection)),
     }
 }

@@ -13,9 +13,11 @@ ghost use Rattle.relay_watch.specs.declared.why.Why.{Why};
 
 use crate::answered::Answered;
 use crate::arriving::is_management;
+use crate::captured::Captured;
 use crate::event::Event;
 use crate::found::Found;
 use crate::relays::relay_at;
+use crate::sent::Sent;
 use crate::verdict::Verdict;
 use crate::waiting::Waiting;
 use crate::whys::why;
@@ -116,25 +118,22 @@ fn of_another(plan: &Plan, node: u8, message: &Message, address: &Address) -> Op
     }
 }
 
-/// The verdict on a message that the relay at this place sent and no arrival explains.
+/// The verdict on a message that no arrival explains.
 fn without_reason(
     alloc: Global,
-    plan: &Plan,
+    sent: &Sent<'_>,
     waiting: &[Waiting],
     answered: &[Answered],
-    node: u8,
-    to: PointCode,
-    message: &Message,
     address: &Address,
 ) -> Result<Verdict, OutOfMemory>
-    requires node { node < length plan.now.nodes }
-    requires waits { All IsOfWaiting answered.now }
-    ensures { IfOk result (IsWithout plan.now waiting.now answered.now node to message.now address.now) }
+    requires { All IsOfWaiting answered.now }
+    ensures { IfOk result (IsWithout sent.now.plan.now waiting.now answered.now sent.now.node sent.now.to sent.now.message.now
+        address.now) }
 {
-    match of_another(plan, node, message, address) {
+    match of_another(sent.plan, sent.node, sent.message, address) {
         Some(verdict) => Ok(verdict),
         None => {
-            let cause = why(alloc, plan, waiting, answered, node, to, message)?;
+            let cause = why(alloc, sent, waiting, answered)?;
             Ok(Verdict::Unexplained(cause))
         }
     }
@@ -162,25 +161,22 @@ fn of_found(found: Found) -> Verdict
     Verdict::Explained { by, ways }
 }
 
-/// The verdict on a message that the relay at this place sent.
+/// The verdict on a message that a relay sent.
 fn of_sent(
     alloc: Global,
-    plan: &Plan,
+    sent: &Sent<'_>,
     waiting: &[Waiting],
     answered: &[Answered],
-    node: u8,
-    to: PointCode,
-    message: &Message,
     address: &Address,
     found: Option<Found>,
 ) -> Result<Verdict, OutOfMemory>
-    requires node { node < length plan.now.nodes }
-    requires waits { All IsOfWaiting answered.now }
-    ensures { IfOk result (IsOfSent plan.now waiting.now answered.now node to message.now address.now found) }
+    requires { All IsOfWaiting answered.now }
+    ensures { IfOk result (IsOfSent sent.now.plan.now waiting.now answered.now sent.now.node sent.now.to sent.now.message.now
+        address.now found) }
 {
     match found {
         Some(found) => Ok(of_found(found)),
-        None => without_reason(alloc, plan, waiting, answered, node, to, message, address),
+        None => without_reason(alloc, sent, waiting, answered, address),
     }
 }
 
@@ -194,36 +190,36 @@ pub(crate) fn place_of(found: &Option<Found>) -> Option<usize>
     }
 }
 
-/// The verdict on a connectionless message.
+/// The verdict on a captured message, by what was found.
 pub(crate) fn verdict_by(
     alloc: Global,
-    plan: &Plan,
+    captured: &Captured<'_>,
     waiting: &[Waiting],
     answered: &[Answered],
-    event: &Event,
-    message: &Message,
-    address: &Address,
     found: Option<Found>,
 ) -> Result<Verdict, OutOfMemory>
     requires { All IsOfWaiting answered.now }
-    ensures { IfOk result (IsVerdict plan.now waiting.now answered.now event.now message.now address.now found
-        (source plan.now event.now)) }
+    ensures { IfOk result (IsVerdict captured.now.plan.now waiting.now answered.now captured.now.event.now captured.now.message.now
+        captured.now.address.now found (source captured.now.plan.now captured.now.event.now)) }
 {
-    match relay_at(plan, event.origin) {
-        Some(node) => of_sent(
-            alloc,
-            plan,
-            waiting,
-            answered,
-            node,
-            event.destination,
-            message,
-            address,
-            found,
-        ),
+    match relay_at(captured.plan, captured.event.origin) {
+        Some(node) => {
+            let sent = Sent {
+                plan: captured.plan,
+                node,
+                to: captured.event.destination,
+                message: captured.message,
+            };
+            of_sent(alloc, &sent, waiting, answered, captured.address, found)
+        }
         None => {
             drop(found);
-            Ok(of_unsent(plan, event, message, address))
+            Ok(of_unsent(
+                captured.plan,
+                captured.event,
+                captured.message,
+                captured.address,
+            ))
         }
     }
 }

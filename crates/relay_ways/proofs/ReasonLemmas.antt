@@ -22,7 +22,8 @@ next_at to sent cause best [] i x inside is = absurd (omega (arith, inside))
 next_at to sent cause best (y ∷ ys) zero x inside is =
     subst (λ (z : Candidate). latest (if has_cause cause x then later best (by_candidate to sent x) else best)
     (map (by_candidate to sent) (filter (has_cause cause) ys))
-    ≡ latest best (map (by_candidate to sent) (if has_cause cause z then z ∷ filter (has_cause cause) ys else filter (has_cause cause) ys))) is
+    ≡ latest best (map (by_candidate to sent) (if has_cause cause z then z ∷ filter (has_cause cause) ys
+    else filter (has_cause cause) ys))) is
     (by (has_cause cause x))
   where
     by : (b : Bool)
@@ -89,5 +90,6 @@ same_test false false f g = refl
 
 pub params_tested : (x : Bool) (a b : Option (List Parameter)) → (IsTrue x ↔ (a ≡ b)) → x ≡ same_params a b
 params_tested x a b iff =
-    same_test x (same_params a b) (λ (e : x ≡ true). subst (λ (z : Option (List Parameter)). same_params a z ≡ true) (iff.0 e) (params_same a))
+    same_test x (same_params a b) (λ (e : x ≡ true). subst (λ (z : Option (List Parameter)). same_params a z ≡ true) (iff.0 e)
+    (params_same a))
     (λ (e : same_params a b ≡ true). iff.1 (params_is a b e))

@@ -23,8 +23,8 @@ use Rattle.sccp_scrc.specs.Unitdata.{redirected, octets_of}
 use Rattle.sccp_scrc.specs.declared.arrival.Arrival.TheVariants.{Relayed, Ended, Local, Returned, Management}
 use Rattle.sccp_scrc.specs.declared.service.Service.{Service}
 use Rattle.relay_ways.specs.Candidates.{taken_steps, closed_step, step_candidates, step_going_on, outcome_candidates, outcome_going_on}
-use Rattle.relay_ways.specs.Candidates.{if_written, going_on, toward, onward, onward_or_returned, written_or_returned, returns, cause_at, candidates_of}
-use Rattle.relay_ways.specs.Candidates.{returned_by}
+use Rattle.relay_ways.specs.Candidates.{if_written, going_on, toward, onward, onward_or_returned, written_or_returned, returns, cause_at}
+use Rattle.relay_ways.specs.Candidates.{candidates_of, returned_by}
 use Rattle.relay_ways.specs.Conditions.{always}
 use Rattle.relay_ways.specs.Outcomes.{after_turn, outcome, is_user, at_user, on_subsystem, by_address}
 use Rattle.relay_ways.specs.Turns.{Turn, taken_turns, closed_turns, closed_row}
@@ -71,7 +71,8 @@ pub row_steps : (plan : Network) (node : Node) (spot : Spot) (ts : List Target) 
     → all ≡ first ++ map (λ (t : Turn). t.step) (closed_row node spot.ssn [] ts)
     → all ≡ map (λ (t : Turn). t.step) (taken_turns plan node spot [] 0 ts ++ closed_row node spot.ssn [] ts)
 row_steps plan node spot ts start first all none a b =
-    b ∙ ap (λ xs. xs ++ map (λ (t : Turn). t.step) (closed_row node spot.ssn [] ts)) (a ∙ ap (λ xs. xs ++ taken_steps plan node spot 0 ts) none ∙ taken_turn_steps plan node spot [] 0 ts)
+    b ∙ ap (λ xs. xs ++ map (λ (t : Turn). t.step) (closed_row node spot.ssn [] ts)) (a
+    ∙ ap (λ xs. xs ++ taken_steps plan node spot 0 ts) none ∙ taken_turn_steps plan node spot [] 0 ts)
     ∙ sym (map-append (λ (t : Turn). t.step) (taken_turns plan node spot [] 0 ts) (closed_row node spot.ssn [] ts))
 
 -- ---- one step
@@ -210,7 +211,8 @@ subsystem_stays plan node origin cause m (Some ssn) = by (is_user plan node ssn)
 
 -- by the cause for which the message may be returned
 pub subsystem_returns : (plan : Network) (node origin : ℕ) (m : Message) (ssn : Option ℕ)
-    → returned_by plan node origin m (cause_at plan node ssn) ≡ flat_map (outcome_candidates plan node) (on_subsystem plan node origin m ssn)
+    → returned_by plan node origin m (cause_at plan node ssn)
+    ≡ flat_map (outcome_candidates plan node) (on_subsystem plan node origin m ssn)
 subsystem_returns plan node origin m None = sym (append-nil (candidates_of plan node (returned [] origin m 4 [])))
 subsystem_returns plan node origin m (Some ssn) = by (ssn == 1) (list_any (λ own. own == ssn) (subsystems_of plan node)) where
   by : (b u : Bool)
@@ -224,5 +226,6 @@ subsystem_returns plan node origin m (Some ssn) = by (ssn == 1) (list_any (λ ow
 
 -- the hop counter is used up
 pub last_hop_returns : (plan : Network) (node origin : ℕ) (m : Message) (a : Address) → a.by_ssn ≡ false → is_last_hop (hops_of m) ≡ true
-    → candidates_of plan node (returned [] origin m 12 []) ≡ flat_map (outcome_candidates plan node) (by_address plan node origin m (Some a))
+    → candidates_of plan node (returned [] origin m 12 [])
+    ≡ flat_map (outcome_candidates plan node) (by_address plan node origin m (Some a))
 last_hop_returns plan node origin m a e f = rw (e, f) (sym (append-nil (candidates_of plan node (returned [] origin m 12 []))))

@@ -11,6 +11,7 @@ ghost use Rattle.relay_ways.specs.Ways.{way, reaches, forwarded_way, service_way
 ghost use Rattle.relay_ways.specs.Ways.{AreWays, IsForwarded, AddsWays};
 
 use crate::condition::{Condition, both, copied, least_marking};
+use crate::incoming::Incoming;
 use crate::outcomes::outcome_conditions;
 use crate::way::{Sending, Way};
 use plan_model::Plan;
@@ -61,22 +62,21 @@ fn forwarded_under(
     }
 }
 
-/// Adds the way of an outcome of a service message at the node itself, if there is one.
+/// Adds the way of an outcome of a service message at the node itself, if there is one. The condition is that of the message and of
+/// the outcome together.
 fn add_forwarded(
     alloc: Global,
     plan: &Plan,
     node: u8,
     octets: &[u8],
-    condition: &Condition,
-    outcome: &Condition,
+    combined: Condition,
     found: &mut List<Way>,
 ) -> Result<(), OutOfMemory>
     requires { node < length plan.now.nodes }
-    ensures { (o : Outcome) → o.condition ≡ outcome.now
+    ensures { (c : Condition) (o : Outcome) → combined ≡ both c o.condition
         → ((marking : List Mark) → Becomes plan.now node (point_of plan.now node) octets.now marking o)
-        → OnOk result (AddsWays found.old found.new (possible (forwarded_way condition.now o))) }
+        → OnOk result (AddsWays found.old found.new (possible (forwarded_way c o))) }
 {
-    let combined = both(alloc, condition, outcome)?;
     match forwarded_under(alloc, plan, node, octets, &combined)? {
         Some(sending) => add_way(found, combined, sending),
         None => Ok(()),
@@ -97,7 +97,8 @@ fn add_by_title(
 {
     let outcomes = outcome_conditions(alloc, plan, node, octets)?;
     for outcome in outcomes.as_slice() {
-        add_forwarded(alloc, plan, node, octets, condition, outcome, found)?;
+        let combined = both(alloc, condition, outcome)?;
+        add_forwarded(alloc, plan, node, octets, combined, found)?;
     }
     Ok(())
 }
@@ -246,67 +247,47 @@ fn add_ways_of(
 /// Adds the ways of what becomes of the octets if the condition is met.
 fn add_ways_under(
     alloc: Global,
-    plan: &Plan,
-    node: u8,
-    origin: PointCode,
-    octets: &[u8],
+    at: &Incoming<'_>,
     condition: &Condition,
     found: &mut List<Way>,
 ) -> Result<(), OutOfMemory>
-    requires { node < length plan.now.nodes }
     ensures { (o : Outcome) → o.condition ≡ condition.now
-        → ((marking : List Mark) → Becomes plan.now node origin octets.now marking o)
-        → OnOk result (AddsWays found.old found.new (possible_ways plan.now node o)) }
+        → ((marking : List Mark) → Becomes at.now.plan.now at.now.node at.now.origin at.now.octets.now marking o)
+        → OnOk result (AddsWays found.old found.new (possible_ways at.now.plan.now at.now.node o)) }
 {
     match least_marking(alloc, condition)? {
         Some(marking) => {
-            let arrival = arrive(alloc, plan, node, &marking, origin, octets)?;
+            let arrival = arrive(alloc, at.plan, at.node, &marking, at.origin, at.octets)?;
             drop(marking);
-            add_ways_of(alloc, plan, node, condition, arrival, found)
+            add_ways_of(alloc, at.plan, at.node, condition, arrival, found)
         }
         None => Ok(()),
     }
 }
 
 /// Adds the ways of all outcomes.
-fn add_all_ways(
-    alloc: Global,
-    plan: &Plan,
-    node: u8,
-    origin: PointCode,
-    octets: &[u8],
-    found: &mut List<Way>,
-) -> Result<(), OutOfMemory>
-    requires { node < length plan.now.nodes }
-    ensures { OnOk result (AddsWays found.old found.new (ways plan.now node origin octets.now)) }
+fn add_all_ways(alloc: Global, at: &Incoming<'_>, found: &mut List<Way>) -> Result<(), OutOfMemory>
+    ensures { OnOk result (AddsWays found.old found.new (ways at.now.plan.now at.now.node at.now.origin at.now.octets.now)) }
 {
-    let outcomes = outcome_conditions(alloc, plan, node, octets)?;
+    let outcomes = outcome_conditions(alloc, at.plan, at.node, at.octets)?;
     for outcome in outcomes.as_slice() {
-        add_ways_under(alloc, plan, node, origin, octets, outcome, found)?;
+        add_ways_under(alloc, at, outcome, found)?;
     }
     Ok(())
 }
 
-/// The ways in which the node at this place of the plan can send something because of octets that arrive from a point, each
-/// with its condition. There are at most 121: a row of eight targets has 11 turns, and a service message by title as many.
-/// The error is want of memory.
-pub fn ways(
-    alloc: Global,
-    plan: &Plan,
-    node: u8,
-    origin: PointCode,
-    octets: &[u8],
-) -> Result<List<Way>, OutOfMemory>
-    requires { node < length plan.now.nodes }
-    ensures exact { IfOk result (λ found. found ≡ ways plan.now node origin octets.now) }
+/// The ways in which the node can send something because of octets that arrive at it, each with its condition. There are at most
+/// 121: a row of eight targets has 11 turns, and a service message by title as many. The error is want of memory.
+pub fn ways(alloc: Global, at: &Incoming<'_>) -> Result<List<Way>, OutOfMemory>
+    ensures exact { IfOk result (λ found. found ≡ ways at.now.plan.now at.now.node at.now.origin at.now.octets.now) }
     // Over all markings, the node sends what they say.
-    ensures are { IfOk result (AreWays plan.now node origin octets.now) }
+    ensures are { IfOk result (AreWays at.now.plan.now at.now.node at.now.origin at.now.octets.now) }
     // Some marking meets the condition of each.
     ensures possible { IfOk result (All (λ w. IsPossible w.condition)) }
 {
     // The call ensures that the plan is sound, which the clauses need.
-    let _nodes = plan.nodes();
+    let _nodes = at.plan.nodes();
     let mut found = List::new(alloc);
-    add_all_ways(alloc, plan, node, origin, octets, &mut found)?;
+    add_all_ways(alloc, at, &mut found)?;
     Ok(found)
 }

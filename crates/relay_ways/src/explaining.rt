@@ -1,5 +1,5 @@
 //! Under which markings a relay sends a given message because of a given arrival.
-ghost use Rattle.std.specs.Prelude.{◌≡◌, ◌<◌, IsTrue, ◌↔◌, IfOk, OnOk, length, map};
+ghost use Rattle.std.specs.Prelude.{◌≡◌, IsTrue, ◌↔◌, IfOk, OnOk, map};
 ghost use Rattle.std.specs.List.{All};
 ghost use Rattle.relay_ways.specs.Explained.{IsSendingOf, Keeps, AreConditions, Tells, IsHandled, AddsTold};
 ghost use Rattle.relay_ways.specs.Handling.{HasCondition};
@@ -11,9 +11,9 @@ use crate::all_ways::ways;
 use crate::condition::copied;
 use crate::explanation::Explanation;
 use crate::handling::handle;
+use crate::incoming::Incoming;
 use crate::settling::settled;
 use crate::way::{Sending, Way};
-use plan_model::Plan;
 use sccp_base::{List, OutOfMemory, PointCode};
 use sccp_message::{DecodeFault, Message, decode};
 use std::alloc::Global;
@@ -76,19 +76,17 @@ fn keep(
 /// The ways in which the node sends a message like this one to that point.
 fn kept_ways(
     alloc: Global,
-    plan: &Plan,
-    node: u8,
-    origin: PointCode,
-    octets: &[u8],
+    at: &Incoming<'_>,
     to: PointCode,
     sent: &Message,
 ) -> Result<List<Way>, OutOfMemory>
-    requires { node < length plan.now.nodes }
-    ensures conditions { IfOk result (λ kept. AreConditions plan.now node origin octets.now to sent.now (map (λ w. w.condition) kept)) }
-    ensures among { IfOk result (All (λ w. HasCondition w.condition (ways plan.now node origin octets.now))) }
+    ensures conditions { IfOk result (λ kept. AreConditions at.now.plan.now at.now.node at.now.origin at.now.octets.now to sent.now
+        (map (λ w. w.condition) kept)) }
+    ensures among { IfOk result (All (λ w. HasCondition w.condition
+        (ways at.now.plan.now at.now.node at.now.origin at.now.octets.now))) }
     ensures possible { IfOk result (All (λ w. IsPossible w.condition)) }
 {
-    let found = ways(alloc, plan, node, origin, octets)?;
+    let found = ways(alloc, at)?;
     let mut kept = List::new(alloc);
     for way in found.as_slice() {
         keep(alloc, &mut kept, way, to, sent)?;
@@ -97,18 +95,10 @@ fn kept_ways(
 }
 
 /// What is told of a way.
-fn told(
-    alloc: Global,
-    plan: &Plan,
-    node: u8,
-    origin: PointCode,
-    octets: &[u8],
-    way: &Way,
-) -> Result<Explanation, OutOfMemory>
-    requires { node < length plan.now.nodes }
-    ensures { IfOk result (Tells plan.now node origin octets.now way.now) }
+fn told(alloc: Global, at: &Incoming<'_>, way: &Way) -> Result<Explanation, OutOfMemory>
+    ensures { IfOk result (Tells at.now.plan.now at.now.node at.now.origin at.now.octets.now way.now) }
 {
-    let handling = handle(alloc, plan, node, origin, octets, &way.condition)?;
+    let handling = handle(alloc, at, &way.condition)?;
     let condition = settled(alloc, &way.condition)?;
     Ok(Explanation {
         condition,
@@ -119,42 +109,35 @@ fn told(
 /// Puts what is told of a way at the end.
 fn add_told(
     alloc: Global,
-    plan: &Plan,
-    node: u8,
-    origin: PointCode,
-    octets: &[u8],
+    at: &Incoming<'_>,
     way: &Way,
     found: &mut List<Explanation>,
 ) -> Result<(), OutOfMemory>
-    requires { node < length plan.now.nodes }
-    ensures { OnOk result (AddsTold plan.now node origin octets.now way.now found.old found.new) }
+    ensures { OnOk result (AddsTold at.now.plan.now at.now.node at.now.origin at.now.octets.now way.now found.old found.new) }
 {
-    let explanation = told(alloc, plan, node, origin, octets, way)?;
+    let explanation = told(alloc, at, way)?;
     found.push(explanation)?;
     Ok(())
 }
 
-/// Why the node at this place of the plan may have sent a message to that point, because of octets that arrived from a point: each
-/// way in which it does. Their conditions are those under which it does: none if no marking lets it. The error is want of memory.
+/// Why the node may have sent a message to that point because of octets that arrived at it: each way in which it does. Their
+/// conditions are those under which it does: none if no marking lets it. The error is want of memory.
 pub fn explain(
     alloc: Global,
-    plan: &Plan,
-    node: u8,
-    origin: PointCode,
-    octets: &[u8],
+    at: &Incoming<'_>,
     to: PointCode,
     sent: &Message,
 ) -> Result<List<Explanation>, OutOfMemory>
-    requires { node < length plan.now.nodes }
     // The node sends the message exactly under the markings that meet one of the conditions, and some marking meets each.
-    ensures conditions { IfOk result (λ found. AreConditions plan.now node origin octets.now to sent.now (map (λ x. x.condition) found)) }
+    ensures conditions { IfOk result (λ found. AreConditions at.now.plan.now at.now.node at.now.origin at.now.octets.now to sent.now
+        (map (λ x. x.condition) found)) }
     // Under each marking that meets the condition of one, the node handles the octets as this one says.
-    ensures handled { IfOk result (All (IsHandled plan.now node origin octets.now)) }
+    ensures handled { IfOk result (All (IsHandled at.now.plan.now at.now.node at.now.origin at.now.octets.now)) }
 {
-    let kept = kept_ways(alloc, plan, node, origin, octets, to, sent)?;
+    let kept = kept_ways(alloc, at, to, sent)?;
     let mut found = List::new(alloc);
     for way in kept.as_slice() {
-        add_told(alloc, plan, node, origin, octets, way, &mut found)?;
+        add_told(alloc, at, way, &mut found)?;
     }
     Ok(found)
 }

@@ -10,9 +10,10 @@ ghost use Rattle.relay_ways.specs.Handling.{at_target, target_of, row_at, IsTake
 ghost use Rattle.relay_ways.specs.Handling.{Handles, HandlesIf};
 
 use crate::condition::{Condition, least_marking};
+use crate::incoming::Incoming;
 use plan_model::{Plan, Spot, Step, step};
 use sccp_address::Address;
-use sccp_base::{Marking, OutOfMemory, PointCode};
+use sccp_base::{Marking, OutOfMemory};
 use sccp_message::{DecodeFault, Message, decode};
 use sccp_scrc::{Arrival, Service, Way, arrive, spot};
 use std::alloc::Global;
@@ -219,20 +220,12 @@ fn of_arrival(
     }
 }
 
-/// How the node handles octets from a point under a marking.
-fn under(
-    alloc: Global,
-    plan: &Plan,
-    node: u8,
-    marking: &Marking,
-    origin: PointCode,
-    octets: &[u8],
-) -> Result<Handling, OutOfMemory>
-    requires { node < length plan.now.nodes }
-    ensures { IfOk result (Handles plan.now node marking.now origin octets.now) }
+/// How the node handles octets under a marking.
+fn under(alloc: Global, at: &Incoming<'_>, marking: &Marking) -> Result<Handling, OutOfMemory>
+    ensures { IfOk result (Handles at.now.plan.now at.now.node marking.now at.now.origin at.now.octets.now) }
 {
-    let arrival = arrive(alloc, plan, node, marking, origin, octets)?;
-    let handling = of_arrival(alloc, plan, node, marking, octets, &arrival);
+    let arrival = arrive(alloc, at.plan, at.node, marking, at.origin, at.octets)?;
+    let handling = of_arrival(alloc, at.plan, at.node, marking, at.octets, &arrival);
     drop(arrival);
     handling
 }
@@ -240,36 +233,27 @@ fn under(
 /// The same, if the marking meets the condition.
 fn under_met(
     alloc: Global,
-    plan: &Plan,
-    node: u8,
+    at: &Incoming<'_>,
     marking: &Marking,
-    origin: PointCode,
-    octets: &[u8],
     condition: &Condition,
 ) -> Result<Handling, OutOfMemory>
-    requires node { node < length plan.now.nodes }
-    requires met { meets marking.now condition.now ≡ true }
-    ensures { IfOk result (HandlesIf plan.now node origin octets.now condition.now) }
+    requires { meets marking.now condition.now ≡ true }
+    ensures { IfOk result (HandlesIf at.now.plan.now at.now.node at.now.origin at.now.octets.now condition.now) }
 {
-    under(alloc, plan, node, marking, origin, octets)
+    under(alloc, at, marking)
 }
 
-/// How the node at this place of the plan handles octets that arrive from a point, if the condition is met, which is that of one of
-/// their `ways`.
+/// How the node handles octets that arrive at it, if the condition is met, which is that of one of their `ways`.
 pub(crate) fn handle(
     alloc: Global,
-    plan: &Plan,
-    node: u8,
-    origin: PointCode,
-    octets: &[u8],
+    at: &Incoming<'_>,
     condition: &Condition,
 ) -> Result<Handling, OutOfMemory>
-    requires { node < length plan.now.nodes }
-    ensures { IfOk result (HandlesIf plan.now node origin octets.now condition.now) }
+    ensures { IfOk result (HandlesIf at.now.plan.now at.now.node at.now.origin at.now.octets.now condition.now) }
 {
     match least_marking(alloc, condition)? {
         Some(marking) => {
-            let handling = under_met(alloc, plan, node, &marking, origin, octets, condition);
+            let handling = under_met(alloc, at, &marking, condition);
             drop(marking);
             handling
         }

@@ -1,10 +1,11 @@
 //! Why an arrival does not explain a message.
-ghost use Rattle.std.specs.Prelude.{◌≡◌, ◌<◌, if◌then◌else◌, length, Some, IfOk};
+ghost use Rattle.std.specs.Prelude.{◌≡◌, true, if◌then◌else◌, Some, IfOk};
 ghost use Rattle.std.specs.List.{filter, list_any};
 ghost use Rattle.sccp_message.specs.Unitdata.{called_of};
 ghost use Rattle.relay_ways.specs.Alike.{calling_of, params_of};
 ghost use Rattle.relay_ways.specs.WhyNot.{later, by_point, title_fault, by_title, by_address, by_called, by_message, by_candidate};
-ghost use Rattle.relay_ways.specs.WhyNot.{by_candidates, by_contents, same_calling, same_params, service_code, is_service, has_cause, by_service, by_type};
+ghost use Rattle.relay_ways.specs.WhyNot.{by_candidates, by_contents, same_calling, same_params, service_code, is_service, has_cause};
+ghost use Rattle.relay_ways.specs.WhyNot.{by_service, by_type};
 ghost use Rattle.relay_ways.specs.WhyNot.{why_not_of, why_not};
 
 use crate::alike::{
@@ -13,9 +14,9 @@ use crate::alike::{
 };
 use crate::candidate::Candidate;
 use crate::changing::asks_for_return;
+use crate::incoming::Incoming;
 use crate::reason::Reason;
 use crate::would_send::candidates;
-use plan_model::Plan;
 use sccp_address::{Address, Title};
 use sccp_base::{OutOfMemory, PointCode};
 use sccp_message::{DecodeFault, Message, decode};
@@ -203,21 +204,17 @@ fn keeps_params(message: &Message, sent: &Message) -> bool
     have_same_params(message, sent)
 }
 
-/// The first fault of the calling address and of what comes after it. `same` says whether the calling address is the right one.
+/// The first fault of the parameters and of what comes after them. The calling address is the right one.
 fn by_contents(
     alloc: Global,
     message: &Message,
-    same: bool,
     cause: Option<u8>,
     found: &[Candidate],
     to: PointCode,
     sent: &Message,
 ) -> Result<Reason, OutOfMemory>
-    ensures { IfOk result (λ r. r ≡ by_contents message.now same (filter (has_cause cause) found.now) to sent.now) }
+    ensures { IfOk result (λ r. r ≡ by_contents message.now true (filter (has_cause cause) found.now) to sent.now) }
 {
-    if !same {
-        return Ok(Reason::Calling);
-    }
     if !keeps_params(message, sent) {
         return Ok(Reason::Parameters);
     }
@@ -268,8 +265,10 @@ fn by_service(
     if !any_has_cause(cause, found) {
         return Ok(Reason::Cause);
     }
-    let same = exchanges_calling(message, sent);
-    by_contents(alloc, message, same, Some(cause), found, to, sent)
+    if !exchanges_calling(message, sent) {
+        return Ok(Reason::Calling);
+    }
+    by_contents(alloc, message, Some(cause), found, to, sent)
 }
 
 /// The first fault of another message.
@@ -288,8 +287,10 @@ fn by_type(
     if number(sent) != number(message) {
         return Ok(Reason::Class);
     }
-    let same = keeps_calling(message, sent);
-    by_contents(alloc, message, same, None, found, to, sent)
+    if !keeps_calling(message, sent) {
+        return Ok(Reason::Calling);
+    }
+    by_contents(alloc, message, None, found, to, sent)
 }
 
 /// The first fault of a message, by what the plan would have the node send because of an arrived one.
@@ -309,24 +310,20 @@ fn of_message(
     }
 }
 
-/// Why the node at this place of the plan did not send a message to that point because of octets that arrived from a point: the first
-/// test that the message fails. It has the data of these octets. The answer is `Closed` if a target does all this and is not the
-/// first open one under any marking, and also if some marking lets the node send the message. The error is want of memory.
+/// Why the node did not send a message to that point because of octets that arrived at it: the first test that the message fails. It
+/// has the data of these octets. The answer is `Closed` if a target does all this and is not the first open one under any marking,
+/// and also if some marking lets the node send the message. The error is want of memory.
 #[tactic(auto, unfolding(crate::specs::WhyNot::why_not))]
 pub fn why_not(
     alloc: Global,
-    plan: &Plan,
-    node: u8,
-    origin: PointCode,
-    octets: &[u8],
+    at: &Incoming<'_>,
     to: PointCode,
     sent: &Message,
 ) -> Result<Reason, OutOfMemory>
-    requires { node < length plan.now.nodes }
-    ensures { IfOk result (λ r. r ≡ why_not plan.now node origin octets.now to sent.now) }
+    ensures { IfOk result (λ r. r ≡ why_not at.now.plan.now at.now.node at.now.origin at.now.octets.now to sent.now) }
 {
-    let found = candidates(alloc, plan, node, origin, octets)?;
-    match decode(alloc, octets) {
+    let found = candidates(alloc, at)?;
+    match decode(alloc, at.octets) {
         Ok(message) => {
             let reason = of_message(alloc, &message, found.as_slice(), to, sent);
             drop(message);

@@ -14,11 +14,13 @@ ghost use Rattle.relay_ways.specs.Candidates.{served, candidates_of, outcome_goi
 ghost use Rattle.relay_ways.specs.Outcomes.{outcomes, by_address, titled};
 
 use crate::candidate::Candidate;
+use crate::incoming::Incoming;
+use crate::own_service::OwnService;
 use crate::turn_steps::turn_steps;
 use crate::writing::{add, add_written, is_last_hop, onward, read, service_for};
 use plan_model::{Plan, Spot, Step};
 use sccp_address::Address;
-use sccp_base::{List, OutOfMemory, PointCode};
+use sccp_base::{List, OutOfMemory};
 use sccp_message::{DecodeFault, Message, decode};
 use sccp_scrc::{Service, Way, spot};
 use std::alloc::Global;
@@ -26,23 +28,26 @@ use std::alloc::Global;
 /// Adds what goes on if a step is made of a service message at the node itself.
 fn add_service_step(
     alloc: Global,
-    plan: &Plan,
-    node: u8,
-    octets: &[u8],
-    cause: u8,
+    service: &OwnService<'_>,
     address: &Address,
     spot: &Spot,
     step: &Step,
     found: &mut List<Candidate>,
 ) -> Result<(), OutOfMemory>
-    requires node { node < length plan.now.nodes }
     requires spot { spot_of spot.now.node address.now ≡ Some spot.now }
-    requires stays { StaysIn plan.now step.now }
-    ensures { (m : Message) → reading octets.now ≡ Ok m
-        → OnOk result (found.new ≡ found.old ++ step_going_on plan.now node cause m address.now step.now) }
+    requires stays { StaysIn service.now.plan.now step.now }
+    ensures { (m : Message) → reading service.now.octets.now ≡ Ok m → OnOk result (found.new ≡ found.old
+        ++ step_going_on service.now.plan.now service.now.node service.now.cause m address.now step.now) }
 {
-    match onward(plan, node, address, spot, step) {
-        Some(going) => add_written(alloc, octets, cause, going.0, going.1, found),
+    match onward(service.plan, service.node, address, spot, step) {
+        Some(going) => add_written(
+            alloc,
+            service.octets,
+            service.cause,
+            going.0,
+            going.1,
+            found,
+        ),
         None => Ok(()),
     }
 }
@@ -50,23 +55,20 @@ fn add_service_step(
 /// Adds what goes on of a service message at the node itself, by each step of its title.
 fn add_service_steps(
     alloc: Global,
-    plan: &Plan,
-    node: u8,
-    octets: &[u8],
-    cause: u8,
+    service: &OwnService<'_>,
     address: &Address,
     spot: &Spot,
     found: &mut List<Candidate>,
 ) -> Result<(), OutOfMemory>
-    requires node { node < length plan.now.nodes }
-    requires spot { spot_of node address.now ≡ Some spot.now }
-    requires here { spot.now.node ≡ node }
-    ensures { (m : Message) → reading octets.now ≡ Ok m
-        → OnOk result (found.new ≡ found.old ++ flat_map (step_going_on plan.now node cause m address.now) (turn_steps plan.now spot.now)) }
+    requires spot { spot_of service.now.node address.now ≡ Some spot.now }
+    requires here { spot.now.node ≡ service.now.node }
+    ensures { (m : Message) → reading service.now.octets.now ≡ Ok m → OnOk result (found.new ≡ found.old
+        ++ flat_map (step_going_on service.now.plan.now service.now.node service.now.cause m address.now)
+        (turn_steps service.now.plan.now spot.now)) }
 {
-    let steps = turn_steps(alloc, plan, spot)?;
+    let steps = turn_steps(alloc, service.plan, spot)?;
     for step in steps.as_slice() {
-        add_service_step(alloc, plan, node, octets, cause, address, spot, step, found)?;
+        add_service_step(alloc, service, address, spot, step, found)?;
     }
     Ok(())
 }
@@ -74,19 +76,17 @@ fn add_service_steps(
 /// Adds what goes on of a service message that is routed on its title.
 fn add_titled_service(
     alloc: Global,
-    plan: &Plan,
-    node: u8,
-    octets: &[u8],
-    cause: u8,
+    service: &OwnService<'_>,
     address: &Address,
     found: &mut List<Candidate>,
 ) -> Result<(), OutOfMemory>
-    requires node { node < length plan.now.nodes }
-    ensures { (m : Message) → reading octets.now ≡ Ok m → OnOk result (found.new ≡ found.old ++ flat_map (outcome_going_on (Some cause))
-        (titled plan.now node (point_of plan.now node) m address.now (spot_of node address.now))) }
+    ensures { (m : Message) → reading service.now.octets.now ≡ Ok m → OnOk result (found.new ≡ found.old
+        ++ flat_map (outcome_going_on (Some service.now.cause))
+        (titled service.now.plan.now service.now.node (point_of service.now.plan.now service.now.node) m address.now
+        (spot_of service.now.node address.now))) }
 {
-    match spot(node, address) {
-        Some(spot) => add_service_steps(alloc, plan, node, octets, cause, address, &spot, found),
+    match spot(service.node, address) {
+        Some(spot) => add_service_steps(alloc, service, address, &spot, found),
         None => Ok(()),
     }
 }
@@ -94,17 +94,14 @@ fn add_titled_service(
 /// Adds what goes on of a service message at the node itself.
 fn add_of_service(
     alloc: Global,
-    plan: &Plan,
-    node: u8,
-    octets: &[u8],
-    cause: u8,
+    service: &OwnService<'_>,
     message: &Message,
     found: &mut List<Candidate>,
 ) -> Result<(), OutOfMemory>
-    requires node { node < length plan.now.nodes }
-    requires reads { reading octets.now ≡ Ok message.now }
-    ensures { OnOk result (found.new ≡ found.old ++ flat_map (outcome_going_on (Some cause))
-        (by_address plan.now node (point_of plan.now node) message.now (called_of message.now))) }
+    requires { reading service.now.octets.now ≡ Ok message.now }
+    ensures { OnOk result (found.new ≡ found.old ++ flat_map (outcome_going_on (Some service.now.cause))
+        (by_address service.now.plan.now service.now.node (point_of service.now.plan.now service.now.node) message.now
+        (called_of message.now))) }
 {
     match message.called() {
         Some(address) => {
@@ -114,7 +111,7 @@ fn add_of_service(
             if is_last_hop(message.hops()) {
                 return Ok(());
             }
-            add_titled_service(alloc, plan, node, octets, cause, address, found)
+            add_titled_service(alloc, service, address, found)
         }
         None => Ok(()),
     }
@@ -123,19 +120,15 @@ fn add_of_service(
 /// Adds what goes on of the octets of a service message at the node itself.
 fn add_by_title(
     alloc: Global,
-    plan: &Plan,
-    node: u8,
-    octets: &[u8],
-    cause: u8,
+    service: &OwnService<'_>,
     found: &mut List<Candidate>,
 ) -> Result<(), OutOfMemory>
-    requires node { node < length plan.now.nodes }
-    ensures { OnOk result (found.new ≡ found.old ++ flat_map (outcome_going_on (Some cause))
-        (outcomes plan.now node (point_of plan.now node) octets.now)) }
+    ensures { OnOk result (found.new ≡ found.old ++ flat_map (outcome_going_on (Some service.now.cause))
+        (outcomes service.now.plan.now service.now.node (point_of service.now.plan.now service.now.node) service.now.octets.now)) }
 {
-    match decode(alloc, octets) {
+    match decode(alloc, service.octets) {
         Ok(message) => {
-            let added = add_of_service(alloc, plan, node, octets, cause, &message, found);
+            let added = add_of_service(alloc, service, &message, found);
             drop(message);
             added
         }
@@ -160,7 +153,15 @@ fn add_served(
     match way {
         Way::Direct(to) => add(found, Some(cause), to, octets),
         Way::Shut(_) => Ok(()),
-        Way::ByTitle => add_by_title(alloc, plan, node, octets.as_slice(), cause, found),
+        Way::ByTitle => {
+            let own = OwnService {
+                plan,
+                node,
+                octets: octets.as_slice(),
+                cause,
+            };
+            add_by_title(alloc, &own, found)
+        }
     }
 }
 
@@ -174,7 +175,8 @@ fn add_served_if_any(
     found: &mut List<Candidate>,
 ) -> Result<(), OutOfMemory>
     requires { node < length plan.now.nodes }
-    ensures { (marks : List Mark) → OnOk result (found.new ≡ found.old ++ candidates_of plan.now node (Arrival.Returned cause marks service)) }
+    ensures { (marks : List Mark) → OnOk result (found.new ≡ found.old
+        ++ candidates_of plan.now node (Arrival.Returned cause marks service)) }
 {
     match service {
         Some(service) => add_served(alloc, plan, node, cause, service, found),
@@ -185,18 +187,14 @@ fn add_served_if_any(
 /// Adds the service message if the message is returned for this cause.
 pub(crate) fn add_returned(
     alloc: Global,
-    plan: &Plan,
-    node: u8,
-    origin: PointCode,
-    octets: &[u8],
+    at: &Incoming<'_>,
     cause: u8,
     found: &mut List<Candidate>,
 ) -> Result<(), OutOfMemory>
-    requires { node < length plan.now.nodes }
-    ensures { (m : Message) (marks : List Mark) → reading octets.now ≡ Ok m
-        → OnOk result (found.new ≡ found.old ++ candidates_of plan.now node (returned [] origin m cause marks)) }
+    ensures { (m : Message) (marks : List Mark) → reading at.now.octets.now ≡ Ok m → OnOk result (found.new ≡ found.old
+        ++ candidates_of at.now.plan.now at.now.node (returned [] at.now.origin m cause marks)) }
 {
-    let message = read(alloc, octets)?;
-    let service = service_for(alloc, origin, cause, message)?;
-    add_served_if_any(alloc, plan, node, cause, service, found)
+    let message = read(alloc, at.octets)?;
+    let service = service_for(alloc, at.origin, cause, message)?;
+    add_served_if_any(alloc, at.plan, at.node, cause, service, found)
 }

@@ -12,6 +12,7 @@ ghost use Rattle.relay_ways.specs.Candidates.{step_candidates};
 ghost use Rattle.relay_ways.specs.Outcomes.{by_address, on_subsystem, titled};
 
 use crate::candidate::Candidate;
+use crate::incoming::Incoming;
 use crate::returning::add_returned;
 use crate::turn_steps::turn_steps;
 use crate::writing::{add, is_last_hop, onward, rewritten};
@@ -25,22 +26,18 @@ use std::alloc::Global;
 /// Adds the message if it goes on to a point with this called address. If it cannot be written, it is returned for cause 9.
 fn add_onward(
     alloc: Global,
-    plan: &Plan,
-    node: u8,
-    origin: PointCode,
-    octets: &[u8],
+    at: &Incoming<'_>,
     to: PointCode,
     called: Address,
     found: &mut List<Candidate>,
 ) -> Result<(), OutOfMemory>
-    requires { node < length plan.now.nodes }
-    ensures { (m : Message) → reading octets.now ≡ Ok m
-        → OnOk result (found.new ≡ found.old ++ written_or_returned plan.now node origin m to called) }
+    ensures { (m : Message) → reading at.now.octets.now ≡ Ok m
+        → OnOk result (found.new ≡ found.old ++ written_or_returned at.now.plan.now at.now.node at.now.origin m to called) }
 {
-    let written = rewritten(alloc, octets, called)?;
+    let written = rewritten(alloc, at.octets, called)?;
     match written {
         Some(new) => add(found, None, to, new),
-        None => add_returned(alloc, plan, node, origin, octets, 9, found),
+        None => add_returned(alloc, at, 9, found),
     }
 }
 
@@ -59,24 +56,20 @@ fn returns(step: &Step) -> Option<u8>
 /// Adds what would be sent if a step is made that does not return the message.
 fn add_going_on(
     alloc: Global,
-    plan: &Plan,
-    node: u8,
-    origin: PointCode,
-    octets: &[u8],
+    at: &Incoming<'_>,
     address: &Address,
     spot: &Spot,
     step: &Step,
     found: &mut List<Candidate>,
 ) -> Result<(), OutOfMemory>
-    requires node { node < length plan.now.nodes }
     requires spot { spot_of spot.now.node address.now ≡ Some spot.now }
-    requires stays { StaysIn plan.now step.now }
+    requires stays { StaysIn at.now.plan.now step.now }
     requires goes_on { returns step.now ≡ None }
-    ensures { (m : Message) → reading octets.now ≡ Ok m
-        → OnOk result (found.new ≡ found.old ++ step_candidates plan.now node origin m address.now step.now) }
+    ensures { (m : Message) → reading at.now.octets.now ≡ Ok m
+        → OnOk result (found.new ≡ found.old ++ step_candidates at.now.plan.now at.now.node at.now.origin m address.now step.now) }
 {
-    match onward(plan, node, address, spot, step) {
-        Some(going) => add_onward(alloc, plan, node, origin, octets, going.0, going.1, found),
+    match onward(at.plan, at.node, address, spot, step) {
+        Some(going) => add_onward(alloc, at, going.0, going.1, found),
         None => Ok(()),
     }
 }
@@ -84,52 +77,40 @@ fn add_going_on(
 /// Adds what would be sent if a step is made of the message.
 fn add_step(
     alloc: Global,
-    plan: &Plan,
-    node: u8,
-    origin: PointCode,
-    octets: &[u8],
+    at: &Incoming<'_>,
     address: &Address,
     spot: &Spot,
     step: &Step,
     found: &mut List<Candidate>,
 ) -> Result<(), OutOfMemory>
-    requires node { node < length plan.now.nodes }
     requires spot { spot_of spot.now.node address.now ≡ Some spot.now }
-    requires stays { StaysIn plan.now step.now }
-    ensures { (m : Message) → reading octets.now ≡ Ok m
-        → OnOk result (found.new ≡ found.old ++ step_candidates plan.now node origin m address.now step.now) }
+    requires stays { StaysIn at.now.plan.now step.now }
+    ensures { (m : Message) → reading at.now.octets.now ≡ Ok m
+        → OnOk result (found.new ≡ found.old ++ step_candidates at.now.plan.now at.now.node at.now.origin m address.now step.now) }
 {
     match returns(step) {
-        Some(cause) => add_returned(alloc, plan, node, origin, octets, cause, found),
-        None => add_going_on(
-            alloc, plan, node, origin, octets, address, spot, step, found,
-        ),
+        Some(cause) => add_returned(alloc, at, cause, found),
+        None => add_going_on(alloc, at, address, spot, step, found),
     }
 }
 
 /// Adds what would be sent by each step of a title.
 fn add_steps(
     alloc: Global,
-    plan: &Plan,
-    node: u8,
-    origin: PointCode,
-    octets: &[u8],
+    at: &Incoming<'_>,
     address: &Address,
     spot: &Spot,
     found: &mut List<Candidate>,
 ) -> Result<(), OutOfMemory>
-    requires node { node < length plan.now.nodes }
-    requires spot { spot_of node address.now ≡ Some spot.now }
-    requires here { spot.now.node ≡ node }
-    ensures { (m : Message) → reading octets.now ≡ Ok m
+    requires spot { spot_of at.now.node address.now ≡ Some spot.now }
+    requires here { spot.now.node ≡ at.now.node }
+    ensures { (m : Message) → reading at.now.octets.now ≡ Ok m
         → OnOk result (found.new ≡ found.old
-        ++ flat_map (step_candidates plan.now node origin m address.now) (turn_steps plan.now spot.now)) }
+        ++ flat_map (step_candidates at.now.plan.now at.now.node at.now.origin m address.now) (turn_steps at.now.plan.now spot.now)) }
 {
-    let steps = turn_steps(alloc, plan, spot)?;
+    let steps = turn_steps(alloc, at.plan, spot)?;
     for step in steps.as_slice() {
-        add_step(
-            alloc, plan, node, origin, octets, address, spot, step, found,
-        )?;
+        add_step(alloc, at, address, spot, step, found)?;
     }
     Ok(())
 }
@@ -165,19 +146,15 @@ fn cause_at(plan: &Plan, node: u8, ssn: Option<u8>) -> Option<u8>
 /// Adds what would be sent because of a message that is routed on its subsystem number.
 fn add_on_subsystem(
     alloc: Global,
-    plan: &Plan,
-    node: u8,
-    origin: PointCode,
-    octets: &[u8],
+    at: &Incoming<'_>,
     ssn: Option<u8>,
     found: &mut List<Candidate>,
 ) -> Result<(), OutOfMemory>
-    requires { node < length plan.now.nodes }
-    ensures { (m : Message) → reading octets.now ≡ Ok m → OnOk result (found.new ≡ found.old
-        ++ flat_map (outcome_candidates plan.now node) (on_subsystem plan.now node origin m ssn)) }
+    ensures { (m : Message) → reading at.now.octets.now ≡ Ok m → OnOk result (found.new ≡ found.old
+        ++ flat_map (outcome_candidates at.now.plan.now at.now.node) (on_subsystem at.now.plan.now at.now.node at.now.origin m ssn)) }
 {
-    match cause_at(plan, node, ssn) {
-        Some(cause) => add_returned(alloc, plan, node, origin, octets, cause, found),
+    match cause_at(at.plan, at.node, ssn) {
+        Some(cause) => add_returned(alloc, at, cause, found),
         None => Ok(()),
     }
 }
@@ -185,65 +162,56 @@ fn add_on_subsystem(
 /// Adds what would be sent because of a message that is routed on its title.
 fn add_titled(
     alloc: Global,
-    plan: &Plan,
-    node: u8,
-    origin: PointCode,
-    octets: &[u8],
+    at: &Incoming<'_>,
     address: &Address,
     found: &mut List<Candidate>,
 ) -> Result<(), OutOfMemory>
-    requires { node < length plan.now.nodes }
-    ensures { (m : Message) → reading octets.now ≡ Ok m → OnOk result (found.new ≡ found.old
-        ++ flat_map (outcome_candidates plan.now node) (titled plan.now node origin m address.now (spot_of node address.now))) }
+    ensures { (m : Message) → reading at.now.octets.now ≡ Ok m → OnOk result (found.new ≡ found.old
+        ++ flat_map (outcome_candidates at.now.plan.now at.now.node)
+        (titled at.now.plan.now at.now.node at.now.origin m address.now (spot_of at.now.node address.now))) }
 {
-    match spot(node, address) {
-        Some(spot) => add_steps(alloc, plan, node, origin, octets, address, &spot, found),
-        None => add_returned(alloc, plan, node, origin, octets, 0, found),
+    match spot(at.node, address) {
+        Some(spot) => add_steps(alloc, at, address, &spot, found),
+        None => add_returned(alloc, at, 0, found),
     }
 }
 
 /// Adds what would be sent because of a message with a called address.
 fn add_addressed(
     alloc: Global,
-    plan: &Plan,
-    node: u8,
-    origin: PointCode,
-    octets: &[u8],
+    at: &Incoming<'_>,
     message: &Message,
     address: &Address,
     found: &mut List<Candidate>,
 ) -> Result<(), OutOfMemory>
-    requires node { node < length plan.now.nodes }
-    requires reads { reading octets.now ≡ Ok message.now }
+    requires { reading at.now.octets.now ≡ Ok message.now }
     ensures { OnOk result (found.new ≡ found.old
-        ++ flat_map (outcome_candidates plan.now node) (by_address plan.now node origin message.now (Some address.now))) }
+        ++ flat_map (outcome_candidates at.now.plan.now at.now.node)
+        (by_address at.now.plan.now at.now.node at.now.origin message.now (Some address.now))) }
 {
     if address.by_ssn {
-        return add_on_subsystem(alloc, plan, node, origin, octets, address.ssn, found);
+        return add_on_subsystem(alloc, at, address.ssn, found);
     }
     if is_last_hop(message.hops()) {
-        return add_returned(alloc, plan, node, origin, octets, 12, found);
+        return add_returned(alloc, at, 12, found);
     }
-    add_titled(alloc, plan, node, origin, octets, address, found)
+    add_titled(alloc, at, address, found)
 }
 
 /// Adds what would be sent because of a message.
 fn add_message(
     alloc: Global,
-    plan: &Plan,
-    node: u8,
-    origin: PointCode,
-    octets: &[u8],
+    at: &Incoming<'_>,
     message: &Message,
     found: &mut List<Candidate>,
 ) -> Result<(), OutOfMemory>
-    requires node { node < length plan.now.nodes }
-    requires reads { reading octets.now ≡ Ok message.now }
+    requires { reading at.now.octets.now ≡ Ok message.now }
     ensures { OnOk result (found.new ≡ found.old
-        ++ flat_map (outcome_candidates plan.now node) (by_address plan.now node origin message.now (called_of message.now))) }
+        ++ flat_map (outcome_candidates at.now.plan.now at.now.node)
+        (by_address at.now.plan.now at.now.node at.now.origin message.now (called_of message.now))) }
 {
     match message.called() {
-        Some(address) => add_addressed(alloc, plan, node, origin, octets, message, address, found),
+        Some(address) => add_addressed(alloc, at, message, address, found),
         None => Ok(()),
     }
 }
@@ -252,18 +220,14 @@ fn add_message(
 #[tactic(auto, unfolding(crate::specs::Candidates::candidates))]
 fn add_octets(
     alloc: Global,
-    plan: &Plan,
-    node: u8,
-    origin: PointCode,
-    octets: &[u8],
+    at: &Incoming<'_>,
     found: &mut List<Candidate>,
 ) -> Result<(), OutOfMemory>
-    requires { node < length plan.now.nodes }
-    ensures { OnOk result (found.new ≡ found.old ++ candidates plan.now node origin octets.now) }
+    ensures { OnOk result (found.new ≡ found.old ++ candidates at.now.plan.now at.now.node at.now.origin at.now.octets.now) }
 {
-    match decode(alloc, octets) {
+    match decode(alloc, at.octets) {
         Ok(message) => {
-            let added = add_message(alloc, plan, node, origin, octets, &message, found);
+            let added = add_message(alloc, at, &message, found);
             drop(message);
             added
         }
@@ -272,20 +236,12 @@ fn add_octets(
     }
 }
 
-/// What the node at this place of the plan would send because of octets that arrive from a point: by each target of the row that
-/// counts, and for each return cause, whether some marking allows it or not. What some marking allows is in `ways` as well. The
-/// error is want of memory.
-pub fn candidates(
-    alloc: Global,
-    plan: &Plan,
-    node: u8,
-    origin: PointCode,
-    octets: &[u8],
-) -> Result<List<Candidate>, OutOfMemory>
-    requires { node < length plan.now.nodes }
-    ensures { IfOk result (λ found. found ≡ candidates plan.now node origin octets.now) }
+/// What the node would send because of octets that arrive at it: by each target of the row that counts, and for each return cause,
+/// whether some marking allows it or not. What some marking allows is in `ways` as well. The error is want of memory.
+pub fn candidates(alloc: Global, at: &Incoming<'_>) -> Result<List<Candidate>, OutOfMemory>
+    ensures { IfOk result (λ found. found ≡ candidates at.now.plan.now at.now.node at.now.origin at.now.octets.now) }
 {
     let mut found = List::new(alloc);
-    add_octets(alloc, plan, node, origin, octets, &mut found)?;
+    add_octets(alloc, at, &mut found)?;
     Ok(found)
 }

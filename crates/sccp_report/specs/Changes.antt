@@ -12,7 +12,7 @@ use Rattle.plan_change.specs.declared.answer.Change.TheVariants.{Kept, Broken, T
 use Rattle.plan_change.specs.declared.mixed_hop.MixedHop.{MixedHop}
 use Rattle.plan_change.specs.declared.turn.Turn.{Turn}
 use Rattle.plan_change.specs.Mixture.{mixed, tagged}
-use Rattle.sccp_report.specs.Hops.{hop_line, IsHopIn}
+use Rattle.sccp_report.specs.Hops.{hop_line}
 use Rattle.sccp_report.specs.Limits.{too_wide_line}
 use Rattle.sccp_report.specs.Values.{numbered}
 use Rattle.sccp_report.specs.Verdicts.{kind_words, accepted_line}
@@ -61,7 +61,3 @@ change_text old new (Kept bound spot turns) = kept_line bound ++ longest_hops_te
 change_text old new (Broken old_cover new_cover spot turns hops kind) = broken_line old_cover new_cover kind
     ++ mixed_hops_text old hops turns
 change_text old new TooWide = wide_change_line old.limits
-
--- the hop is at a node of the plan, and leads to one if anywhere
-abbrev pub IsMixedHopIn : Network → MixedHop → Type 0
-IsMixedHopIn plan hop = IsHopIn plan hop.hop

@@ -1,12 +1,12 @@
 //! The text of the answer on a changeover between two plans.
-ghost use Rattle.std.specs.Prelude.{◌≡◌, ◌≤◌, ◌++◌, length, All, OnOk, IfOk};
+ghost use Rattle.std.specs.Prelude.{◌≡◌, ◌≤◌, ◌++◌, length, IfSome, OnOk, IfOk};
 ghost use Rattle.plan_model.specs.Covered.{Covered};
 ghost use Rattle.plan_model.specs.Network.{IsPlan};
 ghost use Rattle.plan_model.specs.SameNodes.{SameNodes};
-ghost use Rattle.plan_change.specs.Changes.{IsLawfulChange, IsLongestOf};
+ghost use Rattle.plan_change.specs.Changes.{IsLawfulChange};
 ghost use Rattle.plan_change.specs.Mixture.{mixed, tagged};
 ghost use Rattle.sccp_report.specs.Changes.{which_words, mixed_hop_line, mixed_hops_text, kept_line, broken_words, covers_words};
-ghost use Rattle.sccp_report.specs.Changes.{broken_line, wide_change_line, longest_hops_text, change_text, IsMixedHopIn};
+ghost use Rattle.sccp_report.specs.Changes.{broken_line, wide_change_line, longest_hops_text, change_text};
 
 use crate::hop::put_hop;
 use crate::limits::put_too_wide;
@@ -36,22 +36,20 @@ fn put_mixed_hop(
     hop: &MixedHop,
     marking: &Marking,
 ) -> Result<(), OutOfMemory>
-    requires { IsMixedHopIn plan.now hop.now }
     ensures { OnOk result (text.new ≡ text.old ++ mixed_hop_line plan.now hop.now marking.now) }
 {
     put_which(text, hop.which)?;
     put_hop(text, plan, &hop.hop, marking)
 }
 
-/// Appends a line for each hop.
-fn put_mixed_hops(
+/// Appends a line for each hop of a mixed route, under the marking of its turn. The relays have the names that this plan gives them.
+pub fn put_mixed_hops(
     text: &mut Text,
     plan: &Plan,
     hops: &[MixedHop],
     turns: &[Turn],
 ) -> Result<(), OutOfMemory>
-    requires nodes { All (IsMixedHopIn plan.now) hops.now }
-    requires enough { length hops.now ≤ length turns.now }
+    requires { length hops.now ≤ length turns.now }
     ensures { OnOk result (text.new ≡ text.old ++ mixed_hops_text plan.now hops.now turns.now) }
 {
     for (i, hop) in hops.iter().enumerate() {
@@ -79,7 +77,7 @@ fn put_broken_words(text: &mut Text) -> Result<(), OutOfMemory>
 
 /// Appends the places of two covers, one of each plan, which end the line.
 #[tactic(auto, unfolding(crate::specs::Changes::covers_words))]
-fn put_covers(text: &mut Text, old_cover: u32, new_cover: u32) -> Result<(), OutOfMemory>
+pub fn put_both_covers(text: &mut Text, old_cover: u32, new_cover: u32) -> Result<(), OutOfMemory>
     ensures { OnOk result (text.new ≡ text.old ++ covers_words old_cover new_cover) }
 {
     text.put_numbered(b" covers ", old_cover)?;
@@ -99,7 +97,7 @@ fn put_broken(
 {
     put_broken_words(text)?;
     put_kind(text, kind)?;
-    put_covers(text, old_cover, new_cover)
+    put_both_covers(text, old_cover, new_cover)
 }
 
 /// Appends the line of two plans that reach too many classes together.
@@ -137,14 +135,13 @@ fn put_longest(
     text: &mut Text,
     old: &Plan,
     new: &Plan,
-    bound: u8,
     spot: &Option<Spot>,
     turns: &[Turn],
 ) -> Result<(), OutOfMemory>
     requires same { SameNodes old.now new.now }
     requires old { IsPlan old.now }
     requires new { IsPlan new.now }
-    requires longest { IsLongestOf old.now new.now bound spot.now turns.now }
+    requires covered { IfSome spot.now (Covered old.now) }
     ensures { OnOk result (text.new ≡ text.old ++ longest_hops_text old.now new.now spot.now turns.now) }
 {
     match spot {
@@ -170,7 +167,7 @@ pub fn change_text(
     match change {
         Change::Kept { bound, spot, turns } => {
             put_kept(&mut text, *bound)?;
-            put_longest(alloc, &mut text, old, new, *bound, spot, turns.as_slice())?;
+            put_longest(alloc, &mut text, old, new, spot, turns.as_slice())?;
         }
         Change::Broken {
             old_cover,

@@ -1,6 +1,5 @@
 //! The text of a route: a line for each hop.
-ghost use Rattle.std.specs.Prelude.{◌≡◌, ◌<◌, ◌≤◌, ◌++◌, length, All, OnOk, IfOk};
-ghost use Rattle.plan_model.specs.Routes.{StaysIn};
+ghost use Rattle.std.specs.Prelude.{◌≡◌, ◌≤◌, ◌++◌, length, All, OnOk, IfOk};
 ghost use Rattle.sccp_report.specs.Hops.{spot_text, target_text, step_text, hop_line, hops_text, IsHopIn};
 
 use crate::mark::{put_destination, put_marks};
@@ -14,7 +13,6 @@ use std::alloc::Global;
 /// Appends a title at a node.
 #[tactic(auto, unfolding(crate::specs::Hops::spot_text))]
 pub fn put_spot(text: &mut Text, plan: &Plan, spot: &Spot) -> Result<(), OutOfMemory>
-    requires { spot.now.node < length plan.now.nodes }
     ensures { OnOk result (text.new ≡ text.old ++ spot_text plan.now spot.now) }
 {
     text.put(b"at ")?;
@@ -37,7 +35,6 @@ fn put_target(text: &mut Text, place: u8) -> Result<(), OutOfMemory>
 /// Appends what happens to a title at a node.
 #[tactic(auto, unfolding(crate::specs::Hops::step_text))]
 pub fn put_step(text: &mut Text, plan: &Plan, step: &Step) -> Result<(), OutOfMemory>
-    requires { StaysIn plan.now step.now }
     ensures { OnOk result (text.new ≡ text.old ++ step_text plan.now step.now) }
 {
     match step {
@@ -65,7 +62,6 @@ pub fn put_hop(
     hop: &Hop,
     marking: &Marking,
 ) -> Result<(), OutOfMemory>
-    requires { IsHopIn plan.now hop.now }
     ensures { OnOk result (text.new ≡ text.old ++ hop_line plan.now hop.now marking.now) }
 {
     put_spot(text, plan, &hop.spot)?;

@@ -19,6 +19,9 @@
 //! `role_of` says what a line of a trace is to a replay (`specs/Roles`). `served_text` gives the text of a message that
 //! was routed (`specs/Served`), and `event_text` that of any other line but a later plan (`specs/Events`). `put_served`
 //! and `put_event` append the same to a `Text` that the caller keeps, so the texts of many lines need no copy of each.
+//!
+//! The crates that print other lines make them of the same parts. `put_point_code`, `put_destination`, `put_mark`, `put_marks`,
+//! `put_node`, `put_path`, `put_kind`, `put_both_covers`, `put_mixed_hops`, `put_fault` and `put_cause` append the text of one value.
 #![tactic(auto)]
 
 mod address;
@@ -48,15 +51,18 @@ mod text;
 mod values;
 mod verdict;
 
-pub use change::change_text;
+pub use change::{change_text, put_both_covers, put_mixed_hops};
 pub use cover::cover_text;
 pub use cuts::cuts_text;
 pub use event::{event_text, put_event};
+pub use fault::put_fault;
 pub use fields::put_cause;
 pub use hop::hops_text;
 pub use laws::{text_tells_mixed_route, text_tells_point_code, text_tells_route};
 pub use limits::too_long_text;
 pub use margin::{margin_text, points_lost};
+pub use mark::{put_destination, put_mark, put_marks};
+pub use node::{put_node, put_path};
 pub use plan_fault::plan_fault_text;
 pub use report::message_text;
 pub use role::{Due, Role, role_of};
@@ -64,4 +70,4 @@ pub use served::{put_served, served_text};
 pub use survey::survey_text;
 pub use text::Text;
 pub use values::put_point_code;
-pub use verdict::{accepted_text, verdict_text};
+pub use verdict::{accepted_text, put_kind, verdict_text};

@@ -3,7 +3,7 @@ ghost use Rattle.std.specs.Prelude.{◌≡◌, ◌++◌, [], OnOk};
 ghost use Rattle.std.specs.Option.{option_map_or};
 ghost use Rattle.watch_text.specs.Lines.{explained_words, verdict_words, packet_words, head, unanswered_line, line_text};
 
-use crate::put::{put_fault, put_node, put_number, put_point};
+use crate::put::{put_number, put_point};
 use crate::types::{
     put_connection_name, put_connection_word, put_management_word, put_status, put_unit_name,
 };
@@ -12,7 +12,7 @@ use plan_model::Plan;
 use relay_watch::{Event, Line, Unanswered, Verdict};
 use relay_ways::Explanation;
 use sccp_base::OutOfMemory;
-use sccp_report::Text;
+use sccp_report::{Text, put_fault, put_node};
 
 /// Appends which arrival explains the message, and in which ways.
 #[tactic(auto, unfolding(crate::specs::Lines::explained_words))]

@@ -3,10 +3,9 @@ ghost use Rattle.std.specs.Prelude.{◌≡◌, ◌++◌, OnOk};
 ghost use Rattle.watch_text.specs.Lines.{unit_types, connection_types, name_in, unit_name, connection_name, kind_word, status_words};
 ghost use Rattle.watch_text.specs.Lines.{connection_word, management_word};
 
-use crate::put::put_destination;
 use sccp_base::OutOfMemory;
 use sccp_manage::{StatusKind, StatusMessage};
-use sccp_report::Text;
+use sccp_report::{Text, put_destination};
 
 /// The name of the connectionless type with a code; nothing if none has it.
 fn unit_type(code: u8) -> &'static [u8]

@@ -5,11 +5,11 @@ ghost use Rattle.std.specs.Option.{option_map_or};
 ghost use Rattle.watch_text.specs.Ways.{or_mark, list_text, next_list, lists_text, condition_text, taken_text, cause_text, handling_text};
 ghost use Rattle.watch_text.specs.Ways.{way_text, or_way, ways_text, reason_words, why_words};
 
-use crate::put::{put_mark, put_marks, put_number};
+use crate::put::put_number;
 use relay_watch::Why;
 use relay_ways::{Condition, Explanation, Handling, Reason, Taken};
 use sccp_base::{List, Mark, OutOfMemory};
-use sccp_report::Text;
+use sccp_report::{Text, put_mark, put_marks};
 
 /// A mark after another one of its list.
 #[tactic(auto, unfolding(crate::specs::Ways::or_mark))]

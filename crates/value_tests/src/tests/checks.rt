@@ -8,18 +8,24 @@ use sccp_base::{Digits, List, Marking, Selector};
 use std::alloc::Global;
 use std::test::Fail;
 
+/// A spot of subsystem 6.
+fn spot(node: u8, digits: &str) -> Result<Spot, Fail> {
+    Ok(Spot {
+        node,
+        selector: Selector::new(4, 0, 1, 4).ok_or("a selector")?,
+        ssn: 6,
+        digits: Digits::parse(digits.as_bytes())?,
+    })
+}
+
 /// A class of subsystem 6.
 fn class(cover: u32, node: u8, known: &str, least: u8, most: u8) -> Result<Class, Fail> {
-    let selector = Selector::new(4, 0, 1, 4).ok_or("a selector")?;
-    let known = Digits::parse(known.as_bytes())?;
-    Ok(Class::new(cover, node, selector, 6, known, least, most).ok_or("a class")?)
+    Ok(Class::new(cover, &spot(node, known)?, least, most).ok_or("a class")?)
 }
 
 /// Whether these known digits and this number of further ones are a class.
 fn is_class(known: &str, least: u8, most: u8) -> Result<bool, Fail> {
-    let selector = Selector::new(4, 0, 1, 4).ok_or("a selector")?;
-    let known = Digits::parse(known.as_bytes())?;
-    Ok(Class::new(0, 0, selector, 6, known, least, most).is_some())
+    Ok(Class::new(0, &spot(0, known)?, least, most).is_some())
 }
 
 /// The titles of the plans' first cover.

@@ -1,7 +1,7 @@
 //! What a relay can send because of an arrival, over all markings.
 use super::plans::plan_of;
 use plan_model::Plan;
-use relay_ways::{Explanation, explain, is_alike, ways};
+use relay_ways::{Explanation, Incoming, explain, is_alike, ways};
 use sample_plans::BACKED;
 use sccp_base::{List, PointCode};
 use sccp_message::{Message, decode};
@@ -26,7 +26,13 @@ fn count_ways(alloc: Global, plan: &Plan, octets: &[u8]) -> Option<usize> {
     if plan.nodes().as_slice().is_empty() {
         return None;
     }
-    match ways(alloc, plan, 0, origin, octets) {
+    let at = Incoming {
+        plan,
+        node: 0,
+        origin,
+        octets,
+    };
+    match ways(alloc, &at) {
         Ok(found) => Some(found.as_slice().len()),
         Err(_) => None,
     }
@@ -69,7 +75,13 @@ fn sizes_of(
     if plan.nodes().as_slice().is_empty() {
         return None;
     }
-    match explain(alloc, plan, 0, origin, octets, to, sent) {
+    let at = Incoming {
+        plan,
+        node: 0,
+        origin,
+        octets,
+    };
+    match explain(alloc, &at, to, sent) {
         Ok(found) => sizes_of_only(&found),
         Err(_) => None,
     }

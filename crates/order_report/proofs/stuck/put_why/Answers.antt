@@ -1,16 +1,11 @@
-use Rattle.std.proofs.Common.{◌≡◌, ◌++◌, ◌∙◌, ℕ, List, OnOk, subst}
-use Rattle.order_report.specs.Orders.{broken_text}
-use Rattle.order_report.proofs.RetoldLemmas.{words_length, after_words}
+use Rattle.std.proofs.Common.{◌≤◌, List, length, sym, subst}
+use Rattle.plan_change.specs.declared.mixed_hop.MixedHop.{MixedHop}
+use Rattle.plan_change.specs.declared.turn.Turn.{Turn}
+use Rattle.order_report.specs.Orders.{HasTurns}
 use Rattle.order_report.proofs.stuck.put_why.Goals as goal
 
-pub put_refusal-requires : goal.put_refusal-requires
-put_refusal-requires c =
-    words_length c.as_slice-2.result.now (broken_text c.args.old.now c.args.why.now)
-    (c.as_slice-2.ensures ∙ c.in_ok-told.ensures ∙ c.in_ok-change.ensures.text)
-
-pub returns : goal.returns
-returns c =
-    subst (λ (rest : List ℕ). OnOk c.put_refusal.result (c.put_refusal.new.text ≡ c.args.text.now ++ rest))
-    (after_words c.as_slice-2.result.now (broken_text c.args.old.now c.args.why.now)
-    (c.as_slice-2.ensures ∙ c.in_ok-told.ensures ∙ c.in_ok-change.ensures.text))
-    c.put_refusal.ensures
+pub put_mixed_hops-requires : goal.put_mixed_hops-requires
+put_mixed_hops-requires c =
+    subst (λ (turns : List Turn). length c.as_slice.result.now ≤ length turns) (sym c.as_slice-in-Broken.ensures)
+    (subst (λ (hops : List MixedHop). length hops ≤ length c.in-Broken.turns) (sym c.as_slice.ensures)
+    (subst HasTurns c.in-Broken.is c.requires))

@@ -15,8 +15,8 @@ loop-count-preserved c =
     c.in_ok-add_with_key.ensures.all)
     c.loop-count.invariant
 
-pub returns : goal.returns
-returns c =
+pub returns-clause-near : goal.returns-clause-near
+returns-clause-near c =
     all_near c.args.cover.now c.args.order.now c.loop-count.places.items c.add_longer.new.places.items c.sort_unstable.new.self.items
     (λ n lt. c.loop-count.invariant n (omega (arith, lt, c.loop-count-test.false, c.len-count-end.ensures.value)))
     c.in_ok-add_longer.ensures.stay

@@ -1,6 +1,7 @@
 use Rattle.std.proofs.Common.{ℕ, ◌≡◌, ◌+◌, ◌<◌, ◌∙◌, Bor, List, Option, length, refl, sym, ap, subst, inl, arith, rules, true, false}
 use Rattle.std.proofs.lemmas.Bool.{false≢true}
 use Rattle.std.specs.Option.{option_copied}
+use Rattle.std.proofs.lemmas.Result.{IfOk-weaker}
 use Rattle.plan_rules.specs.Rule.{Rule}
 use Rattle.plan_model.specs.Steps.{marks as closing_marks}
 use Rattle.plan_model.specs.declared.hop.Step.TheVariants.{NoRow, Overgrown}
@@ -18,7 +19,7 @@ use Rattle.plan_margin.proofs.Passing.{opens_here}
 use Rattle.plan_margin.proofs.Sets.{lost_is_closed, taken_is_open, either_is_free, either_closes}
 use Rattle.plan_margin.proofs.Sets.{passes_more, passes_same, of_target_within, lost_set, up_set, lost_inner, up_inner, too_many}
 use Rattle.plan_margin.proofs.Measures.{few_free, less_free}
-use Rattle.plan_margin.proofs.Following.{ok_is, ok_map, no_row_stop, past_stop, target_stop, parts_more, parts_whole}
+use Rattle.plan_margin.proofs.Following.{ok_is, no_row_stop, past_stop, target_stop, parts_more, parts_whole}
 use Rattle.plan_margin.proofs.Following.{lost_found, up_found}
 use Rattle.plan_margin.proofs.Counted.{counts_none, counts_one, counts_parts, counts_row, counts_before, before_first, before_next}
 use Rattle.plan_margin.proofs.Counted.{counts_closed, counts_taken, counts_if_up, counts_if_lost, counts_up, counts_both, counts_onward}
@@ -159,7 +160,7 @@ follow_lost-returns-clause-found t c =
       up = c.in_ok-with_lost.ensures.up;
       ascending = c.in_ok-with_lost.ensures.ascending;
     } in
-    ok_map c.follow_row-found.result (λ f. IsFound c.args.plan.now c.args.class.now c.args.left more f)
+    IfOk-weaker c.follow_row-found.result (λ f. IsFound c.args.plan.now c.args.class.now c.args.left more f)
     (λ f. IsFoundIf c.args.plan.now c.args.class.now c.args.left c.args.set.now.most
     (IsInWith c.args.plan.now c.args.set.now c.args.mark.now true) f)
     (λ f h. lost_found c.args.plan.now c.args.class.now c.args.left c.args.mark.now c.args.set.now more f made h)
@@ -318,7 +319,7 @@ follow_up-returns-clause-found t c =
       lost = c.in_ok-with_up.ensures.lost;
       up = c.in_ok-with_up.ensures.up;
     } in
-    ok_map c.follow_row-found.result (λ f. IsFound c.args.plan.now c.args.class.now c.args.left more f)
+    IfOk-weaker c.follow_row-found.result (λ f. IsFound c.args.plan.now c.args.class.now c.args.left more f)
     (λ f. IsFoundIf c.args.plan.now c.args.class.now c.args.left c.args.set.now.most
     (IsInWith c.args.plan.now c.args.set.now c.args.mark.now false) f)
     (λ f h. up_found c.args.plan.now c.args.class.now c.args.left c.args.mark.now c.args.set.now more f made h)

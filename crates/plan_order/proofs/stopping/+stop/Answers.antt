@@ -1,9 +1,11 @@
 use Rattle.std.specs.Prelude.{ℕ, ◌≡◌, ◌++◌, ◌∷◌, [], List, Option}
 use Rattle.std.proofs.Common.{◌∙◌, sym, ap, subst, arith}
 use Rattle.plan_order.specs.declared.safe_step.SafeStep.{SafeStep}
-use Rattle.plan_order.specs.Steps.{AreSteps, IsStep}
+use Rattle.plan_order.specs.Sets.{AreStepSets}
+use Rattle.plan_order.specs.Steps.{AreSteps, IsStep, sets_of}
 use Rattle.plan_order.specs.Searching.{without, IsFirst}
 use Rattle.plan_order.proofs.Pushed.{steps_push, relays_push, relays_of}
+use Rattle.plan_order.proofs.Refusals.{sets_more}
 use Rattle.plan_order.proofs.Splitting.{split_to, fewer_to}
 use Rattle.plan_order.proofs.stopping.+stop.Goals as goal
 
@@ -29,8 +31,13 @@ stop_after-stop_at-requires t c =
               subst (AreSteps old new []) (sym pushed)
                   (steps_push old new [] c.args.steps c.args.step c.requires.steps
                   (subst (λ (s : List ℕ). IsStep old new s c.args.step) (sym c.requires.done) c.requires.step.safe)),
-              ap relays_of pushed ∙ relays_push c.args.steps c.args.step ∙ ap (λ (s : List ℕ). s ++ c.args.step.nodes) c.requires.done
-                  ∙ sym further,
+              (
+                ap relays_of pushed ∙ relays_push c.args.steps c.args.step ∙ ap (λ (s : List ℕ). s ++ c.args.step.nodes) c.requires.done
+                    ∙ sym further,
+                subst (λ (s : List SafeStep). AreStepSets (sets_of s)) (sym pushed)
+                    (sets_more old new c.args.done.now c.args.left.now c.args.steps c.args.step c.requires.split c.requires.done c.requires.step
+                    c.requires.sets),
+              ),
             ),
           ),
         ),

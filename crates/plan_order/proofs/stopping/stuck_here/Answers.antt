@@ -32,5 +32,5 @@ loop-node-preserved c =
 pub returns : goal.returns
 returns c =
     refusal_lawful c.args.plans.now.old.now c.args.plans.now.new.now c.args.done.now c.args.left.now c.args.steps c.loop-node.stuck
-    c.requires.none c.requires.split c.requires.steps c.requires.done c.loop-node.invariant.each
+    c.requires.none c.requires.split c.requires.steps c.requires.done c.requires.sets c.loop-node.invariant.each
     (c.loop-node.invariant.nodes ∙ take_all c.loop-node.node-index c.args.left.now c.loop-node-test.false)

@@ -1,12 +1,14 @@
 use Rattle.std.proofs.Common.{◌∙◌, subst, arith, rules, take_all}
 use Rattle.std.specs.List.{All}
+use Rattle.std.proofs.lemmas.Result.{on_ok_weaker}
 use Rattle.plan_classes.specs.Titles.{IsPart}
 use Rattle.plan_classes.proofs.Parting.{part_of}
 use Rattle.plan_unused.specs.Walks.{IsRankedBy, KeepsPlaces, Grows}
 use Rattle.plan_unused.specs.Meets.Meets.{Part}
-use Rattle.plan_unused.proofs.Growing.{Puts, grows_none, grows_on, ranks_grown, was_ranked, parts_grow, put_ranked, parts_ranked}
+use Rattle.plan_check.proofs.Orders.{Puts}
+use Rattle.plan_unused.proofs.Growing.{grows_none, grows_on, ranks_grown, was_ranked, parts_grow, put_ranked, parts_ranked}
 use Rattle.plan_unused.proofs.Meeting.{part_at}
-use Rattle.plan_unused.proofs.Noting.{on_ok, ok_both}
+use Rattle.plan_unused.proofs.Noting.{ok_both}
 use Rattle.plan_unused.proofs.entering.+enter.Goals as goal
 
 pub enter-returns-then-is_some-clause-grows : goal.enter-returns-then-is_some-clause-grows
@@ -69,6 +71,6 @@ enter_parts-returns-clause-grows t c =
 
 pub enter_parts-returns-clause-ranked : goal.enter_parts-returns-clause-ranked
 enter_parts-returns-clause-ranked t c =
-    on_ok c.rank.result (Puts c.loop-part.met c.rank.new.met c.args.class.now c.args.depth)
-    (IsRankedBy c.rank.new.met c.args.class.now c.args.depth)
+    on_ok_weaker {P = Puts c.loop-part.met c.rank.new.met c.args.class.now c.args.depth}
+    {Q = IsRankedBy c.rank.new.met c.args.class.now c.args.depth} c.rank.result
     (put_ranked c.loop-part.met c.rank.new.met c.args.class.now c.args.depth) c.rank.ensures.puts

@@ -1,6 +1,8 @@
+use Rattle.std.proofs.lemmas.Result.{on_ok_weaker}
 use Rattle.plan_unused.specs.Walks.{IsRankedBy, KeepsPlaces, Grows}
-use Rattle.plan_unused.proofs.Growing.{Puts, whole_grows, put_ranked}
-use Rattle.plan_unused.proofs.Noting.{on_ok, ok_both}
+use Rattle.plan_check.proofs.Orders.{Puts}
+use Rattle.plan_unused.proofs.Growing.{whole_grows, put_ranked}
+use Rattle.plan_unused.proofs.Noting.{ok_both}
 use Rattle.plan_unused.proofs.entering.enter_whole.Goals as goal
 
 pub returns-clause-grows : goal.returns-clause-grows
@@ -13,6 +15,6 @@ returns-clause-grows c =
 
 pub returns-clause-ranked : goal.returns-clause-ranked
 returns-clause-ranked c =
-    on_ok c.rank.result (Puts c.args.met.now c.rank.new.met c.args.class.now c.args.depth)
-    (IsRankedBy c.rank.new.met c.args.class.now c.args.depth)
+    on_ok_weaker {P = Puts c.args.met.now c.rank.new.met c.args.class.now c.args.depth}
+    {Q = IsRankedBy c.rank.new.met c.args.class.now c.args.depth} c.rank.result
     (put_ranked c.args.met.now c.rank.new.met c.args.class.now c.args.depth) c.rank.ensures.puts

@@ -1,7 +1,8 @@
 use Rattle.std.proofs.Common.{ℕ, sym, subst}
+use Rattle.std.proofs.lemmas.Result.{on_ok_weaker}
 use Rattle.plan_unused.specs.Uses.{UsesRelay, UsesRow}
 use Rattle.plan_unused.specs.Walks.{IsMore, IsFollowed, IsSettled}
-use Rattle.plan_unused.proofs.Noting.{uses_relay, uses_row, on_ok, ok_both}
+use Rattle.plan_unused.proofs.Noting.{uses_relay, uses_row, ok_both}
 use Rattle.plan_unused.proofs.Settling.{more_on, settled_row}
 use Rattle.plan_unused.proofs.looking.look_row.Goals as goal
 
@@ -18,7 +19,8 @@ note_row-requires-clause-uses c =
 
 pub returns-clause-more : goal.returns-clause-more
 returns-clause-more c =
-    on_ok c.look_targets.result (IsMore c.note_row.new.self c.look_targets.new.seen) (IsMore c.args.seen.now c.look_targets.new.seen)
+    on_ok_weaker {P = IsMore c.note_row.new.self c.look_targets.new.seen}
+    {Q = IsMore c.args.seen.now c.look_targets.new.seen} c.look_targets.result
     (λ more. more_on c.args.seen.now c.note_row.new.self c.look_targets.new.seen
     (more_on c.args.seen.now c.note_relay.new.self c.note_row.new.self c.in_ok-note_relay.ensures.more c.in_ok-note_row.ensures.more) more)
     c.look_targets.ensures.more

@@ -2,9 +2,10 @@ use Rattle.std.proofs.Common.{ℕ, ◌≤◌, ◌∙◌, length, ap, subst, sym,
 use Rattle.plan_model.specs.declared.limits.Limits.{Limits}
 use Rattle.plan_classes.specs.Classes.{Reachable}
 use Rattle.plan_check.proofs.Listed.{listed_once}
+use Rattle.plan_check.proofs.Orders.{puts_own}
 use Rattle.plan_verify.specs.declared.found.Found.{Found}
 use Rattle.plan_verify.specs.Searching.{IsFollowed}
-use Rattle.plan_verify.proofs.Keeping.{keeps_put, sound_put, own_rank}
+use Rattle.plan_verify.proofs.Keeping.{keeps_put, sound_put}
 use Rattle.plan_verify.proofs.search.settle.Goals as goal
 
 pub returns-then-len-limit-clause-sound : goal.returns-then-len-limit-clause-sound
@@ -22,7 +23,7 @@ pub returns-then-len-limit-clause-found : goal.returns-then-len-limit-clause-fou
 returns-then-len-limit-clause-found c =
     let found = subst (λ (f : Found). IsFollowed c.args.plan.now c.args.class.now c.args.depth c.args.ranks.now f) c.in-Rank.is
     c.requires.found in
-    (own_rank _ _ c.args.class.now c.in-Rank.rank (c.in_ok-other-in-Rank.ensures.new c.in-None.is), found.1)
+    (puts_own _ _ c.args.class.now c.in-Rank.rank (c.in_ok-other-in-Rank.ensures.new c.in-None.is), found.1)
 
 pub returns-else-len-limit-clause-sound : goal.returns-else-len-limit-clause-sound
 returns-else-len-limit-clause-sound c =

@@ -11,7 +11,8 @@ pub returns-in-Some : goal.returns-in-Some
 returns-in-Some c = record {
   why = NoArrival;
   is = sym (ap (λ (o : Option Verdict). unwrap_or o (Unexplained NoArrival)) c.in-Some.is) ∙ c.of_another.ensures.value NoArrival;
-  says = known_says c.args.plan.now c.args.waiting.now c.args.answered.now c.args.node c.args.to c.args.message.now c.in-Some.verdict
+  says = known_says c.args.sent.now.plan.now c.args.waiting.now c.args.answered.now c.args.sent.now.node c.args.sent.now.to
+      c.args.sent.now.message.now c.in-Some.verdict
       (subst (λ (o : Option Verdict). IfSome o (λ v. is_unexplained v ≡ false)) c.in-Some.is c.of_another.ensures.known);
 }
 

@@ -5,4 +5,4 @@ use Rattle.relay_watch.proofs.whys.again.Given as goal
 
 -- because of the arrivals so far the relay does not send the message
 abbrev pub invariant-loop-one : goal.invariant-loop-one
-invariant-loop-one l = All (IsNoAnswered l.plan l.node l.to l.sent) (take l.one-index l.answered)
+invariant-loop-one l = All (IsNoAnswered l.sent.plan.now l.sent.node l.sent.to l.sent.message.now) (take l.one-index l.answered)

@@ -7,4 +7,4 @@ use Rattle.relay_ways.proofs.all_ways.add_all_ways.Given as goal
 -- the ways of the outcomes so far are added
 abbrev pub invariant-loop-outcome : goal.invariant-loop-outcome
 invariant-loop-outcome l = AddsWays l.fn.found l.found
-    (flat_map (possible_ways l.plan l.node) (take l.outcome-index (outcomes l.plan l.node l.origin l.octets)))
+    (flat_map (possible_ways l.at.plan.now l.at.node) (take l.outcome-index (outcomes l.at.plan.now l.at.node l.at.origin l.at.octets.now)))

@@ -1,6 +1,7 @@
-use Rattle.std.proofs.Common.{◌≡◌, ◌∙◌, sym, length, arith}
+use Rattle.std.proofs.Common.{◌≡◌, ◌∙◌, ap, sym, length, arith}
 use Rattle.std.specs.List.{flat_map}
 use Rattle.sccp_scrc.specs.Arriving.{point_of}
+use Rattle.relay_ways.specs.Conditions.{both}
 use Rattle.relay_ways.specs.Outcomes.{outcomes}
 use Rattle.relay_ways.specs.Ways.{forwarded_way, possible}
 use Rattle.relay_ways.proofs.Adding.{adds_next, adds_all, adds_same, each_among, possible_flat}
@@ -13,7 +14,8 @@ loop-outcome-preserved c =
     c.as_slice-outcome-items.result.now c.loop-outcome.outcome-index c.outcome-item.result c.args.found.now c.loop-outcome.found
     c.add_forwarded.new.found (c.as_slice-outcome-items.ensures ∙ c.in_ok-outcomes.ensures (point_of c.args.plan.now c.args.node))
     c.loop-outcome-test.true c.outcome-item.is c.loop-outcome.invariant
-    (λ o same at. c.in_ok-add_forwarded.ensures o same
+    (λ o same at. c.in_ok-add_forwarded.ensures c.args.condition.now o
+    (c.in_ok-combined.ensures ∙ ap (both c.args.condition.now) (sym same))
     (each_among c.args.plan.now c.args.node (point_of c.args.plan.now c.args.node) c.args.octets.now o at))
 
 pub returns : goal.returns

@@ -1,4 +1,4 @@
-use Rattle.std.proofs.Common.{Some, None, List, [], subst}
+use Rattle.std.proofs.Common.{Some, None, List, [], refl, subst}
 use Rattle.std.specs.Prelude.{OnOk}
 use Rattle.relay_ways.specs.Ways.{AddsWays, forwarded_way, possible}
 use Rattle.relay_ways.specs.declared.way.Way.{Way}
@@ -7,19 +7,19 @@ use Rattle.relay_ways.proofs.all_ways.add_forwarded.Goals as goal
 
 pub add_way-requires : goal.add_way-requires
 add_way-requires c =
-    possible_of c.args.plan.now c.args.node c.args.octets.now c.in_ok-combined.combined c.in_ok-sending.field-0 c.in-Some.sending
+    possible_of c.args.plan.now c.args.node c.args.octets.now c.args.combined c.in_ok-sending.field-0 c.in-Some.sending
     c.in_ok-sending.ensures c.in-Some.is
 
 pub returns-in-Some : goal.returns-in-Some
-returns-in-Some c o same becomes =
+returns-in-Some c k o joined becomes =
     subst (λ (xs : List Way). OnOk c.add_way.result (AddsWays c.args.found.now c.add_way.new.found xs))
-    (forwarded_as c.args.plan.now c.args.node c.args.octets.now c.args.condition.now c.args.outcome.now c.in_ok-combined.combined o
-    c.in_ok-sending.field-0 (Some c.in-Some.sending) same becomes c.in_ok-combined.ensures c.in_ok-sending.ensures c.in-Some.is)
+    (forwarded_as c.args.plan.now c.args.node c.args.octets.now k o.condition c.args.combined o
+    c.in_ok-sending.field-0 (Some c.in-Some.sending) refl becomes joined c.in_ok-sending.ensures c.in-Some.is)
     c.add_way.ensures
 
 pub returns-in-None : goal.returns-in-None
-returns-in-None c o same becomes =
-    adds_same c.args.found.now c.args.found.now [] (possible (forwarded_way c.args.condition.now o))
-    (forwarded_as c.args.plan.now c.args.node c.args.octets.now c.args.condition.now c.args.outcome.now c.in_ok-combined.combined o
-    c.in_ok-sending.field-0 None same becomes c.in_ok-combined.ensures c.in_ok-sending.ensures c.in-None.is)
+returns-in-None c k o joined becomes =
+    adds_same c.args.found.now c.args.found.now [] (possible (forwarded_way k o))
+    (forwarded_as c.args.plan.now c.args.node c.args.octets.now k o.condition c.args.combined o
+    c.in_ok-sending.field-0 None refl becomes joined c.in_ok-sending.ensures c.in-None.is)
     (adds_nothing c.args.found.now)

@@ -8,15 +8,15 @@ use Rattle.relay_ways.proofs.all_ways.ways.Goals as goal
 
 pub returns-clause-are : goal.returns-clause-are
 returns-clause-are c =
-    let same : c.add_all_ways.new.found ≡ ways c.args.plan.now c.args.node c.args.origin c.args.octets.now =
+    let same : c.add_all_ways.new.found ≡ ways c.args.at.now.plan.now c.args.at.now.node c.args.at.now.origin c.args.at.now.octets.now =
     c.in_ok-add_all_ways.ensures.added
-    ∙ ap (λ xs. xs ++ ways c.args.plan.now c.args.node c.args.origin c.args.octets.now) c.new-found.ensures in
-    subst (λ (xs : List Way). AreWays c.args.plan.now c.args.node c.args.origin c.args.octets.now xs) (sym same)
-    (ways_are c.args.plan.now c.args.node c.args.origin c.args.octets.now c.nodes-nodes.ensures.sound c.requires)
+    ∙ ap (λ xs. xs ++ ways c.args.at.now.plan.now c.args.at.now.node c.args.at.now.origin c.args.at.now.octets.now) c.new-found.ensures in
+    subst (λ (xs : List Way). AreWays c.args.at.now.plan.now c.args.at.now.node c.args.at.now.origin c.args.at.now.octets.now xs) (sym same)
+    (ways_are c.args.at.now.plan.now c.args.at.now.node c.args.at.now.origin c.args.at.now.octets.now c.nodes-nodes.ensures.sound c.args.at.now.inside)
 
 pub returns-clause-possible : goal.returns-clause-possible
 returns-clause-possible c =
-    let same : c.add_all_ways.new.found ≡ ways c.args.plan.now c.args.node c.args.origin c.args.octets.now =
+    let same : c.add_all_ways.new.found ≡ ways c.args.at.now.plan.now c.args.at.now.node c.args.at.now.origin c.args.at.now.octets.now =
     c.in_ok-add_all_ways.ensures.added
-    ∙ ap (λ xs. xs ++ ways c.args.plan.now c.args.node c.args.origin c.args.octets.now) c.new-found.ensures in
+    ∙ ap (λ xs. xs ++ ways c.args.at.now.plan.now c.args.at.now.node c.args.at.now.origin c.args.at.now.octets.now) c.new-found.ensures in
     subst (λ (xs : List Way). All (λ w. IsPossible w.condition) xs) (sym same) c.in_ok-add_all_ways.ensures.possible_each

@@ -9,6 +9,6 @@ use Rattle.relay_ways.proofs.returning.add_returned.Goals as goal
 pub returns : goal.returns
 returns c m marks reads =
     subst (λ (s : Option Service). OnOk c.add_served_if_any.result (c.add_served_if_any.new.found ≡ c.args.found.now
-    ++ candidates_of c.args.plan.now c.args.node (Returned c.args.cause marks s)))
-    (c.in_ok-service.ensures ∙ ap (service_for [] c.args.origin c.args.cause) (c.in_ok-message.ensures m reads))
+    ++ candidates_of c.args.at.now.plan.now c.args.at.now.node (Returned c.args.cause marks s)))
+    (c.in_ok-service.ensures ∙ ap (service_for [] c.args.at.now.origin c.args.cause) (c.in_ok-message.ensures m reads))
     (c.add_served_if_any.ensures marks)

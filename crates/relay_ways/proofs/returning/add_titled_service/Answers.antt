@@ -13,9 +13,9 @@ use Rattle.relay_ways.proofs.returning.add_titled_service.Goals as goal
 pub returns-in-Some : goal.returns-in-Some
 returns-in-Some c m reads =
     subst (λ (o : Option Spot). OnOk c.add_service_steps.result (c.add_service_steps.new.found ≡ c.args.found.now
-    ++ flat_map (outcome_going_on (Some c.args.cause))
-    (titled c.args.plan.now c.args.node (point_of c.args.plan.now c.args.node) m c.args.address.now o)))
+    ++ flat_map (outcome_going_on (Some c.args.service.now.cause))
+    (titled c.args.service.now.plan.now c.args.service.now.node (point_of c.args.service.now.plan.now c.args.service.now.node) m c.args.address.now o)))
     (sym c.in-Some.is ∙ c.spot.ensures.value)
     (subst (λ (xs : List Candidate). OnOk c.add_service_steps.result (c.add_service_steps.new.found ≡ c.args.found.now ++ xs))
-    (titled_going_on c.args.plan.now c.args.node c.args.cause m c.args.address.now (turns_of c.args.plan.now c.in-Some.spot))
+    (titled_going_on c.args.service.now.plan.now c.args.service.now.node c.args.service.now.cause m c.args.address.now (turns_of c.args.service.now.plan.now c.in-Some.spot))
     (c.add_service_steps.ensures m reads))
