@@ -1,5 +1,6 @@
 -- What the text of a connection says.
-use Rattle.std.specs.Prelude.{◌≡◌, ◌==◌, ◌<◌, ◌≤◌, ◌^◌, ℕ, true, false, cond, List, [], ◌∷◌, ◌++◌, length, Option, Some, None, is_some, slice_get}
+use Rattle.std.specs.Prelude.{◌≡◌, ◌==◌, ◌<◌, ◌≤◌, ◌^◌, ℕ, true, false, cond, List, [], ◌∷◌, ◌++◌, length, Option, Some, None, is_some}
+use Rattle.std.specs.Prelude.{slice_get}
 use Rattle.std.specs.Prelude.{IfSome, refl}
 use Rattle.std.specs.List.{position}
 use Rattle.std.specs.Io.KnownBytes.{append_known}
@@ -45,9 +46,11 @@ unfolding outcome_text
 outcome_told octets Unsettled h = absurd h
 outcome_told octets Unanswered h = absurd h
 outcome_told octets (refused cause) h = is_refused cause refl
-outcome_told octets (Opened names far through) h = is_open names far (ap (λ (t : Option Through). opened_line names far ++ through_lines t) h)
+outcome_told octets (Opened names far through) h = is_open names far
+    (ap (λ (t : Option Through). opened_line names far ++ through_lines t) h)
 
-reached_told : (plan : Network) (spot : Spot) (most : ℕ) (octets : List ℕ) (o : Outcome) → IsAnswered octets o → ReachesPlace plan spot most o
+reached_told : (plan : Network) (spot : Spot) (most : ℕ) (octets : List ℕ) (o : Outcome) → IsAnswered octets o
+    → ReachesPlace plan spot most o
     → TellsReached plan spot most octets (outcome_text o)
 unfolding outcome_text
 reached_told plan spot most octets Unsettled h r = absurd h
@@ -78,7 +81,8 @@ is_call plan node calling called named outer =
     ssn_small ssn lt = elim (ssn == 0) as (λ b. IfSome (cond b None (Some ssn)) (λ n. n < 256)) [ true ↦ tt | false ↦ lt ]
 
 call_told : (plan : Network) (bound node : ℕ) (calling : Calling) → IsPlan plan → IsSafeFor plan bound → IsCalled calling
-    → length calling.octets ≤ 2 ^ 56 → position (has_name calling.start.node) plan.nodes ≡ Some node → position (has_point calling.from) plan.nodes ≡ None
+    → length calling.octets ≤ 2 ^ 56 → position (has_name calling.start.node) plan.nodes ≡ Some node
+    → position (has_point calling.from) plan.nodes ≡ None
     → TellsCall plan bound node calling (connect_text plan calling)
 call_told plan bound node calling plan_is safe called few named outer =
     let call : Call = call_of plan node calling in
@@ -114,7 +118,8 @@ done_text contents plan line s text h done = by h.0 h.1.1 h.2 where
       absurd (let z : TooWide ≡ Done = sym t.0 ∙ done in cc)
 
 plan_told : (contents : Option Contents) (file : PlanFile) (calling : Calling) (s : Status) (text : List ℕ) (taken taken' : Option (List ℕ))
-    → IsCalled calling → taken' ≡ append_known taken text → PlanEnds contents file (λ plan end. end ≡ Done → IsDone plan (connect_text plan calling) text) s
+    → IsCalled calling → taken' ≡ append_known taken text
+    → PlanEnds contents file (λ plan end. end ≡ Done → IsDone plan (connect_text plan calling) text) s
     → ConnectTells contents file calling s taken taken'
 plan_told contents file calling TooLong text taken taken' called is (long h) = λ done. absurd (let z : TooLong ≡ Done = done in cc)
 plan_told contents file calling BadPlan text taken taken' called is (bad h) = λ done. absurd (let z : BadPlan ≡ Done = done in cc)
@@ -139,8 +144,10 @@ plan_told contents file calling s text taken taken' called is (good h) = λ done
       ),
     )
 
-pub connect_told : (contents : Option Contents) (file : PlanFile) (calling : Calling) (s : Status) (text : List ℕ) (taken taken' : Option (List ℕ))
-    → IsCalled calling → taken' ≡ append_known taken text → Ends contents (connect_work file calling) s text → ConnectTells contents file calling s taken taken'
+pub connect_told : (contents : Option Contents) (file : PlanFile) (calling : Calling) (s : Status) (text : List ℕ)
+    (taken taken' : Option (List ℕ))
+    → IsCalled calling → taken' ≡ append_known taken text → Ends contents (connect_work file calling) s text
+    → ConnectTells contents file calling s taken taken'
 connect_told contents file calling s text taken taken' called is h =
     plan_told contents file calling s text taken taken' called is
     (Ends-with_plan (λ plan end. end ≡ Done → IsDone plan (connect_text plan calling) text) contents file (connect_judged calling) s text

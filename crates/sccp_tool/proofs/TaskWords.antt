@@ -1,5 +1,6 @@
 -- What the words of a command give, so far as what its text says rests on it.
-use Rattle.std.specs.Prelude.{◌≡◌, ◌<◌, ◌≤◌, ℕ, ◌%◌, ◌==◌, ◌&&◌, nat_le, nat_lt, Bool, true, false, cond, codes, List, [], ◌∷◌, length, Option, Some, None}
+use Rattle.std.specs.Prelude.{◌≡◌, ◌<◌, ◌≤◌, ℕ, ◌%◌, ◌==◌, ◌&&◌, nat_le, nat_lt, Bool, true, false, cond, codes, List, [], ◌∷◌, length}
+use Rattle.std.specs.Prelude.{Option, Some, None}
 use Rattle.std.specs.Prelude.{refl, option_and_then, option_map}
 use Rattle.std.specs.List.{AllByRecursion}
 use Rattle.std.specs.Str.{bytes_eq}
@@ -85,7 +86,8 @@ record IsStart (start : Start) : Type 0 where
   pub each : AllByRecursion (λ d. d < 16) start.digits
   pub ssn : start.ssn < 256
 
-start_is : (name : List ℕ) (s : Numbers) (n : ℕ) (d word digits ssn : List ℕ) (start : Start) → selector_of word ≡ Some s → ssn_of ssn ≡ Some n
+start_is : (name : List ℕ) (s : Numbers) (n : ℕ) (d word digits ssn : List ℕ) (start : Start) → selector_of word ≡ Some s
+    → ssn_of ssn ≡ Some n
     → title_digits digits ≡ Some d → Some (record { node = name; selector = s; ssn = n; digits = d }) ≡ Some start → IsStart start
 start_is name s n d word digits ssn start selected numbered spelled e =
     let read = are_digits (digits_word digits) d (is_ok (digits_of (digits_word digits)) d spelled) in
@@ -107,10 +109,13 @@ start_given node selector ssn digits start e = option_and_then_some by_name (nam
   where
     by_digits : List ℕ → Numbers → ℕ → List ℕ → Option Start
     by_digits name s n d = Some (record { node = name; selector = s; ssn = n; digits = d })
+
     by_ssn : List ℕ → Numbers → ℕ → Option Start
     by_ssn name s n = option_and_then (by_digits name s n) (title_digits digits)
+
     by_selector : List ℕ → Numbers → Option Start
     by_selector name s = option_and_then (by_ssn name s) (ssn_of ssn)
+
     by_name : List ℕ → Option Start
     by_name name = option_and_then (by_selector name) (selector_of selector)
 
@@ -138,12 +143,16 @@ calling_given node from selector ssn digits octets calling e = option_and_then_s
   where
     joined : Start → ℕ → List ℕ → Calling
     joined start pc b = record { start = start; from = pc; octets = b }
+
     by_point : Start → ℕ → Option Calling
     by_point start pc = option_map (joined start pc) (hex_word octets)
+
     by_start : Start → Option Calling
     by_start start = option_and_then (by_point start) (point_code_of from)
+
     by_title : Start → Option Calling
     by_title title = option_and_then by_start (said title)
+
     called : (start : Start) (pc : ℕ) (o : Option (List ℕ)) → option_map (joined start pc) o ≡ Some calling
         → IsTitle (Global start.selector start.digits) × (start.ssn < 256) → IsCalled calling
     called start pc None h has = absurd cc
@@ -176,12 +185,16 @@ incoming_given node origin size digits i e = option_and_then_some by_name (name_
   where
     joined : List ℕ → ℕ → ℕ → List ℕ → Incoming
     joined name pc n b = record { node = name; origin = pc; size = n; octets = b }
+
     by_octets : List ℕ → ℕ → ℕ → List ℕ → Option Incoming
     by_octets name pc n b = Some (joined name pc n b)
+
     by_size : List ℕ → ℕ → ℕ → Option Incoming
     by_size name pc n = option_and_then (by_octets name pc n) (hex_word digits)
+
     by_point : List ℕ → ℕ → Option Incoming
     by_point name pc = option_and_then (by_size name pc) (size_of size)
+
     by_name : List ℕ → Option Incoming
     by_name name = option_and_then (by_point name) (point_code_of origin)
 
@@ -239,7 +252,8 @@ unused_given limits words = tt
 
 with_given : (limits : Limits) (kinds : LossKinds) (name losses : List ℕ) → IsOfWords (margin_with limits kinds name losses)
 unfolding margin_with
-with_given limits kinds name losses = chosen _ (file_name name) (λ n is. mapped (λ l. Margin (plan_file n limits) l) (limit_in kinds losses) (λ l e. tt))
+with_given limits kinds name losses = chosen _ (file_name name)
+    (λ n is. mapped (λ l. Margin (plan_file n limits) l) (limit_in kinds losses) (λ l e. tt))
 
 margin_given : (limits : Limits) (words : List (List ℕ)) → IsOfWords (margin_words limits words)
 unfolding margin_words margin_of_kinds
@@ -253,12 +267,14 @@ margin_given limits (name ∷ losses ∷ kinds ∷ more ∷ words) = tt
 
 change_given : (limits : Limits) (words : List (List ℕ)) → IsOfWords (change_words limits words)
 unfolding change_words change_of
-change_given limits (old ∷ new ∷ []) = chosen _ (file_name old) (λ o is. mapped (λ n. Change (plan_file o limits) (plan_file n limits)) (file_name new) (λ n e. tt))
+change_given limits (old ∷ new ∷ []) = chosen _ (file_name old)
+    (λ o is. mapped (λ n. Change (plan_file o limits) (plan_file n limits)) (file_name new) (λ n e. tt))
 change_given limits words = tt
 
 order_given : (limits : Limits) (words : List (List ℕ)) → IsOfWords (order_words limits words)
 unfolding order_words order_of
-order_given limits (old ∷ new ∷ []) = chosen _ (file_name old) (λ o is. mapped (λ n. Order (plan_file o limits) (plan_file n limits)) (file_name new) (λ n e. tt))
+order_given limits (old ∷ new ∷ []) = chosen _ (file_name old)
+    (λ o is. mapped (λ n. Order (plan_file o limits) (plan_file n limits)) (file_name new) (λ n e. tt))
 order_given limits words = tt
 
 route_given : (limits : Limits) (words : List (List ℕ)) → IsOfWords (route_words limits words)
@@ -275,17 +291,20 @@ replay_given limits words = tt
 
 import_given : (limits : Limits) (words : List (List ℕ)) → IsOfWords (import_words limits words)
 unfolding import_words import_of
-import_given limits (plan ∷ file ∷ []) = chosen _ (file_name plan) (λ p is. mapped (Import (plan_file p limits)) (file_name file) (λ f e. tt))
+import_given limits (plan ∷ file ∷ []) = chosen _ (file_name plan)
+    (λ p is. mapped (Import (plan_file p limits)) (file_name file) (λ f e. tt))
 import_given limits words = tt
 
 capture_given : (limits : Limits) (words : List (List ℕ)) → IsOfWords (capture_words limits words)
 unfolding capture_words capture_of
-capture_given limits (plan ∷ file ∷ []) = chosen _ (file_name plan) (λ p is. mapped (Capture (plan_file p limits)) (file_name file) (λ f e. tt))
+capture_given limits (plan ∷ file ∷ []) = chosen _ (file_name plan)
+    (λ p is. mapped (Capture (plan_file p limits)) (file_name file) (λ f e. tt))
 capture_given limits words = tt
 
 conform_given : (limits : Limits) (words : List (List ℕ)) → IsOfWords (conform_words limits words)
 unfolding conform_words conform_of
-conform_given limits (plan ∷ file ∷ []) = chosen _ (file_name plan) (λ p is. mapped (Conform (plan_file p limits)) (file_name file) (λ f e. tt))
+conform_given limits (plan ∷ file ∷ []) = chosen _ (file_name plan)
+    (λ p is. mapped (Conform (plan_file p limits)) (file_name file) (λ f e. tt))
 conform_given limits words = tt
 
 -- ---- the commands by their names
@@ -326,4 +345,5 @@ wide_given (name ∷ words) = plan_given wide name words
 -- the task of any words
 pub of_words : (words : List (List ℕ)) → IsOfWords (task_of words)
 of_words [] = tt
-of_words (name ∷ words) = by_test (bytes_eq name (codes "wide")) (wide_of words) (command_of name words) (wide_given words) (command_given name words)
+of_words (name ∷ words) = by_test (bytes_eq name (codes "wide")) (wide_of words) (command_of name words) (wide_given words)
+    (command_given name words)

@@ -1,5 +1,6 @@
 -- What the words of a title and of octets give.
-use Rattle.std.specs.Prelude.{◌≡◌, ◌⊎◌, ◌<◌, ◌≤◌, ℕ, ◌+◌, ◌-◌, ◌*◌, ◌%◌, ◌==◌, ◌&&◌, nat_lt, nat_le, Bool, true, false, cond, List, [], ◌∷◌, length}
+use Rattle.std.specs.Prelude.{◌≡◌, ◌⊎◌, ◌<◌, ◌≤◌, ℕ, ◌+◌, ◌-◌, ◌*◌, ◌%◌, ◌==◌, ◌&&◌, nat_lt, nat_le, Bool, true, false, cond, List, [], ◌∷◌}
+use Rattle.std.specs.Prelude.{length}
 use Rattle.std.specs.Prelude.{slice_index, Option, Some, None, Result, Ok, Err, refl, option_and_then}
 use Rattle.std.specs.List.{AllByRecursion, range_with_len}
 use Rattle.std.specs.Option.{ok_or}
@@ -74,13 +75,15 @@ is_translation text s e = option_and_then_some (λ t. selected (numbers 2 t 0 0)
 
 is_plan : (text : List ℕ) (s : Numbers) → plan_of text ≡ Some s → IsSelector s
 is_plan text s e = option_and_then_some
-    (λ parts. option_and_then (λ t. option_and_then (λ p. selected (numbers 3 t p 0)) (byte_of parts.1)) (byte_of parts.0)) (cut_at 58 text) s e
+    (λ parts. option_and_then (λ t. option_and_then (λ p. selected (numbers 3 t p 0)) (byte_of parts.1)) (byte_of parts.0))
+    (cut_at 58 text) s e
     (λ parts cut f. option_and_then_some (λ t. option_and_then (λ p. selected (numbers 3 t p 0)) (byte_of parts.1)) (byte_of parts.0) s f
     (λ t is g. option_and_then_some (λ p. selected (numbers 3 t p 0)) (byte_of parts.1) s g
     (λ p also passed. is_selected 3 t p 0 s (inr (inr (inl (refl, refl)))) (is_byte parts.0 t is) passed)))
 
 is_full : (text : List ℕ) (s : Numbers) → full_of text ≡ Some s → IsSelector s
-is_full text s e = option_and_then_some (λ first. option_and_then (λ second. numbered first second) (cut_at 58 first.1)) (cut_at 58 text) s e
+is_full text s e = option_and_then_some (λ first. option_and_then (λ second. numbered first second) (cut_at 58 first.1))
+    (cut_at 58 text) s e
     (λ first cut f. option_and_then_some (λ second. numbered first second) (cut_at 58 first.1) s f
     (λ second twice g. option_and_then_some (λ t. with_translation t second) (byte_of first.0) s g
     (λ t is h. option_and_then_some (λ p. with_plan t p second) (byte_of second.0) s h
@@ -89,14 +92,17 @@ is_full text s e = option_and_then_some (λ first. option_and_then (λ second. n
   where
     with_plan : ℕ → ℕ → List ℕ × List ℕ → Option Numbers
     with_plan t p second = option_and_then (λ n. selected (numbers 4 t p n)) (byte_of second.1)
+
     with_translation : ℕ → List ℕ × List ℕ → Option Numbers
     with_translation t second = option_and_then (λ p. with_plan t p second) (byte_of second.0)
+
     numbered : List ℕ × List ℕ → List ℕ × List ℕ → Option Numbers
     numbered first second = option_and_then (λ t. with_translation t second) (byte_of first.0)
 
 by_kind : (kind : ℕ) (rest : List ℕ) (s : Numbers) → selector_by (kind ∷ []) rest ≡ Some s → IsSelector s
 by_kind kind rest s e = one (kind == 49) (kind == 50) (kind == 51) (kind == 52) e where
-  one : (a b c d : Bool) → cond a (nature_of rest) (cond b (translation_of rest) (cond c (plan_of rest) (cond d (full_of rest) None))) ≡ Some s
+  one : (a b c d : Bool) → cond a (nature_of rest) (cond b (translation_of rest) (cond c (plan_of rest) (cond d (full_of rest) None)))
+      ≡ Some s
       → IsSelector s
   one true b c d e = is_nature rest s e
   one false true c d e = is_translation rest s e
@@ -210,6 +216,7 @@ are_octets (digit ∷ digits) octets e =
     let d = is_ok (decode_of (digit ∷ digits)) octets e in
     each_octet 0 (digit ∷ digits) octets (even (length (digit ∷ digits) % 2 == 1) d)
   where
-    even : (odd : Bool) → cond odd (Err OddLength) (decode_pairs 0 (digit ∷ digits)) ≡ Ok octets → decode_pairs 0 (digit ∷ digits) ≡ Ok octets
+    even : (odd : Bool) → cond odd (Err OddLength) (decode_pairs 0 (digit ∷ digits)) ≡ Ok octets
+        → decode_pairs 0 (digit ∷ digits) ≡ Ok octets
     even true f = absurd cc
     even false f = f

@@ -39,7 +39,8 @@ fold_one : {A B : Type 0} (f : B → A → B) (b : B) (xs : List A) (x : A) → 
 fold_one f b [] x = refl
 fold_one f b (y ∷ ys) x = fold_one f (f b y) ys x
 
-counts_one : (plan : Network) (before lines : List Numbered) (line : Numbered) (c : Counts) → counts_after plan before (lines ++ line ∷ []) c
+counts_one : (plan : Network) (before lines : List Numbered) (line : Numbered) (c : Counts)
+    → counts_after plan before (lines ++ line ∷ []) c
     ≡ counted_role plan (before ++ lines) (role_of plan line.line) (counts_after plan before lines c)
 counts_one plan before [] line c = ap (λ b. counted_role plan b (role_of plan line.line) c) (sym (append-nil before))
 counts_one plan before (l ∷ lines) line c =
@@ -48,7 +49,8 @@ counts_one plan before (l ∷ lines) line c =
 
 -- by the role of a line its counts and what is held after it
 managers_with : (plan : Network) (line : Line) (lines : List Numbered) (role : Role) (managers : List Management)
-    → managers_after plan lines ≡ managers → role_of plan line ≡ role → managers_after plan (with_line line lines) ≡ after_role managers role
+    → managers_after plan lines ≡ managers → role_of plan line ≡ role
+    → managers_after plan (with_line line lines) ≡ after_role managers role
 managers_with plan line lines role managers held is =
     fold_one (after_line plan) (managers_of (first_states plan)) lines (record { number = length lines + 1; line = line })
     ∙ ap (λ r. after_role (managers_after plan lines) r) is ∙ ap (λ ms. after_role ms role) held
@@ -112,7 +114,8 @@ turn_role number node pc true lt =
 turn_role number node pc false lt =
     ap (λ o. alone (option_map (λ k. due k (Managed (events.Pause pc))) o)) (named_is number node lt)
 
-made_role : (i x : ℕ) → role_of_message (incoming 0 origin (made_octets i x)) (reading (made_octets i x)) ≡ routed (incoming 0 origin (made_octets i x))
+made_role : (i x : ℕ) → role_of_message (incoming 0 origin (made_octets i x)) (reading (made_octets i x))
+    ≡ routed (incoming 0 origin (made_octets i x))
 unfolding made_octets digits address_of parts_by message_in
 made_role i x = refl
 
@@ -139,7 +142,8 @@ turn_held number states lines node pc lt held =
     ap (λ b. role_of (load_plan number) (line_by b node pc)) same
     ∙ turn_role number node pc (holds (held_at (markings_of states) node) (PointCode pc)) lt
 
-turned_follows : (number value : ℕ) (states : List State) (lines : List Numbered) → managers_after (load_plan number) lines ≡ managers_of states
+turned_follows : (number value : ℕ) (states : List State) (lines : List Numbered)
+    → managers_after (load_plan number) lines ≡ managers_of states
     → (managers_after (load_plan number) (with_turn (load_plan number) value lines) ≡ managers_of (turned (load_plan number) states value))
     × (replay_counts (load_plan number) (with_turn (load_plan number) value lines) ≡ replay_counts (load_plan number) lines)
 turned_follows number value states lines held =
@@ -157,6 +161,7 @@ follow_turn : (number i : ℕ) (l : Load) (m : Made) → Follows (load_plan numb
 follow_turn number i l m f = by (i % 64 == 63) where
   plan : Network
   plan = load_plan number
+
   by : (due : Bool) → Follows plan (cond due (record l { at = after l.at; states = turned plan l.states (drawn l.at) }) l)
       (cond due (record { at = after m.at; lines = with_turn plan (drawn m.at) m.lines }) m)
   by true =

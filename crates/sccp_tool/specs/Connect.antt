@@ -1,5 +1,6 @@
 -- The command that makes one connection over the relays of a plan.
-use Rattle.std.specs.Prelude.{◌≡◌, ◌≤◌, ◌^◌, ℕ, ◌==◌, ◌&&◌, ◌%◌, Bool, List, [], ◌∷◌, ◌++◌, codes, length, Option, Some, None, is_some, option_and_then}
+use Rattle.std.specs.Prelude.{◌≡◌, ◌≤◌, ◌^◌, ℕ, ◌==◌, ◌&&◌, ◌%◌, Bool, List, [], ◌∷◌, ◌++◌, codes, length, Option, Some, None, is_some}
+use Rattle.std.specs.Prelude.{option_and_then}
 use Rattle.std.specs.Prelude.{option_map, if◌then◌else◌}
 use Rattle.std.specs.List.{flat_map, position}
 use Rattle.std.specs.Io.KnownBytes.{append_known}
