@@ -126,14 +126,8 @@ one-more o seen place f more given after is short c e =
     let size : ℕ = 12 + length (block_body o f) in
     let long : length (framed_octets o f) ≡ size = length-block o (block_kind f) (block_body o f) in
     let places : place + size + (length more - length c.rest) ≡ place + (length (framed_octets o f ++ more) - length c.rest) =
-    omega (
-      arith,
-      long,
-      length-append (framed_octets o f) more,
-      ap length c.parts,
-      length-append all (later ++ c.rest),
-      length-append later c.rest,
-    ) in
+    omega (arith, long, length-append (framed_octets o f) more, ap length c.parts, length-append all (later ++ c.rest),
+    length-append later c.rest) in
     record {
       blocks = f ∷ c.blocks;
       sections = c.sections;
