@@ -20,6 +20,7 @@ use Rattle.sccp_work.specs.declared.status.Status.TheVariants.{Done, Refused, Us
 use Rattle.sccp_work.specs.declared.stop.Stop.{Stop}
 use Rattle.sccp_tool.proofs.Causes.{Causes}
 use Rattle.sccp_tool.proofs.ConnectTold.{connect_told}
+use Rattle.sccp_tool.proofs.TaskWords.{IsCalled}
 use Rattle.sccp_work.proofs.AcceptingLemmas.{Judged, Ends-judged, judged_tells, accepted_files}
 use Rattle.sccp_work.proofs.PlanLemmas.{PlanEnds, long, bad, good, Ends-with_plan, if_long, if_bad, at_plan, plan_files}
 use Rattle.sccp_work.proofs.VerdictLemmas.{on_verdict}
@@ -76,15 +77,15 @@ tells c file BadPlan text taken taken' is (bad h) = λ given. absurd given
 tells c file s text taken taken' is (good h) =
     λ given. (h.0, h.1, h.2, (h.3.0, h.3.1, judged_tells h.3.0 s text taken taken' is given h.3.2))
 
-pub connect_causes : (file : PlanFile) (calling : Calling) → Causes (Some (Connect file calling))
-connect_causes file calling = record {
+pub connect_causes : (file : PlanFile) (calling : Calling) → IsCalled calling → Causes (Some (Connect file calling))
+connect_causes file calling called = record {
   only = λ c s text h. only (Some c) file s text (plan_ends (Some c) file calling s text h);
   usage = λ contents text h. absurd (only contents file Usage text (plan_ends contents file calling Usage text h));
   always = λ c t s text cause h. always c file t s text cause (plan_ends (Some c) file calling s text h);
   refused = λ c s text cause h. refused c file s text cause (plan_ends (Some c) file calling s text h);
   tells = λ c s text taken taken' is ends. (
     λ given. tells c file s text taken taken' is (plan_ends (Some c) file calling s text (ends (on_verdict s given))) given,
-    λ done. connect_told (Some c) file calling s text taken taken' is (ends (subst IsOnVerdict (sym done) tt)) done,
+    λ done. connect_told (Some c) file calling s text taken taken' called is (ends (subst IsOnVerdict (sym done) tt)) done,
   );
   journeys = λ c s b a is o. tt;
   files = λ c there. plan_files c file (connect_judged calling)

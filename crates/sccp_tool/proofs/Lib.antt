@@ -19,6 +19,9 @@ mod SegmentLemmas
 mod SendOnLemmas
 mod ShowHexLemmas
 mod ShowLemmas
+mod TaskWords
+mod TitleWords
+mod TracedLoads
 mod TwoPlansLemmas
 mod UnusedLemmas
 mod VerifyLemmas

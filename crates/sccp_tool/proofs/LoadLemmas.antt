@@ -1,5 +1,5 @@
 -- What making a load from a number ends with: the plan of each number is accepted, and the counts add up.
-use Rattle.std.proofs.Common.{◌≡◌, ℕ, List, [], Option, Some, sym, ◌∙◌, ap, subst, arith}
+use Rattle.std.proofs.Common.{◌≡◌, ◌≤◌, ℕ, List, [], Option, Some, sym, ◌∙◌, ap, subst, arith}
 use Rattle.std.specs.Io.KnownBytes.{append_known}
 use Rattle.made_load.specs.Loads.{load_counts}
 use Rattle.made_load.specs.Relays.{load_plan}
@@ -19,6 +19,7 @@ use Rattle.sccp_work.specs.Work.{answered, Ends}
 use Rattle.sccp_work.specs.declared.status.Status.{Status}
 use Rattle.sccp_work.specs.declared.status.Status.TheVariants.{Done, Usage}
 use Rattle.sccp_tool.proofs.Causes.{Causes}
+use Rattle.sccp_tool.proofs.TracedLoads.{counts_are_replayed}
 use Rattle.sccp_work.proofs.AcceptingLemmas.{Ends-answered, accepted_files}
 use Rattle.sccp_work.proofs.VerdictLemmas.{safe_or_bad}
 
@@ -50,16 +51,16 @@ always t s cause is = absurd cause
 never_usage : Usage ≡ Done → ⊥
 never_usage e = cc
 
-pub load_causes : (number size workers : ℕ) → Causes (Some (Load number size workers))
-load_causes number size workers = record {
+pub load_causes : (number size workers : ℕ) → size ≤ 100000 → Causes (Some (Load number size workers))
+load_causes number size workers few = record {
   only = λ c s text h. subst LoadCause (sym (counted (Some c) number size s text h).status) tt;
   usage = λ contents text h. absurd (never_usage (counted contents number size Usage text h).status);
   always = λ c t s text cause h. always t s cause (counted (Some c) number size s text h).status;
   refused = λ c s text cause h. absurd cause;
-  tells = λ c s text taken taken' is ends done few.
+  tells = λ c s text taken taken' is ends done.
       let told : text ≡ counts_text (load_counts number size) =
       (counted (Some c) number size s text (ends (subst IsOnVerdict (sym done) tt))).told in
-      (is ∙ ap (λ t. append_known taken t) told, add_up number size (omega (arith, few)));
+      (is ∙ ap (λ t. append_known taken t) told, add_up number size (omega (arith, few)), counts_are_replayed number size);
   journeys = λ c s b a is o. tt;
   files = λ c has. accepted_files c [] (load_plan number) (λ accepted. answered (Done, counts_text (load_counts number size)))
       (λ accepted. tt);

@@ -29,6 +29,7 @@ use Rattle.sccp_tool.proofs.RouteLemmas.{route_causes}
 use Rattle.sccp_tool.proofs.SendOnLemmas.{send_on_causes}
 use Rattle.sccp_tool.proofs.ShowHexLemmas.{show_hex_causes}
 use Rattle.sccp_tool.proofs.ShowLemmas.{show_causes}
+use Rattle.sccp_tool.proofs.TaskWords.{IsOfWords}
 use Rattle.sccp_tool.proofs.UnusedLemmas.{unused_causes}
 use Rattle.sccp_tool.proofs.VerifyLemmas.{verify_causes}
 
@@ -49,25 +50,25 @@ usage_causes = record {
   files = λ c has. tt;
 }
 
-causes : (task : Option Task) → Causes task
-causes None = usage_causes
-causes (Some (ShowHex octets)) = show_hex_causes octets
-causes (Some (Show name)) = show_causes name
-causes (Some (Verify file)) = verify_causes file
-causes (Some (Route file start)) = route_causes file start
-causes (Some (Replay plan trace workers)) = replay_causes plan trace workers
-causes (Some (Load number size workers)) = load_causes number size workers
-causes (Some (Cuts octets)) = cuts_causes octets
-causes (Some (Import plan file)) = import_causes plan file
-causes (Some (Change old new)) = change_causes old new
-causes (Some (Connect file calling)) = connect_causes file calling
-causes (Some (SendOn file incoming)) = send_on_causes file incoming
-causes (Some (Covers file)) = covers_causes file
-causes (Some (Unused file)) = unused_causes file
-causes (Some (Margin file losses)) = margin_causes file losses
-causes (Some (Capture plan file)) = capture_causes plan file
-causes (Some (Order old new)) = order_causes old new
-causes (Some (Conform plan file)) = conform_causes plan file
+causes : (task : Option Task) → IsOfWords task → Causes task
+causes None words = usage_causes
+causes (Some (ShowHex octets)) words = show_hex_causes octets
+causes (Some (Show name)) words = show_causes name
+causes (Some (Verify file)) words = verify_causes file
+causes (Some (Route file start)) words = route_causes file start
+causes (Some (Replay plan trace workers)) words = replay_causes plan trace workers
+causes (Some (Load number size workers)) words = load_causes number size workers words
+causes (Some (Cuts octets)) words = cuts_causes octets
+causes (Some (Import plan file)) words = import_causes plan file
+causes (Some (Change old new)) words = change_causes old new
+causes (Some (Connect file calling)) words = connect_causes file calling words
+causes (Some (SendOn file incoming)) words = send_on_causes file incoming words
+causes (Some (Covers file)) words = covers_causes file
+causes (Some (Unused file)) words = unused_causes file
+causes (Some (Margin file losses)) words = margin_causes file losses
+causes (Some (Capture plan file)) words = capture_causes plan file
+causes (Some (Order old new)) words = order_causes old new
+causes (Some (Conform plan file)) words = conform_causes plan file
 
 if_some : {C : Type 0} (o : Option C) (P : C → Type 0) → ((c : C) → o ≡ Some c → P c) → IfSome o P
 if_some None P f = tt
@@ -102,14 +103,14 @@ without_task contents (Some t) s text e h = cc
 
 -- ---- the clauses of the call
 
-module _ (task : Option Task) (s : Status) (b a : Moment) (o : Outcome (work_of task) s b a) where
+module _ (task : Option Task) (words : IsOfWords task) (s : Status) (b a : Moment) (o : Outcome (work_of task) s b a) where
   answers : (t : Status) → s ≡ t → Answers (work_of task) t o.text b a
   answers t e = subst (λ t. Answers (work_of task) t o.text b a) e o.answers
 
   -- an answer of the work's own is given only if its cause holds
   only_where : (t : Status) (c : Contents) → b.contents ≡ Some c
       → (Answers (work_of task) t o.text b a → Ends b.contents (work_of task) t o.text) → s ≡ t → Cause c task t
-  only_where t c told own e = (causes task).only c t o.text (subst (λ k. Ends k (work_of task) t o.text) told (own (answers t e)))
+  only_where t c told own e = (causes task words).only c t o.text (subst (λ k. Ends k (work_of task) t o.text) told (own (answers t e)))
 
   -- an answer is given unless the call was cut short
   always_where : (c : Contents) (Q : Type 0) → b.contents ≡ Some c → (Ends (Some c) (work_of task) s o.text → Q) → Q ⊎ IsCut s
@@ -122,15 +123,15 @@ module _ (task : Option Task) (s : Status) (b a : Moment) (o : Outcome (work_of 
       → ComesWhere t s (Cause c task t) (SureCause c task t)
   comes t c told own = record {
     only = only_where t c told own;
-    always = λ cause. always_where c (s ≡ t) told ((causes task).always c t s o.text cause);
+    always = λ cause. always_where c (s ≡ t) told ((causes task words).always c t s o.text cause);
   }
 
   pub answer_told : IfSome b.contents (λ c. TellsAnswer c task s b.taken a.taken)
-  answer_told = if_some b.contents _ (λ c told. (causes task).tells c s o.text b.taken a.taken o.goes.taken
+  answer_told = if_some b.contents _ (λ c told. (causes task words).tells c s o.text b.taken a.taken o.goes.taken
       (λ given. subst (λ k. Ends k (work_of task) s o.text) told (own_verdict s (work_of task) o.text b a o.answers given)))
 
   pub journeys_told : IfSome b.contents (λ c. TellsJourneys c task s b.taken a.taken)
-  journeys_told = if_some b.contents _ (λ c told. (causes task).journeys c s b a told o)
+  journeys_told = if_some b.contents _ (λ c told. (causes task words).journeys c s b a told o)
 
   pub done_cause : IfSome b.contents (λ c. ComesWhere Done s (Cause c task Done) (SureCause c task Done))
   done_cause = if_some b.contents _ (λ c told. comes Done c told (λ e. e))
@@ -138,7 +139,7 @@ module _ (task : Option Task) (s : Status) (b a : Moment) (o : Outcome (work_of 
   pub refused_cause : IfSome b.contents (λ c. RefusedWhere s (Cause c task Refused))
   refused_cause = if_some b.contents _ (λ c told. record {
     only = only_where Refused c told (λ e. e);
-    always = λ cause. always_where c ((s ≡ Refused) ⊎ (s ≡ TooWide)) told ((causes task).refused c s o.text cause);
+    always = λ cause. always_where c ((s ≡ Refused) ⊎ (s ≡ TooWide)) told ((causes task words).refused c s o.text cause);
   })
 
   pub wide_cause : IfSome b.contents (λ c. s ≡ TooWide → Cause c task TooWide)
@@ -146,7 +147,7 @@ module _ (task : Option Task) (s : Status) (b a : Moment) (o : Outcome (work_of 
 
   pub usage_cause : ExactlyWhere Usage s (task ≡ None)
   usage_cause = record {
-    only = λ e. (causes task).usage b.contents o.text (answers Usage e);
+    only = λ e. (causes task words).usage b.contents o.text (answers Usage e);
     always = λ none. unless_cut s (work_of task) o.text b a o.answers (λ e. without_task b.contents task s o.text none e);
   }
 
@@ -191,4 +192,4 @@ module _ (task : Option Task) (s : Status) (b a : Moment) (o : Outcome (work_of 
 
   pub named_cause : IsTrue b.sound → IfSome b.contents (λ c. HasNamedFiles c task
       → (a.read_faults ≡ b.read_faults) × (b.read_faults < 2 ^ 64 - 1 → s ≢ ReadFault))
-  named_cause h = if_some b.contents _ (λ c told has. spared h c told ((causes task).files c has))
+  named_cause h = if_some b.contents _ (λ c told has. spared h c told ((causes task words).files c has))

@@ -1,5 +1,6 @@
 -- The command that makes one connection over the relays of a plan.
-use Rattle.std.specs.Prelude.{◌≡◌, ◌<◌, ◌≤◌, ◌^◌, ℕ, ◌==◌, ◌&&◌, ◌%◌, Bool, List, [], ◌∷◌, ◌++◌, codes, length, Option, Some, None, is_some, option_and_then}
+use Rattle.std.specs.Prelude.{◌≡◌, ◌≤◌, ◌^◌, ℕ, ◌==◌, ◌&&◌, ◌%◌, Bool, List, [], ◌∷◌, ◌++◌, codes, length, Option, Some, None, is_some}
+use Rattle.std.specs.Prelude.{option_and_then}
 use Rattle.std.specs.Prelude.{option_map, if◌then◌else◌}
 use Rattle.std.specs.List.{flat_map, position}
 use Rattle.std.specs.Io.KnownBytes.{append_known}
@@ -18,8 +19,6 @@ use Rattle.plan_model.specs.Network.{Network, has_name, has_point}
 use Rattle.plan_model.specs.declared.spot.Spot.{Spot}
 use Rattle.plan_verify.specs.Lawful.{IsLawful}
 use Rattle.plan_verify.specs.declared.verdict.Verdict.TheVariants.{Accepted}
-use Rattle.sccp_address.specs.Written.{IsTitle}
-use Rattle.sccp_address.specs.declared.address.Title.TheVariants.{Global}
 use Rattle.sccp_io.specs.Files.{Contents}
 use Rattle.sccp_base.specs.Text.{point_code_of}
 use Rattle.sccp_message.specs.declared.cause.CauseTable.TheVariants.{Refusal}
@@ -140,13 +139,6 @@ connect_work file calling = with_plan file (λ plan. connect_judged calling plan
 
 -- ---- what the text says
 
--- What words of this command give: a title that a message can have, and no more octets than that, which are 2^57 digits. That they
--- give such a title is not part of this.
-pub record IsAsked (calling : Calling) : Type 0 where
-  pub title : IsTitle (Global calling.start.selector calling.start.digits)
-  pub ssn : calling.start.ssn < 256
-  pub few : length calling.octets ≤ 2 ^ 56
-
 -- the text of an open connection: the octets came out at both ends, and no section is left
 abbrev pub open_text : List (List ℕ) → ℕ → List ℕ → List ℕ
 open_text names far octets = opened_line names far ++ through_lines (Some (record { forth = octets; back = octets; sections = 0 }))
@@ -169,9 +161,9 @@ TellsCall plan bound node calling text = TellsAnswered calling.octets text
     → TellsReached plan (spot_called plan (call_of plan node calling)) bound calling.octets text)
 
 -- The plan was accepted with its bound, and the sink took a text that says so if the words name a relay of the plan and, for the end
--- that calls, a point that no relay has.
+-- that calls, a point that no relay has. The word of the octets has at most 2^57 digits.
 abbrev pub ConnectTells : Option Contents → PlanFile → Calling → Status → Option (List ℕ) → Option (List ℕ) → Type 0
 ConnectTells contents file calling given taken taken' = given ≡ Done → HasPlan contents file (λ plan. (accepted : Verified)
     × IsLawful plan (Accepted accepted) × (text : List ℕ) × (taken' ≡ append_known taken text)
-    × (IsAsked calling → (node : ℕ) → position (has_name calling.start.node) plan.nodes ≡ Some node
+    × (length calling.octets ≤ 2 ^ 56 → (node : ℕ) → position (has_name calling.start.node) plan.nodes ≡ Some node
     → position (has_point calling.from) plan.nodes ≡ None → TellsCall plan accepted.bound node calling text))

@@ -7,6 +7,7 @@ pub mod Connect
 pub mod Covers
 pub mod Import
 pub mod Load
+pub mod LoadTrace
 pub mod Margin
 pub mod MarginTallies
 pub mod Order

@@ -1,5 +1,5 @@
 -- The command that makes a plan and messages from a number, and counts what becomes of the messages.
-use Rattle.std.specs.Prelude.{◌≡◌, ◌≤◌, ℕ, nat_le, List, [], ◌∷◌, ◌++◌, codes, Option, Some, None, option_and_then, if◌then◌else◌}
+use Rattle.std.specs.Prelude.{◌≡◌, ℕ, nat_le, List, [], ◌∷◌, ◌++◌, codes, Option, Some, None, option_and_then, if◌then◌else◌}
 use Rattle.std.specs.Io.KnownBytes.{append_known}
 use Rattle.std.specs.Option.{option_map}
 use Rattle.sccp_base.specs.Text.{decimal_of}
@@ -9,6 +9,7 @@ use Rattle.made_load.specs.declared.counts.Counts.{Counts}
 use Rattle.sccp_report.specs.Values.{numbered}
 use Rattle.sccp_replay.specs.Workers.{workers_in}
 use Rattle.sccp_work.specs.Accepting.{if_accepted}
+use Rattle.sccp_tool.specs.LoadTrace.{load_lines, replay_counts}
 use Rattle.sccp_tool.specs.Task.{Task, Load}
 use Rattle.sccp_work.specs.Work.{Work, answered}
 use Rattle.sccp_work.specs.declared.status.Status.{Status}
@@ -46,8 +47,9 @@ abbrev pub LoadCause : Status → Type 0
 LoadCause Done = Unit {0}
 LoadCause answer = ⊥
 
--- The sink took the counts of exactly these messages, and each of them ended or was returned, after one to six translations. Words
--- ask for no more than 100,000 messages.
+-- The sink took the counts of exactly these messages, and each of them ended or was returned, after one to six translations. They are
+-- what is counted of the replay of the number's trace over its plan.
 abbrev pub LoadTells : ℕ → ℕ → Status → Option (List ℕ) → Option (List ℕ) → Type 0
-LoadTells number size given taken taken' = given ≡ Done → size ≤ 100000 →
+LoadTells number size given taken taken' = given ≡ Done →
     (taken' ≡ append_known taken (counts_text (load_counts number size))) × AddUp size (load_counts number size)
+    × (load_counts number size ≡ replay_counts (load_plan number) (load_lines number size))

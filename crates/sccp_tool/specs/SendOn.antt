@@ -1,8 +1,8 @@
 -- The command that sends a message on over a link that carries no long messages (LUDT).
-use Rattle.std.specs.Prelude.{◌≡◌, ◌⊎◌, ◌<◌, ℕ, ◌&&◌, nat_lt, List, [], ◌∷◌, ◌++◌, codes, Option, Some, None, option_and_then, option_map}
+use Rattle.std.specs.Prelude.{◌≡◌, ◌⊎◌, ℕ, ◌&&◌, nat_lt, List, [], ◌∷◌, ◌++◌, codes, Option, Some, None, option_and_then, option_map}
 use Rattle.std.specs.Prelude.{Result, Ok, Err, if◌then◌else◌}
 use Rattle.std.specs.Io.KnownBytes.{append_known}
-use Rattle.std.specs.List.{AllByRecursion, flat_map, position}
+use Rattle.std.specs.List.{flat_map, position}
 use Rattle.long_segments.specs.Carried.{CarryData}
 use Rattle.long_segments.specs.Sending.{sending}
 use Rattle.long_segments.specs.declared.long_fault.LongFault.{LongFault}
@@ -137,15 +137,10 @@ TellsLeaving (Connection m) text = Unit {0}
 TellsLeaving (Management m) text = Unit {0}
 TellsLeaving (Undecodable fault) text = Unit {0}
 
--- what words give: a segment may have some data, and the octets are below 256
-pub record IsGiven (i : Incoming) : Type 0 where
-  pub some : 0 < i.size
-  pub octets : AllByRecursion (λ o. o < 256) i.octets
-
 -- The sink took a text that says so of what becomes of the octets at the relay of that name. What is read from a text is a plan.
 abbrev pub SendOnTells : Option Contents → PlanFile → Incoming → Status → Option (List ℕ) → Option (List ℕ) → Type 0
 SendOnTells contents file i given taken taken' = given ≡ Done → HasPlan contents file (λ plan. (text : List ℕ)
-    × (taken' ≡ append_known taken text) × (IsPlan plan → IsGiven i → (node : ℕ)
+    × (taken' ≡ append_known taken text) × (IsPlan plan → (node : ℕ)
     → position (has_name i.node) plan.nodes ≡ Some node → TellsLeaving (arrival plan node [] i.origin i.octets) text))
 
 -- ---- the same for the calls inside

@@ -7,12 +7,14 @@ use Rattle.sccp_tool.specs.Task.{Task}
 use Rattle.sccp_tool.proofs.RunLemmas.{answer_told, journeys_told, done_cause, refused_cause, wide_cause, usage_cause, bad_plan_cause}
 use Rattle.sccp_tool.proofs.RunLemmas.{bad_line_cause, bad_capture_cause, long_cause, other_nodes_cause, read_cause, write_cause}
 use Rattle.sccp_tool.proofs.RunLemmas.{differs_cause, sound_cause, named_cause}
+use Rattle.sccp_tool.proofs.TaskWords.{IsOfWords, of_words}
 use Rattle.sccp_work.proofs.WorkLemmas.{Outcome-closed}
 use Rattle.sccp_tool.proofs.program.run_gated.Goals as goal
 
 pub returns : goal.returns
 returns g c =
     let task : Option Task = task_of (texts c.args.words.now) in
+    let words : IsOfWords task = of_words (texts c.args.words.now) in
     let b : Moment = moment g.F.Files.contents g.F.Files.sound g.F.Files.faults g.K.Sink.taken g.K.Sink.faults c.args.files.now
     c.args.out.now in
     let a : Moment = moment g.F.Files.contents g.F.Files.sound g.F.Files.faults g.K.Sink.taken g.K.Sink.faults c.carry_out-worked.new.files
@@ -24,20 +26,20 @@ returns g c =
     refl in
     record {
       outcome = o;
-      tells = answer_told task c.close.result b a o;
-      journeys = journeys_told task c.close.result b a o;
-      done = done_cause task c.close.result b a o;
-      refused = refused_cause task c.close.result b a o;
-      too_wide = wide_cause task c.close.result b a o;
-      usage = usage_cause task c.close.result b a o;
-      bad_plan = bad_plan_cause task c.close.result b a o;
-      bad_trace = bad_line_cause task c.close.result b a o;
-      too_long = long_cause task c.close.result b a o;
-      other_nodes = other_nodes_cause task c.close.result b a o;
-      bad_capture = bad_capture_cause task c.close.result b a o;
-      differs = differs_cause task c.close.result b a o;
-      read_fault = read_cause task c.close.result b a o;
-      write_fault = write_cause task c.close.result b a o;
-      sound = sound_cause task c.close.result b a o;
-      named = named_cause task c.close.result b a o;
+      tells = answer_told task words c.close.result b a o;
+      journeys = journeys_told task words c.close.result b a o;
+      done = done_cause task words c.close.result b a o;
+      refused = refused_cause task words c.close.result b a o;
+      too_wide = wide_cause task words c.close.result b a o;
+      usage = usage_cause task words c.close.result b a o;
+      bad_plan = bad_plan_cause task words c.close.result b a o;
+      bad_trace = bad_line_cause task words c.close.result b a o;
+      too_long = long_cause task words c.close.result b a o;
+      other_nodes = other_nodes_cause task words c.close.result b a o;
+      bad_capture = bad_capture_cause task words c.close.result b a o;
+      differs = differs_cause task words c.close.result b a o;
+      read_fault = read_cause task words c.close.result b a o;
+      write_fault = write_cause task words c.close.result b a o;
+      sound = sound_cause task words c.close.result b a o;
+      named = named_cause task words c.close.result b a o;
     }
