@@ -3,6 +3,7 @@ pub mod Along
 pub mod Documents
 pub mod EachOk
 pub mod Elements
+pub mod FirstPlaces
 pub mod Keys
 pub mod Limits
 pub mod Marked

@@ -1,32 +1,15 @@
 -- tests over what a definition sees of the elements
-use Rattle.std.specs.Prelude.{ℕ, ◌≡◌, ◌+◌, ◌<◌, ◌≤◌, Bool, true, false, not, ◌||◌, cond, List, [], ◌∷◌, map, length, drop, Option, Some}
-use Rattle.std.specs.Prelude.{None, option_map, refl}
-use Rattle.std.specs.List.{find, list_any, position, prefix_len}
+use Rattle.std.specs.Prelude.{ℕ, ◌≡◌, ◌+◌, ◌<◌, ◌≤◌, Bool, ◌||◌, List, [], ◌∷◌, map, length, drop, Option, Some}
+use Rattle.std.specs.Prelude.{None, refl}
+use Rattle.std.specs.List.{list_any, position}
 use Rattle.std.specs.Option.{option_or, unwrap_or}
 use Rattle.std.proofs.Common.{sym, ◌∙◌, ap, get_or, add-one, drop-cons}
 use Rattle.std.proofs.lemmas.List.{drop_all, length-map}
 use Rattle.plan_rules.specs.FirstOf.{first_of}
 
-pub find-map : {V A : Type 0} (p : A → Bool) (seen : V → A) (xs : List V)
-    → find p (map seen xs) ≡ option_map seen (find (λ x. p (seen x)) xs)
-find-map p seen [] = refl
-find-map {V} {A} p seen (x ∷ xs) =
-    elim (p (seen x)) as (λ b. cond b (Some (seen x)) (find p (map seen xs))
-    ≡ option_map seen (cond b (Some x) (find (λ y. p (seen y)) xs))) [
-      | true ↦ refl
-      | false ↦ find-map p seen xs
-    ]
-
-prefix_len-map : {V A : Type 0} (p : A → Bool) (seen : V → A) (xs : List V) → prefix_len p (map seen xs) ≡ prefix_len (λ x. p (seen x)) xs
-prefix_len-map p seen [] = refl
-prefix_len-map p seen (x ∷ xs) = ap (λ n. cond (p (seen x)) (1 + n) 0) (prefix_len-map p seen xs)
-
-pub position-map : {V A : Type 0} (p : A → Bool) (seen : V → A) (xs : List V) → position p (map seen xs) ≡ position (λ x. p (seen x)) xs
-position-map p seen xs = rw (prefix_len-map (λ x. not (p x)) seen xs, length-map xs seen) refl
-
-pub position_or_length : {V A : Type 0} (p : A → Bool) (seen : V → A) (xs : List V) (o : Option ℕ) → o ≡ position (λ x. p (seen x)) xs
+pub position_or_length : {V A : Type 0} (p : A → Bool) (seen : V → A) (xs : List V) (o : Option ℕ) → o ≡ position p (map seen xs)
     → unwrap_or o (length xs) ≡ unwrap_or (position p (map seen xs)) (length (map seen xs))
-position_or_length p seen xs o e = ap (λ (q : Option ℕ). unwrap_or q (length xs)) (e ∙ sym (position-map p seen xs))
+position_or_length p seen xs o e = ap (λ (q : Option ℕ). unwrap_or q (length xs)) e
     ∙ ap (λ n. unwrap_or (position p (map seen xs)) n) (sym (length-map xs seen))
 
 pub list_any-map : {V A : Type 0} (p : A → Bool) (seen : V → A) (xs : List V) → list_any p (map seen xs) ≡ list_any (λ x. p (seen x)) xs

@@ -1,38 +1,28 @@
 //! The covers, as a plan text writes them.
-ghost use Rattle.std.specs.Prelude.{◌≡◌, ◌≤◌, ◌<◌, IfOk, IfSome, All, map, length};
+ghost use Rattle.std.specs.Prelude.{◌≡◌, ◌≤◌, IfOk, IfSome, All, map, length};
 ghost use Rattle.toml.specs.View.{view};
 ghost use Rattle.sccp_base.specs.Answers.{Answers};
 ghost use Rattle.plan_model.specs.Faults.{HasFewDigits};
 ghost use Rattle.plan_text.specs.EachOk.{each_ok};
 ghost use Rattle.plan_text.specs.Faults.{is_memory};
-ghost use Rattle.std.specs.List.{position};
-ghost use Rattle.plan_text.specs.Targets.{is_named};
 ghost use Rattle.plan_text.specs.Covers.{node_place, number_at, allowed_at, cover_of, covers_of};
 
 use crate::document::{elements_at, integer_if_there, text_at, text_of};
+use crate::names::Names;
 use crate::put::put;
-use crate::targets::is_named;
 use crate::words::{digits_up_to, place_of, within};
 use plan_model::{Cover, Key, Place, PlanFault};
 use sccp_base::{List, Name, PointCode, Selector};
 use std::alloc::Global;
 use toml::Value;
 
-/// The place of the first node of a name.
-fn place_named(nodes: &[Value], name: &[u8]) -> Option<usize>
-    ensures place { result ≡ position (λ node. is_named name.now (view node)) nodes.now }
-    ensures inside { IfSome result (λ i. i < length nodes.now) }
-{
-    nodes.iter().position(|node| is_named(node, name))
-}
-
 /// The place of the first node of a name, or the number of nodes if none has it.
 #[tactic(auto, unfolding(crate::specs::Covers::node_place))]
-fn node_place(nodes: &[Value], name: &[u8]) -> u8
-    requires { length nodes.now ≤ 255 }
-    ensures { result ≡ node_place (map view nodes.now) name.now }
+fn node_place(names: &Names, name: &[u8]) -> u8
+    requires { length names.now ≤ 255 }
+    ensures { result ≡ node_place (map view names.now) name.now }
 {
-    place_named(nodes, name).unwrap_or(nodes.len()) as u8
+    names.place(name).unwrap_or(names.count()) as u8
 }
 
 /// The number under a key, from 0 to `most`.
@@ -63,9 +53,9 @@ fn allowed_of(alloc: Global, i: usize, values: &[Value]) -> Result<List<(PointCo
 
 /// The cover at place i, or the first key whose value cannot be read.
 #[tactic(auto, unfolding(crate::specs::Covers::cover_of))]
-fn cover_of(alloc: Global, nodes: &[Value], i: usize, cover: &Value) -> Result<Cover, PlanFault>
-    requires { length nodes.now ≤ 255 }
-    ensures value { Answers is_memory (λ cover. cover) result (cover_of (map view nodes.now) i (view cover.now)) }
+fn cover_of(alloc: Global, names: &Names, i: usize, cover: &Value) -> Result<Cover, PlanFault>
+    requires { length names.now ≤ 255 }
+    ensures value { Answers is_memory (λ cover. cover) result (cover_of (map view names.now) i (view cover.now)) }
     ensures few { IfOk result HasFewDigits }
 {
     let Some(node) = Name::parse(text_at(cover, "node").as_bytes()) else {
@@ -88,7 +78,7 @@ fn cover_of(alloc: Global, nodes: &[Value], i: usize, cover: &Value) -> Result<C
     };
     match allowed_of(alloc, i, elements_at(cover, "allowed")) {
         Ok(allowed) => Ok(Cover {
-            node: node_place(nodes, node.as_slice()),
+            node: node_place(names, node.as_slice()),
             selector,
             ssn,
             prefix,
@@ -103,16 +93,16 @@ fn cover_of(alloc: Global, nodes: &[Value], i: usize, cover: &Value) -> Result<C
 /// All covers in their order, or the first value of them that cannot be read.
 pub(crate) fn covers_of(
     alloc: Global,
-    nodes: &[Value],
+    names: &Names,
     covers: &[Value],
 ) -> Result<List<Cover>, PlanFault>
-    requires { length nodes.now ≤ 255 }
-    ensures value { Answers is_memory (λ read. read) result (covers_of (map view nodes.now) (map view covers.now)) }
+    requires { length names.now ≤ 255 }
+    ensures value { Answers is_memory (λ read. read) result (covers_of (map view names.now) (map view covers.now)) }
     ensures few { IfOk result (All HasFewDigits) }
 {
     let mut read = List::new(alloc);
     for (i, cover) in covers.iter().enumerate() {
-        let next = cover_of(alloc, nodes, i, cover)?;
+        let next = cover_of(alloc, names, i, cover)?;
         put(&mut read, next)?;
     }
     Ok(read)

@@ -8,7 +8,7 @@ use Rattle.plan_text.proofs.covers.covers_of.Goals as goal
 
 pub loop-i-preserved : goal.loop-i-preserved
 loop-i-preserved c =
-    let nodes = map view c.args.nodes.now in
+    let nodes = map view c.args.names.now in
     record {
       value = rw c.in_ok-put.ensures.ok
           (goes_on view (cover_of nodes) c.loop-i.read c.args.covers.now c.loop-i.i c.index-covers-i.result c.in_ok-next.next

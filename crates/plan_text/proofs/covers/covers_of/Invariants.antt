@@ -10,6 +10,6 @@ use Rattle.plan_text.proofs.covers.covers_of.Given as goal
 -- the covers so far, then those that follow, are what is read
 abbrev pub invariant-loop-i : goal.invariant-loop-i
 invariant-loop-i l = record {
-  value : with_front l.read (ahead view (cover_of (map view l.nodes)) l.i l.covers) ≡ covers_of (map view l.nodes) (map view l.covers);
+  value : with_front l.read (ahead view (cover_of (map view l.names)) l.i l.covers) ≡ covers_of (map view l.names) (map view l.covers);
   few : All HasFewDigits l.read;
 }

@@ -6,5 +6,5 @@ use Rattle.plan_text.proofs.unknown.lost_in_rows.Given as goal
 
 -- the first one is found from here on
 abbrev pub invariant-loop-j : goal.invariant-loop-j
-invariant-loop-j l = first_of (lost_at (map view l.nodes) l.i) l.j (map view (drop l.j l.rows))
-    ≡ lost_in_rows (map view l.nodes) l.i (map view l.rows)
+invariant-loop-j l = first_of (lost_at (map view l.names) l.i) l.j (map view (drop l.j l.rows))
+    ≡ lost_in_rows (map view l.names) l.i (map view l.rows)
