@@ -18,4 +18,4 @@ mod words;
 
 pub use capture::Capture;
 pub use ending::Ending;
-pub use laws::{lines_fit_a_trace, lines_have_forms};
+pub use laws::{lines_fit_a_trace, lines_have_forms, messages_are_read_again};
