@@ -12,6 +12,7 @@ mod LeavingLemmas
 mod LoadLemmas
 mod MarginLemmas
 mod OrderLemmas
+mod ReadPlans
 mod ReplayLemmas
 mod RouteLemmas
 mod RunLemmas
