@@ -1,23 +1,22 @@
 -- A block of a pcapng file, by the numbers in it.
-use Rattle.std.proofs.Common.{◌≡◌, ℕ, ◌+◌, ◌-◌, ◌*◌, ◌%◌, ◌^◌, ◌<◌, ◌≤◌, Bool, true, false, cond, ltb, leb, List, [], ◌∷◌, ◌++◌, length}
+use Rattle.std.proofs.Common.{◌≡◌, ℕ, ◌+◌, ◌-◌, ◌%◌, ◌<◌, ◌≤◌, Bool, cond, List, [], ◌∷◌, ◌++◌, length}
 use Rattle.std.proofs.Common.{take, drop, map, Option, Some, None, refl, sym, ◌∙◌, ap, subst, ⊎_elim, arith, length-append}
 use Rattle.std.proofs.Common.{zero, suc}
-use Rattle.std.specs.Prelude.{◌==◌, ◌||◌, not, min, slice_get, slice_range, slice_index_or}
+use Rattle.std.specs.Prelude.{◌==◌, slice_get, slice_range, slice_index_or}
 use Rattle.std.specs.Option.{option_map}
 use Rattle.std.proofs.Math.Dec.{eqb-suc-zero}
 use Rattle.std.proofs.lemmas.Bool.{lt-ltb, le-ltb, lt-leb, le-leb, eq-eqb, ne_eqb, cases_lt}
-use Rattle.std.proofs.lemmas.List.{drop-drop, length-drop, length-map, map-append, take_at}
-use Rattle.std.proofs.lemmas.Option.{slice_get_within, slice_get_cases, get_or_from_slice_get, slice_get-map}
+use Rattle.std.proofs.lemmas.List.{drop-drop, length-drop, length-map, map-append}
+use Rattle.std.proofs.lemmas.Option.{slice_get_within, get_or_from_slice_get, slice_get-map}
 use Rattle.capture_file.specs.Numbers.{number_2, number_4}
 use Rattle.capture_file.specs.Packets.{Captured, Packet, Bad, with_front}
-use Rattle.capture_file.specs.Units.{At, FileStart, Block, Rest, Step, Takes, Needs, most, most_interfaces, unit, kind_of, order_of}
-use Rattle.capture_file.specs.Units.{empty_section, section_in, section_by, section_at, least, rest_after, packet_in, with_interface}
+use Rattle.capture_file.specs.Units.{At, Block, Rest, Step, Takes, most, most_interfaces, unit, kind_of, order_of}
+use Rattle.capture_file.specs.Units.{empty_section, section_in, section_by, least, rest_after, packet_in, with_interface}
 use Rattle.capture_file.specs.Units.{interface_in, sized_in, kind_in, block_by, enhanced_in, simple_in, simple_captured}
 use Rattle.capture_file.specs.Told.{told_of}
 use Rattle.capture_file.specs.Sections.{Interface, Content, Padded, Lacking, captured_length, content_octets, packet_of}
 use Rattle.capture_file.specs.Sections.{simple_length}
 use Rattle.capture_file.specs.declared.order.Order.{Order}
-use Rattle.capture_file.specs.declared.order.Order.TheVariants.{Big, Little}
 use Rattle.capture_file.specs.declared.section.Section.{Section}
 use Rattle.capture_file.specs.declared.file_kind.FileKind.{FileKind}
 use Rattle.capture_file.specs.declared.file_kind.FileKind.TheVariants.{Pcap, Pcapng, Unknown}
@@ -43,7 +42,8 @@ with_interface-is o [] i = refl
 with_interface-is o (j ∷ more) i =
     ap (λ (links : List ℕ). section_with o links (cond (length (j.link ∷ map link_of more) == 0) i.snap j.snap))
     (sym (map-append link_of (j ∷ more) (i ∷ [])))
-    ∙ ap (λ (first : Bool). section_with o (map link_of (j ∷ more ++ i ∷ [])) (cond first i.snap j.snap)) (eqb-suc-zero (length (map link_of more)))
+    ∙ ap (λ (first : Bool). section_with o (map link_of (j ∷ more ++ i ∷ [])) (cond first i.snap j.snap))
+    (eqb-suc-zero (length (map link_of more)))
   where
     section_with : Order → List ℕ → ℕ → Section
     section_with order links snap = record { order = order; links = links; snap = snap }

@@ -1,24 +1,24 @@
 -- A block of a pcapng file that is put together gives its packet.
-use Rattle.std.proofs.Common.{◌≡◌, ℕ, ◌+◌, ◌-◌, ◌*◌, ◌%◌, ◌^◌, ◌<◌, ◌≤◌, Bool, true, false, cond, List, [], ◌∷◌, ◌++◌, length}
-use Rattle.std.proofs.Common.{take, drop, map, Option, Some, None, refl, sym, ◌∙◌, ap, subst, append_assoc, arith, length-append}
+use Rattle.std.proofs.Common.{◌≡◌, ℕ, ◌+◌, ◌-◌, ◌%◌, ◌^◌, ◌<◌, ◌≤◌, Bool, true, false, cond, List, [], ◌∷◌, ◌++◌, length}
+use Rattle.std.proofs.Common.{take, drop, refl, sym, ◌∙◌, ap, append_assoc, arith, length-append}
 use Rattle.std.specs.Prelude.{◌==◌, ◌||◌, slice_get}
-use Rattle.std.proofs.lemmas.Bool.{le-ltb, ne_eqb, eqb-true}
+use Rattle.std.proofs.lemmas.Bool.{ne_eqb, eqb-true}
 use Rattle.std.proofs.lemmas.List.{length-map, length-drop, take_at, drop_at, drop-drop, append-nil}
 use Rattle.capture_file.specs.Numbers.{number_2, number_4}
-use Rattle.capture_file.specs.Packets.{Captured, Told, with_front}
-use Rattle.capture_file.specs.Units.{Block, Takes, unit, kind_of, least, rest_after, sized_in, kind_in, with_interface}
-use Rattle.capture_file.specs.Units.{interface_in, enhanced_in, simple_in}
+use Rattle.capture_file.specs.Packets.{Captured, with_front}
+use Rattle.capture_file.specs.Units.{Block, unit, kind_of, least, rest_after, sized_in, kind_in, with_interface}
+use Rattle.capture_file.specs.Units.{enhanced_in}
 use Rattle.capture_file.specs.Told.{told_of}
 use Rattle.capture_file.specs.Spelled.{octets_2, octets_4}
 use Rattle.capture_file.specs.Sections.{Interface, Content, Padded, Lacking, Framed, Description, Enhanced, Old, Simple, Other}
-use Rattle.capture_file.specs.Sections.{block_octets, captured_length, content_octets, block_kind, block_body, framed_octets, IsContent}
+use Rattle.capture_file.specs.Sections.{block_octets, captured_length, content_octets, block_body, framed_octets, IsContent}
 use Rattle.capture_file.specs.Sections.{IsBlock, added, packet_of, block_packets}
 use Rattle.capture_file.specs.declared.order.Order.{Order}
 use Rattle.capture_file.specs.declared.order.Order.TheVariants.{Big, Little}
 use Rattle.capture_file.specs.declared.section.Section.{Section}
-use Rattle.capture_file.specs.declared.file_kind.FileKind.{FileKind}
 use Rattle.capture_file.specs.declared.file_kind.FileKind.TheVariants.{Pcap, Pcapng, Unknown}
-use Rattle.capture_file.proofs.WordLemmas.{length-octets_2, length-octets_4, number_2-written, number_4-written, number_2-past, number_4-past}
+use Rattle.capture_file.proofs.WordLemmas.{length-octets_2, length-octets_4, number_2-written, number_4-written, number_2-past}
+use Rattle.capture_file.proofs.WordLemmas.{number_4-past}
 use Rattle.capture_file.proofs.WordLemmas.{AreOctets-4, spelled_4}
 use Rattle.capture_file.proofs.BlockLemmas.{section_of, link_of, with_interface-is, passes, block-unit, kind-sized, interface-takes, taken}
 use Rattle.capture_file.proofs.BlockLemmas.{HasContent, Gives, taken-within, enhanced-takes, simple-takes}

@@ -12,5 +12,6 @@ pub mod FramedLemmas
 pub mod SectionLemmas
 pub mod PartsLemmas
 pub mod OpenedLemmas
+pub mod LeftLemmas
 pub mod PcapngLemmas
 pub mod FrontLemmas

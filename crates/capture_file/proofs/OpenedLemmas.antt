@@ -1,13 +1,13 @@
 -- What the front of a block of a pcapng file says, if it can be read.
-use Rattle.std.proofs.Common.{◌≡◌, ℕ, ◌+◌, ◌-◌, ◌%◌, ◌<◌, ◌≤◌, Bool, true, false, cond, ltb, leb, List, [], ◌∷◌, length, Option, Some, None}
-use Rattle.std.proofs.Common.{refl, ap, subst, arith}
+use Rattle.std.proofs.Common.{◌≡◌, ℕ, ◌+◌, ◌-◌, ◌%◌, ◌≤◌, Bool, true, false, cond, ltb, leb, List, [], length, Option, Some, None}
+use Rattle.std.proofs.Common.{refl, subst, arith}
 use Rattle.std.specs.Prelude.{◌==◌, ◌||◌, not}
-use Rattle.std.proofs.lemmas.Bool.{ltb-false, cond_both, eqb-true, eqb-false, cases_Bool}
+use Rattle.std.proofs.lemmas.Bool.{ltb-false, cond_both, eqb-true, eqb-false}
 use Rattle.capture_file.specs.Numbers.{number_2, number_4}
 use Rattle.capture_file.specs.Packets.{Captured}
-use Rattle.capture_file.specs.Units.{At, Block, Rest, Step, Takes, Needs, Fails, most, most_interfaces, unit, kind_of, order_of}
+use Rattle.capture_file.specs.Units.{At, Block, Rest, Step, Takes, Needs, Fails, most, most_interfaces, unit, order_of}
 use Rattle.capture_file.specs.Units.{empty_section, section_in, section_by, least, rest_after, packet_in, interface_in, enhanced_in}
-use Rattle.capture_file.specs.Units.{simple_captured, simple_in, sized_in, kind_in}
+use Rattle.capture_file.specs.Units.{simple_captured, sized_in, kind_in}
 use Rattle.capture_file.specs.Spelled.{IsUndamaged}
 use Rattle.capture_file.specs.declared.order.Order.{Order}
 use Rattle.capture_file.specs.declared.order.Order.TheVariants.{Big, Little}

@@ -1,18 +1,16 @@
 -- Octets that a block of a pcapng file is put together of.
-use Rattle.std.proofs.Common.{◌≡◌, ◌⊎◌, ℕ, ◌+◌, ◌-◌, ◌*◌, ◌%◌, ◌^◌, ◌<◌, ◌≤◌, Bool, true, false, cond, List, [], ◌∷◌, ◌++◌, length}
-use Rattle.std.proofs.Common.{take, drop, refl, sym, ◌∙◌, ap, subst, inl, inr, ⊎_elim, append_assoc, arith, length-append}
+use Rattle.std.proofs.Common.{◌≡◌, ◌⊎◌, ℕ, ◌+◌, ◌-◌, ◌%◌, ◌^◌, ◌<◌, ◌≤◌, true, false, List, ◌++◌, length}
+use Rattle.std.proofs.Common.{take, drop, refl, sym, ◌∙◌, ap, subst, inl, inr, ⊎_elim, append_assoc, arith}
 use Rattle.std.specs.Prelude.{◌==◌}
 use Rattle.std.proofs.lemmas.Bool.{cases_lt, cases_Bool, eqb-true, eqb-false}
 use Rattle.std.proofs.lemmas.List.{length-drop, length-take-le, drop-drop, take-append-drop}
 use Rattle.capture_file.specs.Numbers.{number_2, number_4}
-use Rattle.capture_file.specs.Units.{kind_of, least}
+use Rattle.capture_file.specs.Units.{least}
 use Rattle.capture_file.specs.Spelled.{octets_2, octets_4, AreOctets}
 use Rattle.capture_file.specs.Sections.{Interface, Content, Padded, Lacking, Framed, Description, Enhanced, Old, Simple, Other}
 use Rattle.capture_file.specs.Sections.{block_octets, captured_length, content_octets, block_kind, block_body, IsContent}
 use Rattle.capture_file.specs.Sections.{IsBlock, simple_length}
 use Rattle.capture_file.specs.declared.order.Order.{Order}
-use Rattle.capture_file.specs.declared.order.Order.TheVariants.{Big, Little}
-use Rattle.capture_file.specs.declared.file_kind.FileKind.TheVariants.{Pcapng}
 use Rattle.capture_file.proofs.WordLemmas.{spelled_2, spelled_4, number_2-small, number_4-small, AreOctets-drop, AreOctets-take}
 
 -- ---- a whole block

@@ -1,19 +1,19 @@
 -- A pcapng file that is put together gives its packets.
-use Rattle.std.proofs.Common.{◌≡◌, ℕ, ◌+◌, ◌-◌, ◌%◌, ◌^◌, ◌<◌, ◌≤◌, Bool, true, false, cond, ltb, List, [], ◌∷◌, ◌++◌, length}
+use Rattle.std.proofs.Common.{◌≡◌, ℕ, ◌+◌, ◌<◌, ◌≤◌, Bool, true, false, cond, ltb, List, [], ◌∷◌, ◌++◌, length}
 use Rattle.std.proofs.Common.{Option, Some, None, refl, sym, ◌∙◌, ap, append_assoc, arith, length-append}
 use Rattle.std.specs.Prelude.{flat_map}
 use Rattle.std.specs.List.{AllByRecursion}
 use Rattle.std.proofs.lemmas.Bool.{le-ltb}
-use Rattle.std.proofs.lemmas.List.{append-nil}
 use Rattle.std.proofs.lemmas.List.Elements.{recursion_from_All}
-use Rattle.capture_file.specs.Numbers.{number_2, number_4}
-use Rattle.capture_file.specs.Packets.{Captured, Told, only, with_front}
-use Rattle.capture_file.specs.Units.{FileStart, Block, Step, Takes, Needs, Fails, unit, kind_of, order_of, empty_section, section_by}
-use Rattle.capture_file.specs.Units.{section_at, rest_after}
+use Rattle.capture_file.specs.Numbers.{number_2}
+use Rattle.capture_file.specs.Packets.{Captured, Told, with_front}
+use Rattle.capture_file.specs.Units.{FileStart, Block, Step, Takes, Needs, Fails, unit, kind_of, order_of, section_by}
 use Rattle.capture_file.specs.Told.{told, told_of}
 use Rattle.capture_file.specs.Spelled.{octets_2, octets_4}
-use Rattle.capture_file.specs.Sections.{Interface, Framed, block_octets, block_kind, block_body, framed_octets, added, AreBlocks, block_packets}
-use Rattle.capture_file.specs.Sections.{packets_after, WholeSection, header_body, section_octets, IsWholeSection, section_packets, AreSections}
+use Rattle.capture_file.specs.Sections.{Interface, Framed, block_octets, block_kind, block_body, framed_octets, added, AreBlocks}
+use Rattle.capture_file.specs.Sections.{block_packets}
+use Rattle.capture_file.specs.Sections.{packets_after, WholeSection, header_body, section_octets, IsWholeSection, section_packets}
+use Rattle.capture_file.specs.Sections.{AreSections}
 use Rattle.capture_file.specs.declared.order.Order.{Order}
 use Rattle.capture_file.specs.declared.order.Order.TheVariants.{Big, Little}
 use Rattle.capture_file.specs.declared.section.Section.{Section}
@@ -101,7 +101,8 @@ blocks-told whole o seen place (f ∷ blocks) more are =
     ap (told_of whole (Block (section_of o seen)) place) (append_assoc (framed_octets o f) rest more)
     ∙ framed-told whole o seen place f (rest ++ more) are.0 are.1
     ∙ ap (with_front (block_packets seen f)) (blocks-told whole o (seen ++ added f) after blocks more are.2)
-    ∙ with_front-twice (block_packets seen f) (packets_after (seen ++ added f) blocks) (told_of whole (Block last) (after + length rest) more)
+    ∙ with_front-twice (block_packets seen f) (packets_after (seen ++ added f) blocks)
+    (told_of whole (Block last) (after + length rest) more)
     ∙ ap (λ (n : ℕ). with_front (packets_after seen (f ∷ blocks)) (told_of whole (Block last) n more)) end
 
 -- ---- sections

@@ -1,5 +1,5 @@
 -- What a pcapng file is, said by how it is put together (draft-ietf-opsawg-pcapng). Nothing here knows how a file is read.
-use Rattle.std.specs.Prelude.{◌≡◌, ◌≢◌, ℕ, ◌+◌, ◌*◌, ◌%◌, ◌^◌, ◌<◌, ◌≤◌, ◌==◌, min, nat_lt, if◌then◌else◌, List, [], ◌∷◌, ◌++◌}
+use Rattle.std.specs.Prelude.{◌≡◌, ◌≢◌, ℕ, ◌+◌, ◌%◌, ◌^◌, ◌<◌, ◌≤◌, ◌==◌, min, nat_lt, if◌then◌else◌, List, [], ◌∷◌, ◌++◌}
 use Rattle.std.specs.Prelude.{length, flat_map, All, slice_get, Option, Some, None}
 use Rattle.capture_file.specs.Packets.{Captured, Packet, Bad, Told}
 use Rattle.capture_file.specs.Spelled.{octets_2, octets_4, cut_off}

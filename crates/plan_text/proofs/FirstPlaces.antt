@@ -1,19 +1,18 @@
 -- the first place of each name, found in an order
-use Rattle.std.specs.Prelude.{ℕ, ◌≡◌, ◌+◌, ◌<◌, ◌≤◌, Bool, true, false, ◌||◌, cond, List, [], ◌∷◌, map, length, drop, slice_get, Option, Some}
+use Rattle.std.specs.Prelude.{ℕ, ◌≡◌, ◌+◌, ◌<◌, Bool, true, false, ◌||◌, cond, List, [], ◌∷◌, map, length, drop, slice_get, Option, Some}
 use Rattle.std.specs.Prelude.{None, IfSome, is_some, nat_lt, refl}
 use Rattle.std.specs.List.{list_any, find, position, position_from, position_or_len}
-use Rattle.std.specs.Option.{option_or, option_copied}
+use Rattle.std.specs.Option.{option_or, option_map, option_copied, unwrap_or}
 use Rattle.std.specs.Str.{bytes_eq}
 use Rattle.std.specs.Cmp.Lexicographic.{bytes_decides}
 use Rattle.std.specs.Map.{update}
 use Rattle.std.proofs.Common.{Bor, sym, ◌∙◌, ap, subst, get_or, add-one, drop-cons}
-use Rattle.std.proofs.Math.Option.{some-injective}
 use Rattle.std.proofs.lemmas.Bool.{ltb-false}
 use Rattle.std.proofs.lemmas.List.{length-map}
 use Rattle.std.proofs.lemmas.List.Folds.{find_at}
 use Rattle.std.proofs.lemmas.List.Quantifiers.{position-Some}
 use Rattle.std.proofs.lemmas.Iterator.Adapters.{position_from-zero}
-use Rattle.std.proofs.lemmas.Option.{slice_get_past, slice_get_read}
+use Rattle.std.proofs.lemmas.Option.{slice_get-map, slice_get-get_or, slice_get_past}
 
 new_at : (b : Bool) (o : Option ℕ) (place : ℕ) → (b ≡ true → o ≡ None) → cond b (Some place) o ≡ option_or o (cond b (Some place) None)
 new_at true o place absent = sym (ap (λ (x : Option ℕ). option_or x (Some place)) (absent refl))
@@ -61,15 +60,20 @@ found_inside p seen xs None e = tt
 found_inside p seen xs (Some i) e = subst (λ n. i < n) (length-map xs seen) (inside p (map seen xs) i (sym e))
 
 is_place : (b : Bool) (n i : ℕ) → cond b (Some n) None ≡ Some i → n ≡ i
-is_place true n i e = some-injective n i e
+is_place true n i e = ap (λ (o : Option ℕ). unwrap_or o n) e
 is_place false n i e = absurd cc
 
 is_past : (b : Bool) (n : ℕ) → cond b (Some n) None ≡ None → b ≡ false
 is_past true n e = absurd cc
 is_past false n e = refl
 
-pub find_here : {A : Type 0} (p : A → Bool) (xs : List A) (i : ℕ) → position p xs ≡ Some i → find p xs ≡ slice_get xs i
+find_here : {A : Type 0} (p : A → Bool) (xs : List A) (i : ℕ) → position p xs ≡ Some i → find p xs ≡ slice_get xs i
 find_here p xs i e = find_at p xs ∙ ap (slice_get xs) (is_place (nat_lt (position_or_len p xs) (length xs)) (position_or_len p xs) i e)
+
+pub found_here : {V A : Type 0} (p : A → Bool) (seen : V → A) (xs : List V) (i : ℕ) (d : V) → i < length xs
+    → Some i ≡ position p (map seen xs) → Some (seen (get_or xs i d)) ≡ find p (map seen xs)
+found_here p seen xs i d lt e =
+    sym (find_here p (map seen xs) i (sym e) ∙ (slice_get-map seen xs i ∙ ap (option_map seen) (slice_get-get_or xs i d lt)))
 
 pub find_nowhere : {A : Type 0} (p : A → Bool) (xs : List A) → position p xs ≡ None → find p xs ≡ None
 find_nowhere p xs e =

@@ -153,33 +153,39 @@ found_from : (plan : Network) (node to : ℕ) (sent : Message) (best : Option Ne
     → IsFrom plan node to sent best ws n
 found_from plan node to sent best [] n e =
     record { most = All-nil (λ w. Shares node sent w → Passed plan node to sent w ≤ rank n.reason); from = inl e }
-found_from plan node to sent best (w ∷ ws) n e = by (has_data node sent w) refl e where
-  by_best : (o : Option Near) → has_data node sent w ≡ true
-      → nearest_of (nearer o (near_of plan node to sent w)) (map (near_of plan node to sent) (filter (has_data node sent) ws)) ≡ Some n
-      → IsFrom plan node to sent o (w ∷ ws) n
-  by_best None has k =
-      taken_first plan node to sent None w ws n (shared_has node sent w has) (λ b is. absurd (nothing_is b is))
-      (found_from plan node to sent (Some (near_of plan node to sent w)) ws n k)
-  by_best (Some b) has k = by_rank (nat_lt (rank b.reason) (Passed plan node to sent w)) refl k where
-    by_rank : (c : Bool) → nat_lt (rank b.reason) (Passed plan node to sent w) ≡ c
-        → nearest_of (if c then Some (near_of plan node to sent w) else Some b)
-        (map (near_of plan node to sent) (filter (has_data node sent) ws)) ≡ Some n
-        → IsFrom plan node to sent (Some b) (w ∷ ws) n
-    by_rank true lt m =
-        taken_first plan node to sent (Some b) w ws n (shared_has node sent w has)
-        (λ x is. subst (λ (z : Near). rank z.reason < Passed plan node to sent w) (some_is b x is)
-        (ltb-true (rank b.reason) (Passed plan node to sent w) lt))
-        (found_from plan node to sent (Some (near_of plan node to sent w)) ws n m)
-    by_rank false lt m =
-        left_first plan node to sent b w ws n (ltb-false (rank b.reason) (Passed plan node to sent w) lt)
-        (found_from plan node to sent (Some b) ws n m)
+found_from plan node to sent best (w ∷ ws) n e =
+    by (λ (o : Option Near) k. found_from plan node to sent o ws n k) (has_data node sent w) refl e
+  where
+    More : Type 0
+    More = (o : Option Near) → nearest_of o (map (near_of plan node to sent) (filter (has_data node sent) ws)) ≡ Some n
+        → IsFrom plan node to sent o ws n
 
-  by : (b : Bool) → has_data node sent w ≡ b
-      → nearest_of best (map (near_of plan node to sent) (if b then w ∷ filter (has_data node sent) ws else filter (has_data node sent) ws))
-      ≡ Some n → IsFrom plan node to sent best (w ∷ ws) n
-  by true has k = by_best best has k
-  by false has k =
-      passed_over plan node to sent best w ws n (λ s. false≢true (sym has ∙ has_shared node sent w s)) (found_from plan node to sent best ws n k)
+    by_best : More → (o : Option Near) → has_data node sent w ≡ true
+        → nearest_of (nearer o (near_of plan node to sent w)) (map (near_of plan node to sent) (filter (has_data node sent) ws)) ≡ Some n
+        → IsFrom plan node to sent o (w ∷ ws) n
+    by_best more None has k =
+        taken_first plan node to sent None w ws n (shared_has node sent w has) (λ b is. absurd (nothing_is b is))
+        (more (Some (near_of plan node to sent w)) k)
+    by_best more (Some b) has k = by_rank (nat_lt (rank b.reason) (Passed plan node to sent w)) refl k where
+      by_rank : (c : Bool) → nat_lt (rank b.reason) (Passed plan node to sent w) ≡ c
+          → nearest_of (if c then Some (near_of plan node to sent w) else Some b)
+          (map (near_of plan node to sent) (filter (has_data node sent) ws)) ≡ Some n
+          → IsFrom plan node to sent (Some b) (w ∷ ws) n
+      by_rank true lt m =
+          taken_first plan node to sent (Some b) w ws n (shared_has node sent w has)
+          (λ x is. subst (λ (z : Near). rank z.reason < Passed plan node to sent w) (some_is b x is)
+          (ltb-true (rank b.reason) (Passed plan node to sent w) lt))
+          (more (Some (near_of plan node to sent w)) m)
+      by_rank false lt m =
+          left_first plan node to sent b w ws n (ltb-false (rank b.reason) (Passed plan node to sent w) lt)
+          (more (Some b) m)
+
+    by : More → (b : Bool) → has_data node sent w ≡ b
+        → nearest_of best (map (near_of plan node to sent) (if b then w ∷ filter (has_data node sent) ws else filter (has_data node sent) ws))
+        ≡ Some n → IsFrom plan node to sent best (w ∷ ws) n
+    by more true has k = by_best more best has k
+    by more false has k =
+        passed_over plan node to sent best w ws n (λ s. false≢true (sym has ∙ has_shared node sent w s)) (more best k)
 
 pub is_nearest : (plan : Network) (ws : List Waiting) (node to : ℕ) (sent : Message) (n : Near) → nearest plan ws node to sent ≡ Some n
     → IsNearest plan ws node to sent n.number n.reason
@@ -202,21 +208,23 @@ is_nearest plan ws node to sent n e =
 
 stays_some : (ns : List Near) (b : Near) → nearest_of (Some b) ns ≡ None → ⊥
 stays_some [] b e = cc
-stays_some (n ∷ ns) b e = by (nat_lt (rank b.reason) (rank n.reason)) e where
-  by : (c : Bool) → nearest_of (if c then Some n else Some b) ns ≡ None → ⊥
-  by true k = stays_some ns n k
-  by false k = stays_some ns b k
+stays_some (n ∷ ns) b e = by (stays_some ns n) (stays_some ns b) (nat_lt (rank b.reason) (rank n.reason)) e where
+  by : (nearest_of (Some n) ns ≡ None → ⊥) → (nearest_of (Some b) ns ≡ None → ⊥) → (c : Bool)
+      → nearest_of (if c then Some n else Some b) ns ≡ None → ⊥
+  by first second true k = first k
+  by first second false k = second k
 
 none_from : (plan : Network) (node to : ℕ) (sent : Message) (ws : List Waiting)
     → nearest_of None (map (near_of plan node to sent) (filter (has_data node sent) ws)) ≡ None → All (λ w. Shares node sent w → ⊥) ws
 none_from plan node to sent [] e = All-nil (λ w. Shares node sent w → ⊥)
-none_from plan node to sent (w ∷ ws) e = by (has_data node sent w) refl e where
-  by : (b : Bool) → has_data node sent w ≡ b
+none_from plan node to sent (w ∷ ws) e = by (none_from plan node to sent ws) (has_data node sent w) refl e where
+  by : (nearest_of None (map (near_of plan node to sent) (filter (has_data node sent) ws)) ≡ None → All (λ v. Shares node sent v → ⊥) ws)
+      → (b : Bool) → has_data node sent w ≡ b
       → nearest_of None (map (near_of plan node to sent) (if b then w ∷ filter (has_data node sent) ws else filter (has_data node sent) ws))
       ≡ None → All (λ v. Shares node sent v → ⊥) (w ∷ ws)
-  by true has k = absurd (stays_some (map (near_of plan node to sent) (filter (has_data node sent) ws)) (near_of plan node to sent w) k)
-  by false has k =
-      All-cons (λ v. Shares node sent v → ⊥) w ws (λ s. false≢true (sym has ∙ has_shared node sent w s)) (none_from plan node to sent ws k)
+  by more true has k = absurd (stays_some (map (near_of plan node to sent) (filter (has_data node sent) ws)) (near_of plan node to sent w) k)
+  by more false has k =
+      All-cons (λ v. Shares node sent v → ⊥) w ws (λ s. false≢true (sym has ∙ has_shared node sent w s)) (more k)
 
 pub none_near : (plan : Network) (ws : List Waiting) (node to : ℕ) (sent : Message) → nearest plan ws node to sent ≡ None
     → All (λ w. Shares node sent w → ⊥) ws

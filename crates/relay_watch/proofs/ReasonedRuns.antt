@@ -163,12 +163,12 @@ waiting_is plan events lines i now differ run =
 
 -- ---- by the nearest
 
-number_by : Why → ℕ
+abbrev number_by : Why → ℕ
 number_by (By number reason) = number
 number_by (Again number) = number
 number_by NoArrival = 0
 
-reason_by : Reason → Why → Reason
+abbrev reason_by : Reason → Why → Reason
 reason_by r (By number reason) = reason
 reason_by r (Again number) = r
 reason_by r NoArrival = r
@@ -199,7 +199,7 @@ has_nearest plan events lines left i number reason e run differ at has =
 
 -- ---- no arrival with the data
 
-is_by : Why → Bool
+abbrev is_by : Why → Bool
 is_by (By number reason) = true
 is_by (Again number) = false
 is_by NoArrival = false
@@ -295,4 +295,4 @@ answered_again plan events lines left i number e run differ at has =
     by : (now : Kept) (k : ByRelay plan e) (o : Option Near) → IsWhyBy plan now.answered k.node e.destination k.message (Again number) o
         → IsAgain plan now.answered k.node e.destination k.message number
     by now k None says = says
-    by now k (Some n) says = absurd (both (sym (ap is_by says)) refl)
+    by now k (Some n) says = absurd (both refl (sym (ap is_by says)))

@@ -39,8 +39,8 @@ differ a b apart = by (a == b) refl where
   by false e = refl
 
 not_true : (b : Bool) → (b ≡ true → ⊥) → b ≡ false
-not_true true no = absurd (no refl)
-not_true false no = refl
+not_true true apart = absurd (apart refl)
+not_true false apart = refl
 
 -- a filter that every item passes
 passes_all : (p : Waiting → Bool) (ws : List Waiting) → ((w : Waiting) → Among w ws → p w ≡ true) → filter p ws ≡ ws
@@ -53,16 +53,14 @@ passes_all p (w ∷ ws) all =
 filter_twice : (p q : Waiting → Bool) (ws : List Waiting) → filter (λ w. not (p w || q w)) ws
     ≡ filter (λ w. not (q w)) (filter (λ w. not (p w)) ws)
 filter_twice p q [] = refl
-filter_twice p q (w ∷ ws) = by (p w) (q w) refl where
-  more : filter (λ w. not (p w || q w)) ws ≡ filter (λ w. not (q w)) (filter (λ w. not (p w)) ws)
-  more = filter_twice p q ws
-
-  by : (a b : Bool) → q w ≡ b → (if not (a || b) then w ∷ filter (λ w. not (p w || q w)) ws else filter (λ w. not (p w || q w)) ws)
+filter_twice p q (w ∷ ws) = by (p w) (q w) refl (filter_twice p q ws) where
+  by : (a b : Bool) → q w ≡ b → filter (λ w. not (p w || q w)) ws ≡ filter (λ w. not (q w)) (filter (λ w. not (p w)) ws)
+      → (if not (a || b) then w ∷ filter (λ w. not (p w || q w)) ws else filter (λ w. not (p w || q w)) ws)
       ≡ filter (λ w. not (q w)) (if not a then w ∷ filter (λ w. not (p w)) ws else filter (λ w. not (p w)) ws)
-  by true b e = more
-  by false true e = more ∙ sym (ap (λ c. if not c then w ∷ filter (λ w. not (q w)) (filter (λ w. not (p w)) ws)
+  by true b e more = more
+  by false true e more = more ∙ sym (ap (λ c. if not c then w ∷ filter (λ w. not (q w)) (filter (λ w. not (p w)) ws)
       else filter (λ w. not (q w)) (filter (λ w. not (p w)) ws)) e)
-  by false false e = ap (λ xs. w ∷ xs) more ∙ sym (ap (λ c. if not c then w ∷ filter (λ w. not (q w)) (filter (λ w. not (p w)) ws)
+  by false false e more = ap (λ xs. w ∷ xs) more ∙ sym (ap (λ c. if not c then w ∷ filter (λ w. not (q w)) (filter (λ w. not (p w)) ws)
       else filter (λ w. not (q w)) (filter (λ w. not (p w)) ws)) e)
 
 -- if no two have the same number, one less is all but those of its number
@@ -165,14 +163,14 @@ record IsOne (plan : Network) (events : List Event) (w : Waiting) : Type 0 where
 
 is_one : (plan : Network) (events : List Event) (w : Waiting) → Among w (arrivals_of plan events) → IsOne plan events w
 is_one plan [] w among = absurd among
-is_one plan (d ∷ events) w among = by (begins plan d (reading d.octets)) refl among where
+is_one plan (d ∷ events) w among = by (is_one plan events w) (begins plan d (reading d.octets)) refl among where
   later : IsOne plan events w → IsOne plan (d ∷ events) w
   later one = record { place = suc one.place; event = one.event; at = one.at; numbered = one.numbered }
 
-  by : (o : Option Waiting) → begins plan d (reading d.octets) ≡ o → Among w (cons_option o (arrivals_of plan events))
-      → IsOne plan (d ∷ events) w
-  by None e k = later (is_one plan events w k)
-  by (Some x) e k =
+  by : (Among w (arrivals_of plan events) → IsOne plan events w) → (o : Option Waiting) → begins plan d (reading d.octets) ≡ o
+      → Among w (cons_option o (arrivals_of plan events)) → IsOne plan (d ∷ events) w
+  by more None e k = later (more k)
+  by more (Some x) e k =
       ⊎_elim
       (λ (same : x ≡ w). record {
         place = 0;
@@ -180,7 +178,7 @@ is_one plan (d ∷ events) w among = by (begins plan d (reading d.octets)) refl 
         at = refl;
         numbered = (begun plan d (reading d.octets) w (e ∙ ap Some same)).numbered;
       })
-      (λ (rest : Among w (arrivals_of plan events)). later (is_one plan events w rest)) k
+      (λ (rest : Among w (arrivals_of plan events)). later (more rest)) k
 
 explains_other : (v : Verdict) (n : ℕ) → ((by : ℕ) (ways : List Explanation) → v ≡ verdicts.Explained by ways → by ≡ n → ⊥)
     → explains n v ≡ false

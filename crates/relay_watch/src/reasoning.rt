@@ -1,5 +1,5 @@
 //! The law of the reasons that lines give, over every list of events from nothing. The call does nothing; its contract is the law.
-ghost use Rattle.std.specs.Prelude.{◌≡◌, ◌×◌, ℕ, List, Some, slice_get};
+ghost use Rattle.std.specs.Prelude.{◌≡◌, ℕ, List, Some, slice_get};
 ghost use Rattle.plan_model.specs.Network.{Network};
 ghost use Rattle.relay_ways.specs.declared.reason.Reason.{Reason};
 ghost use Rattle.relay_watch.specs.Kept.{Kept, nothing_kept};

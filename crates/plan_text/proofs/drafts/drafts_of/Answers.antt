@@ -11,7 +11,8 @@ loop-i-preserved c =
     record {
       value = rw c.in_ok-put.ensures.ok
           (goes_on view read c.loop-i.read c.args.nodes.now c.loop-i.i c.index-nodes-i.result c.in_ok-next.next
-          (each_ok read 0 (map view c.args.nodes.now)) c.loop-i-test.true (sym c.index-nodes-i.is) c.in_ok-next.ensures c.loop-i.invariant.value);
+          (each_ok read 0 (map view c.args.nodes.now)) c.loop-i-test.true
+          (sym c.index-nodes-i.is) c.in_ok-next.ensures c.loop-i.invariant.value);
       count = omega (
         arith,
         ap length c.in_ok-put.ensures.ok,

@@ -1,4 +1,4 @@
-use Rattle.std.proofs.Common.{◌≡◌, ◌×◌, None, drop, map, take}
+use Rattle.std.proofs.Common.{◌≡◌, None, drop, map, take}
 use Rattle.std.specs.List.{All, filter}
 use Rattle.relay_watch.specs.Repeats.{IsReached}
 use Rattle.relay_watch.specs.Whys.{has_data, near_of, nearest_of}

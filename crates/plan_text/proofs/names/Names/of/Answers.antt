@@ -1,4 +1,4 @@
-use Rattle.std.proofs.Common.{ℕ, List, Bor, Option, Some, None, cond, map, sym, ◌∙◌, ap, nat_cmp}
+use Rattle.std.proofs.Common.{ℕ, List, Bor, Some, None, cond, map, sym, ◌∙◌, ap, nat_cmp}
 use Rattle.std.specs.BTreeMap.{get_by, is_at}
 use Rattle.std.specs.Cmp.Lexicographic.{slice_cmp}
 use Rattle.std.specs.List.{position_from}
