@@ -9,6 +9,7 @@ mod CoversLemmas
 mod CutsLemmas
 mod ImportLemmas
 mod LeavingLemmas
+mod LinesTold
 mod LoadLemmas
 mod MarginLemmas
 mod OrderLemmas
