@@ -29,7 +29,7 @@ pub record HasBegun (plan : Network) (events : List Event) (w : Waiting) : Type 
   pub at : slice_get events place ≡ Some event
   pub begun : Begun plan event w
 
--- A line explains its message by the arrival, and the message has that number. The arrival waited before the first event, or is that of one.
+-- A line explains its message by the arrival, and the message has that number. The arrival waited before the events, or is one of them.
 pub record IsAnswer (plan : Network) (old : List Waiting) (events : List Event) (lines : List Line) (x : Answered) : Type 0 where
   pub place : ℕ
   pub answer : Event

@@ -1,5 +1,6 @@
 -- Why messages are unexplained, over every list of events.
-use Rattle.std.proofs.Common.{◌≡◌, ℕ, zero, suc, ◌<◌, Bool, true, false, List, [], ◌∷◌, length, take, Option, Some, None, refl, sym, ◌∙◌, ap}
+use Rattle.std.proofs.Common.{◌≡◌, ℕ, zero, suc, ◌<◌, Bool, true, false, List, [], ◌∷◌, length, take, Option, Some, None, refl, sym, ◌∙◌}
+use Rattle.std.proofs.Common.{ap}
 use Rattle.std.proofs.Common.{subst, get_or, ⊎_elim, arith}
 use Rattle.std.specs.Prelude.{if◌then◌else◌, IsSomeAnd, slice_get, Result, Ok, Err}
 use Rattle.std.specs.List.{All}
