@@ -16,8 +16,7 @@ loop-way-preserved c =
 
 pub returns-clause-conditions : goal.returns-clause-conditions
 returns-clause-conditions c =
-    conditions_are c.args.at.now.plan.now c.args.at.now.node c.args.at.now.origin c.args.at.now.octets.now c.args.to c.args.sent.now
-    c.in_ok-found.found c.loop-way.kept
+    conditions_are c.args.at.now.plan.now c.args.at.now.node c.args.at.now.origin c.args.at.now.octets.now c.args.to c.args.sent.now c.in_ok-found.found c.loop-way.kept
     c.in_ok-found.ensures.are c.in_ok-found.ensures.possible
     (subst (λ (xs : List Way). AreKept c.args.to c.args.sent.now xs c.loop-way.kept) c.as_slice-way-items.ensures
     (subst (λ (xs : List Way). AreKept c.args.to c.args.sent.now xs c.loop-way.kept)
