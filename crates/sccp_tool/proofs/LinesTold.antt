@@ -35,6 +35,7 @@ at_most : (plan : Network) (m n : ℕ) (s : Spot) (ms : List (List Mark)) → 1 
 at_most plan m n s ms some safe tight = by (cases_lt m n) where
   hops : List Hop
   hops = route plan s ms
+
   longer : m < n → ⊥
   longer lt =
       let many = tight.hops in
@@ -49,6 +50,7 @@ at_most plan m n s ms some safe tight = by (cases_lt m n) where
       subst (λ (hs : List Hop). IsSomeAnd (last hs) (MayEnd (IsAllowed plan s))) (cut_route (λ marking spot. step plan spot marking) s ms m)
       (safe s (take m ms) tight.covered short) in
       MayEnd-sent (IsAllowed plan s) g.0.step h.0.spot g.2 (subst (λ (o : Option Step). IsSomeAnd o (MayEnd (IsAllowed plan s))) here ends)
+
   by : (m < n) ⊎ (n ≤ m) → n ≤ m
   by (inl lt) = absurd (longer lt)
   by (inr le) = le
