@@ -3,7 +3,6 @@ use Rattle.std.specs.Prelude.{◌≡◌, ◌<◌, ◌≤◌, ◌^◌, ℕ, ◌+�
 use Rattle.std.specs.Prelude.{slice_get, refl}
 use Rattle.std.proofs.Common.{◌⊎◌, inl, inr, sym, ◌∙◌, ap, subst, arith, get_or, length-take-le}
 use Rattle.std.proofs.lemmas.Bool.{cases_lt}
-use Rattle.std.proofs.lemmas.List.{append_assoc}
 use Rattle.std.proofs.lemmas.Option.{slice_get-get_or}
 use Rattle.plan_check.specs.Verified.{Verified}
 use Rattle.plan_model.proofs.Cutting.{cut_route, get_front, last_at, sent_to}
@@ -64,12 +63,12 @@ one_bound plan a b x y =
 -- ---- numbers
 
 five : (a b c d e f : List ℕ) → a ++ b ++ c ++ d ++ e ++ f ≡ a ++ (b ++ c ++ d ++ e ++ f)
-five a b c d e f =
-    ap (λ t. t ++ c ++ d ++ e ++ f) (refl {x = a ++ b}) ∙ ap (λ t. t ++ d ++ e ++ f) (append_assoc a b c)
-    ∙ ap (λ t. t ++ e ++ f) (append_assoc a (b ++ c) d) ∙ ap (λ t. t ++ f) (append_assoc a (b ++ c ++ d) e) ∙ append_assoc a (b ++ c ++ d ++ e) f
+five [] b c d e f = refl
+five (x ∷ a) b c d e f = ap (λ (t : List ℕ). x ∷ t) (five a b c d e f)
 
 six : (a b c d e f g : List ℕ) → a ++ b ++ c ++ d ++ e ++ f ++ g ≡ a ++ (b ++ c ++ d ++ e ++ f ++ g)
-six a b c d e f g = ap (λ t. t ++ g) (five a b c d e f) ∙ append_assoc a (b ++ c ++ d ++ e ++ f) g
+six [] b c d e f g = refl
+six (x ∷ a) b c d e f g = ap (λ (t : List ℕ). x ∷ t) (six a b c d e f g)
 
 pub numbers_told : LinesTellNumbers
 unfolding journey_line numbered
