@@ -2,6 +2,8 @@
 mod Worked
 mod Turns
 mod LastLines
+mod Sound
 mod Forms
+mod ReadAgain
 mod Numerals
 mod Fitting

@@ -1,9 +1,12 @@
 -- The forms of the lines of a capture.
 use Rattle.std.specs.Prelude.{◌≡◌, ℕ, ◌<◌, ◌≤◌, ◌⊎◌, ◌&&◌, ◌==◌, Bool, true, not, List, length, Some}
-use Rattle.std.specs.List.{list_all}
-use Rattle.plan_model.specs.Network.{Network}
+use Rattle.std.specs.List.{list_all, position}
+use Rattle.hex.specs.Hex.{IsBytes}
+use Rattle.capture_file.specs.Packets.{Captured, Packet, Bad}
+use Rattle.plan_model.specs.Network.{Network, has_point}
+use Rattle.sccp_report.specs.Roles.{named}
 use Rattle.trace_text.specs.Forms.{line_of}
-use Rattle.trace_text.specs.declared.line.Line.TheVariants.{Skip}
+use Rattle.trace_text.specs.declared.line.Line.TheVariants.{Msg, Skip}
 use Rattle.m3ua_trace.specs.Imported.{name_at, message_line}
 
 -- a message for a relay of the plan, with at most as many octets for SCCP as a line of a trace holds
@@ -30,3 +33,19 @@ is_plain octet = not (octet == 10) && not (octet == 13)
 pub record FitsTrace (line : List ℕ) : Type 0 where
   pub short : length line ≤ 8192
   pub plain : list_all is_plain line ≡ true
+
+-- The reader of a trace reads the line as the message that it was printed for: with its name, its origin and its octets. By this
+-- name a replay finds the relay that has the destination's point code.
+pub record IsReadAgain (plan : Network) (line : List ℕ) : Type 0 where
+  pub message : IsMessage plan line
+  pub read : line_of line ≡ Some (Msg message.name message.origin message.octets)
+  pub relay : named plan message.name ≡ position (has_point message.destination) plan.nodes
+
+-- a line that a trace skips, or such a message
+abbrev pub IsReadLine : Network → List ℕ → Type 0
+IsReadLine plan line = (line_of line ≡ Some Skip) ⊎ IsReadAgain plan line
+
+-- the data of a packet are octets
+abbrev pub HasOctets : Captured → Type 0
+HasOctets (Packet link original octets) = IsBytes octets
+HasOctets (Bad why) = Unit {0}

@@ -95,7 +95,7 @@ impl Capture {
 }
 
 /// The counts with one more packet.
-fn one_more(counts: &Counts) -> Result<Counts, OutOfMemory>
+pub fn one_more(counts: &Counts) -> Result<Counts, OutOfMemory>
     ensures { IfOk result (λ after. after ≡ one_more counts.now) }
 {
     Ok(Counts {
@@ -219,7 +219,7 @@ fn counts_at_end(
 }
 
 /// Appends the last lines, of which those of chunks that still wait are in the order in which these arrived.
-fn put_last_lines(
+pub fn put_last_lines(
     text: &mut Vec<u8>,
     counts: &Counts,
     fault: Option<FileFault>,

@@ -56,7 +56,7 @@ fn put_given(
 
 /// Whether a chunk is for a protocol that is read.
 #[tactic(auto, unfolding(crate::specs::Items::is_read))]
-fn is_read(chunk: &Data<'_>) -> bool
+pub fn is_read(chunk: &Data<'_>) -> bool
     ensures { result ≡ is_read (data_as chunk.now) }
 {
     is_for_m3ua(chunk) || chunk.protocol == M2PA

@@ -144,7 +144,7 @@ fn put_decoded(
 
 /// Whether octets are a message of M3UA of another class or type than DATA.
 #[tactic(auto, unfolding(crate::specs::Items::is_other_m3ua))]
-fn is_other_m3ua(octets: &[u8]) -> bool
+pub fn is_other_m3ua(octets: &[u8]) -> bool
     ensures { result ≡ is_other_m3ua octets.now }
 {
     octets.len() >= 8 && octets[0] == 1 && !(octets[2] == 1 && octets[3] == 1)
@@ -170,7 +170,7 @@ fn put_m3ua(
 
 /// Appends the line of a message of SCCP without point codes.
 #[tactic(auto, unfolding(crate::specs::Items::bare_item))]
-fn put_bare(
+pub fn put_bare(
     alloc: Global,
     text: &mut Vec<u8>,
     subject: Subject,

@@ -1,5 +1,5 @@
 -- Which arrivals are remembered as answered.
-use Rattle.std.proofs.Common.{◌≡◌, ℕ, zero, suc, Bool, true, false, List, [], ◌∷◌, length, drop, Option, Some, None, refl, sym, ◌∙◌, ap, subst}
+use Rattle.std.proofs.Common.{◌≡◌, ℕ, suc, Bool, true, false, List, [], ◌∷◌, length, drop, Option, Some, None, refl, sym, ◌∙◌, ap, subst}
 use Rattle.std.proofs.Common.{◌⊎◌, inl, inr, ⊎_elim}
 use Rattle.std.specs.Prelude.{nat_lt, if◌then◌else◌, option_map, slice_get}
 use Rattle.std.specs.Option.{option_to_list}
@@ -19,7 +19,7 @@ use Rattle.relay_watch.specs.declared.found.Found.{Found}
 use Rattle.relay_watch.specs.declared.line.Line.{Line}
 use Rattle.relay_watch.specs.declared.verdict.Verdict.TheVariants as verdicts
 use Rattle.relay_watch.specs.declared.waiting.Waiting.{Waiting}
-use Rattle.relay_watch.proofs.Steps.{Begun, Explaining, found_says, number_in, begun, among_before, among_parts}
+use Rattle.relay_watch.proofs.Steps.{Begun, Explaining, found_says, begun, among_before, among_parts}
 use Rattle.relay_watch.proofs.Watched.{judged_by}
 
 -- one of the events began it
@@ -29,7 +29,7 @@ pub record HasBegun (plan : Network) (events : List Event) (w : Waiting) : Type 
   pub at : slice_get events place ≡ Some event
   pub begun : Begun plan event w
 
--- A line explains its message by the arrival, and the message has that number. The arrival waited before the first event, or is that of one.
+-- A line explains its message by the arrival, and the message has that number. The arrival waited before the events, or is one of them.
 pub record IsAnswer (plan : Network) (old : List Waiting) (events : List Event) (lines : List Line) (x : Answered) : Type 0 where
   pub place : ℕ
   pub answer : Event

@@ -1,6 +1,7 @@
 -- The counts of three messages through two relays, computed on the definitions; and how few markings explain a few messages.
-use Rattle.std.specs.Prelude.{◌≡◌, ℕ, ◌&&◌, List, [], ◌∷◌, ◌++◌, map, Some, None}
+use Rattle.std.specs.Prelude.{◌≡◌, ℕ, false, ◌&&◌, List, [], ◌∷◌, ◌++◌, map, Some, None}
 use Rattle.std.proofs.Common.{refl}
+use Rattle.std.proofs.lemmas.List.Elements.{All-nil, All-cons}
 use Rattle.sccp_base.specs.declared.mark.Mark.{Mark}
 use Rattle.sccp_base.specs.declared.mark.Mark.TheVariants as marks
 use Rattle.sccp_message.specs.Reading.{message_in}
@@ -10,8 +11,8 @@ use Rattle.plan_rules.specs.Rule.{rule}
 use Rattle.plan_rules.specs.declared.target.Target.TheVariants.{Relay, Final}
 use Rattle.plan_model.specs.declared.node.Node.{Node}
 use Rattle.plan_model.specs.Network.{Network, network}
-use Rattle.relay_ways.specs.Conditions.{condition}
-use Rattle.relay_ways.specs.Markings.{markings}
+use Rattle.relay_ways.specs.Conditions.{condition, both, is_possible}
+use Rattle.relay_ways.specs.Markings.{markings, AreMet, AreParts}
 use Rattle.relay_ways.specs.declared.condition.Condition.{Condition}
 use Rattle.relay_watch.specs.Kept.{first_tally, left_relays}
 use Rattle.relay_watch.specs.Least.{told_conditions}
@@ -167,6 +168,18 @@ two = refl
 
 two_of_b : markings (told_conditions plan 1 events lines) ≡ 2
 two_of_b = refl
+
+-- a cut into two parts: nothing held for the first two messages, and b's point for the third
+two_parts : AreParts (told_conditions plan 0 events lines) ((by_b ∷ by_b ∷ []) ∷ (by_own ∷ []) ∷ [])
+two_parts = record {
+  whole = refl;
+  met = All-cons AreMet (by_b ∷ by_b ∷ []) ((by_own ∷ []) ∷ []) ([], refl)
+      (All-cons AreMet (by_own ∷ []) [] (marks.PointCode 2051 ∷ [], refl) (All-nil AreMet));
+}
+
+-- and none into one part, since no marking meets the last two together
+none_meets_both : is_possible (both by_b by_own) ≡ false
+none_meets_both = refl
 
 -- a relay that shares its load between targets in an order: as many as there are messages
 six : markings (by_first ∷ by_second ∷ by_first ∷ by_second ∷ by_first ∷ by_second ∷ []) ≡ 6

@@ -1,5 +1,5 @@
 -- The nearest of some arrivals: none passes more tests, and no earlier one as many.
-use Rattle.std.proofs.Common.{◌≡◌, ℕ, zero, suc, ◌<◌, ◌≤◌, Bool, true, false, List, [], ◌∷◌, take, map, Option, Some, None, refl, sym, ◌∙◌, ap}
+use Rattle.std.proofs.Common.{◌≡◌, ℕ, suc, ◌<◌, ◌≤◌, Bool, true, false, List, [], ◌∷◌, take, map, Option, Some, None, refl, sym, ◌∙◌, ap}
 use Rattle.std.proofs.Common.{subst, ◌⊎◌, inl, inr, ⊎_elim, arith}
 use Rattle.std.specs.Prelude.{◌==◌, ◌&&◌, nat_eq, nat_lt, if◌then◌else◌, slice_get}
 use Rattle.std.specs.Cmp.Lexicographic.{pointwise, nat_list_eq_equiv}
@@ -181,7 +181,8 @@ found_from plan node to sent best (w ∷ ws) n e =
           (more (Some b) m)
 
     by : More → (b : Bool) → has_data node sent w ≡ b
-        → nearest_of best (map (near_of plan node to sent) (if b then w ∷ filter (has_data node sent) ws else filter (has_data node sent) ws))
+        → nearest_of best (map (near_of plan node to sent) (if b then w ∷ filter (has_data node sent) ws
+        else filter (has_data node sent) ws))
         ≡ Some n → IsFrom plan node to sent best (w ∷ ws) n
     by more true has k = by_best more best has k
     by more false has k =
@@ -222,7 +223,8 @@ none_from plan node to sent (w ∷ ws) e = by (none_from plan node to sent ws) (
       → (b : Bool) → has_data node sent w ≡ b
       → nearest_of None (map (near_of plan node to sent) (if b then w ∷ filter (has_data node sent) ws else filter (has_data node sent) ws))
       ≡ None → All (λ v. Shares node sent v → ⊥) (w ∷ ws)
-  by more true has k = absurd (stays_some (map (near_of plan node to sent) (filter (has_data node sent) ws)) (near_of plan node to sent w) k)
+  by more true has k = absurd (stays_some (map (near_of plan node to sent) (filter (has_data node sent) ws))
+      (near_of plan node to sent w) k)
   by more false has k =
       All-cons (λ v. Shares node sent v → ⊥) w ws (λ s. false≢true (sym has ∙ has_shared node sent w s)) (more k)
 

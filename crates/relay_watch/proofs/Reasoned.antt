@@ -1,8 +1,8 @@
 -- What a look at a waiting arrival says, and the search for the first that is a reason.
 use Rattle.std.proofs.Common.{◌≡◌, ℕ, zero, suc, ◌+◌, ◌<◌, Bool, true, false, List, [], ◌∷◌, length, take, map, Some, refl}
 use Rattle.std.proofs.Common.{sym, ◌∙◌, ap, subst, get_or, arith}
-use Rattle.std.specs.Prelude.{◌==◌, nat_eq, unwrap_or, slice_get, Result, Ok, Err, IfOk}
-use Rattle.std.proofs.lemmas.Bool.{eqb-true, eq-eqb}
+use Rattle.std.specs.Prelude.{◌==◌, nat_eq, not, unwrap_or, slice_get, Result, Ok, Err, IfOk}
+use Rattle.std.proofs.lemmas.Bool.{eqb-true, eq-eqb, false≢true}
 use Rattle.std.specs.Cmp.Lexicographic.{pointwise, nat_list_eq_equiv}
 use Rattle.std.specs.List.{All}
 use Rattle.std.proofs.lemmas.List.Elements.{All-more}
@@ -26,6 +26,10 @@ other_data plan node to sent w is waits other here M like =
   where
     never : {b : Bool} → b ≡ true → b ≡ false → ⊥
     never e f = cc
+
+pub not_so : (b : Bool) → not b ≡ true → b ≡ false
+not_so true e = absurd (false≢true e)
+not_so false e = refl
 
 -- the ways that were asked for
 pub asked : (plan : Network) (node to : ℕ) (sent : Message) (w : Waiting) (ways : List Explanation) → w.node ≡ node

@@ -1,5 +1,6 @@
 -- Why messages are unexplained, over every list of events.
-use Rattle.std.proofs.Common.{◌≡◌, ℕ, zero, suc, ◌<◌, Bool, true, false, List, [], ◌∷◌, length, take, Option, Some, None, refl, sym, ◌∙◌, ap}
+use Rattle.std.proofs.Common.{◌≡◌, ℕ, zero, suc, ◌<◌, Bool, true, false, List, [], ◌∷◌, length, take, Option, Some, None, refl, sym, ◌∙◌}
+use Rattle.std.proofs.Common.{ap}
 use Rattle.std.proofs.Common.{subst, get_or, ⊎_elim, arith}
 use Rattle.std.specs.Prelude.{if◌then◌else◌, IsSomeAnd, slice_get, Result, Ok, Err}
 use Rattle.std.specs.List.{All}
@@ -10,17 +11,15 @@ use Rattle.sccp_message.specs.declared.message.Message.{Message}
 use Rattle.sccp_message.specs.Reading.{reading}
 use Rattle.sccp_message.specs.Unitdata.{called_of}
 use Rattle.plan_model.specs.Network.{Network}
-use Rattle.relay_ways.specs.declared.explanation.Explanation.{Explanation}
 use Rattle.relay_ways.specs.declared.reason.Reason.{Reason}
 use Rattle.relay_watch.specs.Arrivals.{source, is_management}
 use Rattle.relay_watch.specs.Kept.{Kept, nothing_kept, is_unexplained}
 use Rattle.relay_watch.specs.Reasons.{SendsUnder}
-use Rattle.relay_watch.specs.Runs.{AreJudged, HasVerdict, HasReason, NumbersDiffer}
+use Rattle.relay_watch.specs.Runs.{AreJudged, HasVerdict, NumbersDiffer}
 use Rattle.relay_watch.specs.Verdicts.{of_unsent, by_source, by_called, verdict_of, said_by}
 use Rattle.relay_watch.specs.Watching.{IsWatched, AreWatched}
 use Rattle.relay_watch.specs.WhyRuns.{Shares, waiting_before, IsNearest, HasNearest, HasNone, WasAnswered}
 use Rattle.relay_watch.specs.Whys.{nearest, IsAgain, SaysWhy, IsWhy, IsWhyBy, IsWhyFrom, IsWhyOf}
-use Rattle.relay_watch.specs.declared.answered.Answered.{Answered}
 use Rattle.relay_watch.specs.declared.event.Event.{Event}
 use Rattle.relay_watch.specs.declared.found.Found.{Found}
 use Rattle.relay_watch.specs.declared.line.Line.{Line}

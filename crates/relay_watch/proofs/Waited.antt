@@ -86,7 +86,8 @@ fresh_given ws w apart given = by (nat_lt most_waiting (length ws)) given where
   by true e = tail ws apart e
   by false e = absurd cc
 
-pub absent_joined : (plan : Network) (old : List Waiting) (d : Event) (events : List Event) (line : Line) (next : List Waiting) (w : Waiting)
+pub absent_joined : (plan : Network) (old : List Waiting) (d : Event) (events : List Event) (line : Line) (next : List Waiting)
+    (w : Waiting)
     → IsJudged plan old d line next → Numbered old (d ∷ events) → line.given_up ≡ Some w → Absent w.number events
 absent_joined plan old d events line next w h n given k e at =
     ⊎_elim (λ (m : Among w old). λ same. n.ahead (suc k) e at w m (sym same))

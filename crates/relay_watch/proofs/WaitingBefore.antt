@@ -1,6 +1,6 @@
 -- Which arrivals wait after events: those of the events that no line names.
-use Rattle.std.proofs.Common.{◌≡◌, ◌≢◌, ℕ, zero, suc, Bool, true, false, ◌||◌, List, [], ◌∷◌, ◌++◌, length, drop, Option, Some, None, refl}
-use Rattle.std.proofs.Common.{sym, ◌∙◌, ap, subst, ◌⊎◌, inl, inr, ⊎_elim, append_assoc}
+use Rattle.std.proofs.Common.{◌≡◌, ℕ, zero, suc, Bool, true, false, ◌||◌, List, [], ◌∷◌, ◌++◌, length, drop, Option, Some, None, refl}
+use Rattle.std.proofs.Common.{sym, ◌∙◌, ap, subst, inl, inr, ⊎_elim, append_assoc}
 use Rattle.std.specs.Prelude.{◌==◌, nat_lt, not, if◌then◌else◌, slice_get}
 use Rattle.std.specs.List.{filter, cons_option, list_any, remove}
 use Rattle.std.specs.Option.{option_to_list}
@@ -11,7 +11,7 @@ use Rattle.sccp_base.proofs.Among.{Among, Among-slice_get}
 use Rattle.sccp_message.specs.Reading.{reading}
 use Rattle.plan_model.specs.Network.{Network}
 use Rattle.relay_ways.specs.declared.explanation.Explanation.{Explanation}
-use Rattle.relay_watch.specs.Arrivals.{begins, most_waiting, left_at, joined, kept, given_up}
+use Rattle.relay_watch.specs.Arrivals.{begins, most_waiting, joined, kept, given_up}
 use Rattle.relay_watch.specs.Judging.{IsJudged, place_of}
 use Rattle.relay_watch.specs.Runs.{AreJudged, explains, gives_up, names}
 use Rattle.relay_watch.specs.Verdicts.{verdict_of}
@@ -22,8 +22,8 @@ use Rattle.relay_watch.specs.declared.line.Line.{Line}
 use Rattle.relay_watch.specs.declared.verdict.Verdict.{Verdict}
 use Rattle.relay_watch.specs.declared.verdict.Verdict.TheVariants as verdicts
 use Rattle.relay_watch.specs.declared.waiting.Waiting.{Waiting}
-use Rattle.relay_watch.proofs.Once.{Fresh, Absent, Apart, Numbered, joined_apart, numbered_next, used}
-use Rattle.relay_watch.proofs.Steps.{Explaining, Begun, found_says, number_in, begun}
+use Rattle.relay_watch.proofs.Once.{Apart, Numbered, joined_apart, numbered_next, used}
+use Rattle.relay_watch.proofs.Steps.{Explaining, found_says, number_in, begun}
 use Rattle.relay_watch.proofs.Waited.{absent_joined}
 
 -- ---- lists without some of their items

@@ -4,8 +4,11 @@
 //! that relay because of which the plan lets it send that message, whatever the relay held prohibited. The crate above may rely on
 //! this. The conditions of an explained message are met exactly by the markings under which the plan has the relay send it because
 //! of that arrival, and some marking meets one. No arrival explains two messages. If a message is unexplained, under no marking any
-//! earlier arrival lets the relay send it, but for arrivals that explain an earlier message or were given up. At most 16,384 arrivals
-//! wait, so the time for a message does not grow with the number of those before it.
+//! earlier arrival lets the relay send it, but for arrivals that explain an earlier message or were given up. The reason that is given
+//! is the first test that the message fails, of those on the arrival with its data that comes nearest (`reasoned_truly`). The counts at
+//! the end are those of the lines (`counted_truly`), and the markings of a relay the least number under which it sends its explained
+//! messages (`markings_are_least`). At most 16,384 arrivals wait, so the time for a message does not grow with the number of those before
+//! it. It is compared once with arrivals that are the same, if not too many others come between them.
 #![tactic(auto)]
 
 mod answered;

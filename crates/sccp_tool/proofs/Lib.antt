@@ -9,9 +9,11 @@ mod CoversLemmas
 mod CutsLemmas
 mod ImportLemmas
 mod LeavingLemmas
+mod LinesTold
 mod LoadLemmas
 mod MarginLemmas
 mod OrderLemmas
+mod ReadPlans
 mod ReplayLemmas
 mod RouteLemmas
 mod RunLemmas

@@ -5,7 +5,7 @@ use Rattle.sccp_io.specs.Files.{Contents}
 use Rattle.sccp_work.specs.Ending.{IsCut, Answers, Outcome}
 use Rattle.sccp_work.specs.Moment.{Moment}
 use Rattle.sccp_tool.specs.Run.{work_of, Cause, SureCause, TellsAnswer, TellsJourneys, HasNamedFiles, UsageCause, ExactlyWhere, ComesWhere}
-use Rattle.sccp_tool.specs.Run.{RefusedWhere}
+use Rattle.sccp_tool.specs.Run.{RefusedWhere, IsFaultless, IsResult}
 use Rattle.sccp_tool.specs.Task.{Task, ShowHex, Show, Verify, Route, Replay, Load, Cuts, Import, Change, Connect, SendOn, Covers, Unused}
 use Rattle.sccp_tool.specs.Task.{Margin, Capture, Order, Conform}
 use Rattle.sccp_work.specs.Verdict.{IsOnVerdict}
@@ -168,6 +168,24 @@ module _ (task : Option Task) (words : IsOfWords task) (s : Status) (b a : Momen
 
   pub differs_cause : IfSome b.contents (λ c. ComesWhere Differs s (Cause c task Differs) (SureCause c task Differs))
   differs_cause = if_some b.contents _ (λ c told. comes Differs c told (λ e. e))
+
+  complete_by : (c : Contents) → b.contents ≡ Some c → IsFaultless c task → (t : Status) → s ≡ t → IsResult t ⊎ IsCut t
+  complete_by c told f Done e = inl tt
+  complete_by c told f Refused e = inl tt
+  complete_by c told f TooWide e = inl tt
+  complete_by c told f Differs e = inl tt
+  complete_by c told f Usage e = absurd (f.words ((causes task words).usage b.contents o.text (answers Usage e)))
+  complete_by c told f BadPlan e = absurd (f.plan (only_where BadPlan c told (λ a. a) e))
+  complete_by c told f BadTrace e = absurd (f.trace (only_where BadTrace c told (λ a. a) e))
+  complete_by c told f BadCapture e = absurd (f.capture (only_where BadCapture c told (λ a. a) e))
+  complete_by c told f TooLong e = absurd (f.long (only_where TooLong c told (λ a. a) e))
+  complete_by c told f OtherNodes e = absurd (f.relays (only_where OtherNodes c told (λ a. a) e))
+  complete_by c told f NoMemory e = inr tt
+  complete_by c told f ReadFault e = inr tt
+  complete_by c told f WriteFault e = inr tt
+
+  pub complete_told : IfSome b.contents (λ c. IsFaultless c task → IsResult s ⊎ IsCut s)
+  complete_told = if_some b.contents _ (λ c told f. complete_by c told f s refl)
 
   pub read_cause : s ≡ ReadFault → Rose b.read_faults a.read_faults
   read_cause e = (answers ReadFault e).0

@@ -30,6 +30,8 @@ use Rattle.sccp_scrc.specs.declared.arrival.Arrival.{Arrival}
 use Rattle.sccp_scrc.specs.declared.arrival.Arrival.TheVariants.{Relayed, Ended, Local, Returned, Connection, Management, Undecodable}
 use Rattle.sccp_segment.specs.Cutting.{piece_count}
 use Rattle.sccp_tool.proofs.LeavingLemmas.{IsWritten, LeaveWritten, leave_written}
+use Rattle.plan_model.proofs.Sound.{AreLimits}
+use Rattle.sccp_tool.proofs.ReadPlans.{is_plan}
 use Rattle.sccp_tool.proofs.TaskWords.{IsGiven}
 use Rattle.sccp_tool.specs.SendOn.{arrival_lines, cut_lines, leaving_lines, lines_at, send_on_text, send_on_work, to_line, uncut_lines}
 use Rattle.sccp_tool.specs.SendOn.{IsNotSplit, SendOnTells, TellsLeaving, TellsSegments}
@@ -144,10 +146,11 @@ text_ends contents file i s text h = Ends-with_plan (IsText i text) contents fil
     (λ plan e. Ends-answered contents Done (send_on_text plan i) s text e) h
 
 on_plan : (contents : Option Contents) (file : PlanFile) (i : Incoming) (s : Status) (text : List ℕ) (taken taken' : Option (List ℕ))
-    → IsGiven i → taken' ≡ append_known taken text → PlanEnds contents file (IsText i text) s → SendOnTells contents file i s taken taken'
-on_plan contents file i TooLong text taken taken' given is (long h) done = cc
-on_plan contents file i BadPlan text taken taken' given is (bad h) done = cc
-on_plan contents file i s text taken taken' given is (good h) done = (
+    → AreLimits file.limits → IsGiven i → taken' ≡ append_known taken text → PlanEnds contents file (IsText i text) s
+    → SendOnTells contents file i s taken taken'
+on_plan contents file i TooLong text taken taken' fit given is (long h) done = cc
+on_plan contents file i BadPlan text taken taken' fit given is (bad h) done = cc
+on_plan contents file i s text taken taken' fit given is (good h) done = (
   h.0,
   h.1,
   h.2,
@@ -157,14 +160,16 @@ on_plan contents file i s text taken taken' given is (good h) done = (
     (
       text,
       is,
-      λ plan node at. subst (TellsLeaving (arrival h.3.0 node [] i.origin i.octets)) (sym h.3.2.1)
-          (node_told h.3.0 i node (position (has_name i.node) h.3.0.nodes) plan given at),
+      λ node at. subst (TellsLeaving (arrival h.3.0 node [] i.origin i.octets)) (sym h.3.2.1)
+          (node_told h.3.0 i node (position (has_name i.node) h.3.0.nodes)
+          (is_plan file.limits h.0 h.3.0 fit h.3.1) given at),
     ),
   ),
 )
 
 pub send_on_tells : (contents : Option Contents) (file : PlanFile) (i : Incoming) (s : Status) (text : List ℕ)
-    (taken taken' : Option (List ℕ)) → IsGiven i → taken' ≡ append_known taken text → Ends contents (send_on_work file i) s text
+    (taken taken' : Option (List ℕ)) → AreLimits file.limits → IsGiven i → taken' ≡ append_known taken text
+    → Ends contents (send_on_work file i) s text
     → SendOnTells contents file i s taken taken'
-send_on_tells contents file i s text taken taken' given is ends =
-    on_plan contents file i s text taken taken' given is (text_ends contents file i s text ends)
+send_on_tells contents file i s text taken taken' fit given is ends =
+    on_plan contents file i s text taken taken' fit given is (text_ends contents file i s text ends)

@@ -35,17 +35,19 @@ use Rattle.sccp_tool.specs.declared.send_on.Incoming.{Incoming}
 use Rattle.sccp_work.specs.declared.status.Status.TheVariants.{Done, Usage}
 use Rattle.sccp_tool.proofs.Causes.{Causes}
 use Rattle.sccp_tool.proofs.SegmentLemmas.{send_on_tells}
+use Rattle.plan_model.proofs.Sound.{AreLimits}
 use Rattle.sccp_tool.proofs.TaskWords.{IsGiven}
 use Rattle.sccp_work.specs.Verdict.{IsOnVerdict}
 use Rattle.sccp_work.proofs.PlanLemmas.{plan_files, text_always, text_only}
 
-pub send_on_causes : (file : PlanFile) (incoming : Incoming) → IsGiven incoming → Causes (Some (SendOn file incoming))
+pub send_on_causes : (file : PlanFile) (incoming : Incoming) → AreLimits file.limits × IsGiven incoming
+    → Causes (Some (SendOn file incoming))
 send_on_causes file incoming given = record {
   only = λ c s text h. text_only (Some c) file (λ plan. send_on_text plan incoming) s text h;
   usage = λ contents text h. absurd (text_only contents file (λ plan. send_on_text plan incoming) Usage text h);
   always = λ c t s text cause h. text_always c file (λ plan. send_on_text plan incoming) t s text cause h;
   refused = λ c s text cause h. absurd cause;
-  tells = λ c s text taken taken' is ends done. send_on_tells (Some c) file incoming s text taken taken' given is
+  tells = λ c s text taken taken' is ends done. send_on_tells (Some c) file incoming s text taken taken' given.0 given.1 is
       (ends (subst IsOnVerdict (sym done) tt)) done;
   journeys = λ c s b a is o. tt;
   files = λ c there. plan_files c file (λ plan. answered (Done, send_on_text plan incoming)) (λ plan. tt) there;

@@ -9,6 +9,7 @@ use Rattle.std.proofs.lemmas.Bool.{and_parts, eq-eqb, eqb-false, leb-true, ltb-t
 use Rattle.std.proofs.lemmas.Option.{option_and_then_some}
 use Rattle.plan_margin.specs.declared.loss_kinds.LossKinds.{LossKinds}
 use Rattle.plan_margin.specs.declared.loss_kinds.LossKinds.TheVariants.{Points, PointsAndSubsystems}
+use Rattle.plan_model.proofs.Sound.{AreLimits}
 use Rattle.plan_model.specs.Limits.{standard, wide}
 use Rattle.plan_model.specs.declared.limits.Limits.{Limits}
 use Rattle.sccp_address.specs.Written.{IsTitle}
@@ -59,7 +60,7 @@ pub record IsGiven (i : Incoming) : Type 0 where
 
 abbrev pub IsOfWords : Option Task → Type 0
 IsOfWords (Some (Connect file calling)) = IsCalled calling
-IsOfWords (Some (SendOn file incoming)) = IsGiven incoming
+IsOfWords (Some (SendOn file incoming)) = AreLimits file.limits × IsGiven incoming
 IsOfWords (Some (Load number size workers)) = size ≤ 100000
 IsOfWords task = Unit {0}
 
@@ -198,13 +199,13 @@ incoming_given node origin size digits i e = option_and_then_some by_name (name_
     by_name : List ℕ → Option Incoming
     by_name name = option_and_then (by_point name) (point_code_of origin)
 
-send_on_given : (limits : Limits) (words : List (List ℕ)) → IsOfWords (send_on_words limits words)
+send_on_given : (limits : Limits) (words : List (List ℕ)) → AreLimits limits → IsOfWords (send_on_words limits words)
 unfolding send_on_words send_on_of
-send_on_given limits (plan ∷ node ∷ origin ∷ size ∷ digits ∷ []) =
+send_on_given limits (plan ∷ node ∷ origin ∷ size ∷ digits ∷ []) fit =
     chosen (λ name. option_map (SendOn (plan_file name limits)) (incoming_of node origin size digits)) (file_name plan)
     (λ name e. mapped (SendOn (plan_file name limits)) (incoming_of node origin size digits)
-    (λ i made. incoming_given node origin size digits i made))
-send_on_given limits words = tt
+    (λ i made. (fit, incoming_given node origin size digits i made)))
+send_on_given limits words fit = tt
 
 -- ---- the other commands
 
@@ -309,26 +310,33 @@ conform_given limits words = tt
 
 -- ---- the commands by their names
 
-further_given : (limits : Limits) (name : List ℕ) (words : List (List ℕ)) → IsOfWords (further_plan_command_of limits name words)
+standard_fits : AreLimits standard
+standard_fits = record { nodes = omega arith; rows = omega arith; covers = omega arith }
+
+wide_fits : AreLimits wide
+wide_fits = record { nodes = omega arith; rows = omega arith; covers = omega arith }
+
+further_given : (limits : Limits) (name : List ℕ) (words : List (List ℕ)) → AreLimits limits
+    → IsOfWords (further_plan_command_of limits name words)
 unfolding further_plan_command_of
-further_given limits name words =
+further_given limits name words fit =
     by_test (bytes_eq name (codes "replay")) _ _ (replay_given limits words)
     (by_test (bytes_eq name (codes "import")) _ _ (import_given limits words)
     (by_test (bytes_eq name (codes "capture")) _ _ (capture_given limits words)
     (by_test (bytes_eq name (codes "conform")) _ _ (conform_given limits words)
     (by_test (bytes_eq name (codes "connect")) _ _ (connect_given limits words)
-    (by_test (bytes_eq name (codes "send-on")) _ None (send_on_given limits words) tt)))))
+    (by_test (bytes_eq name (codes "send-on")) _ None (send_on_given limits words fit) tt)))))
 
-plan_given : (limits : Limits) (name : List ℕ) (words : List (List ℕ)) → IsOfWords (plan_command_of limits name words)
+plan_given : (limits : Limits) (name : List ℕ) (words : List (List ℕ)) → AreLimits limits → IsOfWords (plan_command_of limits name words)
 unfolding plan_command_of
-plan_given limits name words =
+plan_given limits name words fit =
     by_test (bytes_eq name (codes "verify")) _ _ (verify_given limits words)
     (by_test (bytes_eq name (codes "covers")) _ _ (covers_given limits words)
     (by_test (bytes_eq name (codes "unused")) _ _ (unused_given limits words)
     (by_test (bytes_eq name (codes "margin")) _ _ (margin_given limits words)
     (by_test (bytes_eq name (codes "change")) _ _ (change_given limits words)
     (by_test (bytes_eq name (codes "order")) _ _ (order_given limits words)
-    (by_test (bytes_eq name (codes "route")) _ _ (route_given limits words) (further_given limits name words)))))))
+    (by_test (bytes_eq name (codes "route")) _ _ (route_given limits words) (further_given limits name words fit)))))))
 
 command_given : (name : List ℕ) (words : List (List ℕ)) → IsOfWords (command_of name words)
 unfolding command_of
@@ -336,11 +344,11 @@ command_given name words =
     by_test (bytes_eq name (codes "show-hex")) _ _ (show_hex_given words)
     (by_test (bytes_eq name (codes "show")) _ _ (show_given words)
     (by_test (bytes_eq name (codes "load")) _ _ (load_given words)
-    (by_test (bytes_eq name (codes "cuts")) _ _ (cuts_given words) (plan_given standard name words))))
+    (by_test (bytes_eq name (codes "cuts")) _ _ (cuts_given words) (plan_given standard name words standard_fits))))
 
 wide_given : (words : List (List ℕ)) → IsOfWords (wide_of words)
 wide_given [] = tt
-wide_given (name ∷ words) = plan_given wide name words
+wide_given (name ∷ words) = plan_given wide name words wide_fits
 
 -- the task of any words
 pub of_words : (words : List (List ℕ)) → IsOfWords (task_of words)

@@ -24,6 +24,7 @@ pub mod Starts
 pub mod Tallies
 pub mod Task
 pub mod Texts
+pub mod Told
 pub mod TwoPlans
 pub mod Unused
 pub mod Verify

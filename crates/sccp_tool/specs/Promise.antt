@@ -1,10 +1,10 @@
 -- What the call promises.
-use Rattle.std.specs.Prelude.{◌≡◌, ◌≢◌, ◌<◌, ◌-◌, ◌^◌, Option, None, IsTrue, IfSome}
+use Rattle.std.specs.Prelude.{◌≡◌, ◌≢◌, ◌⊎◌, ◌<◌, ◌-◌, ◌^◌, Option, None, IsTrue, IfSome}
 use Rattle.sccp_io.specs.Faults.{Rose}
 use Rattle.sccp_tool.specs.Run.{work_of, Cause, SureCause, TellsAnswer, TellsJourneys, HasNamedFiles, ExactlyWhere, ComesWhere}
-use Rattle.sccp_tool.specs.Run.{RefusedWhere}
+use Rattle.sccp_tool.specs.Run.{RefusedWhere, IsFaultless, IsResult}
 use Rattle.sccp_tool.specs.Task.{Task}
-use Rattle.sccp_work.specs.Ending.{Outcome}
+use Rattle.sccp_work.specs.Ending.{Outcome, IsCut}
 use Rattle.sccp_work.specs.Moment.{Moment}
 use Rattle.sccp_work.specs.Work.{HasFiles}
 use Rattle.sccp_work.specs.declared.status.Status.{Status}
@@ -30,6 +30,9 @@ pub record Promise (task : Option Task) (given : Status) (before after : Moment)
   pub other_nodes : IfSome before.contents (λ c. ComesWhere OtherNodes given (Cause c task OtherNodes) (SureCause c task OtherNodes))
   pub bad_capture : IfSome before.contents (λ c. ComesWhere BadCapture given (Cause c task BadCapture) (SureCause c task BadCapture))
   pub differs : IfSome before.contents (λ c. ComesWhere Differs given (Cause c task Differs) (SureCause c task Differs))
+  -- If nothing is wrong with the words and the files that they name, the answer is one on what was asked, but for a fault or want of
+  -- memory.
+  pub complete : IfSome before.contents (λ c. IsFaultless c task → IsResult given ⊎ IsCut given)
   pub read_fault : given ≡ ReadFault → Rose before.read_faults after.read_faults
   pub write_fault : given ≡ WriteFault → Rose before.write_faults after.write_faults
   -- sound files that have each file which the work may read do not fail

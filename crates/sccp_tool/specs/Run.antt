@@ -1,5 +1,5 @@
 -- The work of the words, and the cause of each answer.
-use Rattle.std.specs.Prelude.{◌≡◌, ◌⊎◌, ℕ, List, Option, Some, None}
+use Rattle.std.specs.Prelude.{◌≡◌, ◌≢◌, ◌⊎◌, ℕ, List, Option, Some, None}
 use Rattle.std.specs.Io.KnownBytes.{append_known}
 use Rattle.sccp_io.specs.Files.{Contents}
 use Rattle.sccp_replay.specs.Account.{TellsReplay}
@@ -30,7 +30,8 @@ use Rattle.sccp_tool.specs.Unused.{unused_work, UnusedCause, UnusedSure, UnusedT
 use Rattle.sccp_tool.specs.Verify.{verify_work, VerifyCause, VerifySure, VerifyTells}
 use Rattle.sccp_work.specs.Work.{Work, answered}
 use Rattle.sccp_work.specs.declared.status.Status.{Status}
-use Rattle.sccp_work.specs.declared.status.Status.TheVariants.{Refused, Usage, TooWide}
+use Rattle.sccp_work.specs.declared.status.Status.TheVariants.{Done, Refused, Usage, BadPlan, BadTrace, TooWide, TooLong, OtherNodes}
+use Rattle.sccp_work.specs.declared.status.Status.TheVariants.{BadCapture, Differs}
 
 abbrev pub work_of : Option Task → Work
 work_of None = answered (Usage, usage)
@@ -137,6 +138,23 @@ HasNamedFiles c (Some (Capture plan file)) = IsThere c plan.name × IsThere c fi
 HasNamedFiles c (Some (Order old new)) = IsThere c old.name × IsThere c new.name
 HasNamedFiles c (Some (Conform plan file)) = IsThere c plan.name × IsThere c file
 HasNamedFiles c task = Unit {0}
+
+-- nothing is wrong with the words, or with the files that they name: no answer on a fault of them has a cause
+pub record IsFaultless (c : Contents) (task : Option Task) : Type 0 where
+  pub words : task ≢ None
+  pub plan : Cause c task BadPlan → ⊥
+  pub trace : Cause c task BadTrace → ⊥
+  pub capture : Cause c task BadCapture → ⊥
+  pub long : Cause c task TooLong → ⊥
+  pub relays : Cause c task OtherNodes → ⊥
+
+-- an answer on what was asked
+abbrev pub IsResult : Status → Type 0
+IsResult Done = Unit {0}
+IsResult Refused = Unit {0}
+IsResult TooWide = Unit {0}
+IsResult Differs = Unit {0}
+IsResult answer = ⊥
 
 -- this answer is given exactly if the cause holds, but for a fault or want of memory before it
 pub record ExactlyWhere (answer given : Status) (cause : Type 0) : Type 0 where

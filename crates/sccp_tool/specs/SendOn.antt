@@ -9,7 +9,7 @@ use Rattle.long_segments.specs.declared.long_fault.LongFault.{LongFault}
 use Rattle.long_segments.specs.declared.long_fault.LongFault.TheVariants.{NotLong, AlreadySegment, ZeroSize, TooMany, NotWritable}
 use Rattle.long_segments.specs.declared.long_fault.LongFault.TheVariants.{OutOfMemory}
 use Rattle.plan_model.specs.declared.limits.Limits.{Limits}
-use Rattle.plan_model.specs.Network.{Network, IsPlan, has_name}
+use Rattle.plan_model.specs.Network.{Network, has_name}
 use Rattle.sccp_address.specs.declared.address.Address.{Address}
 use Rattle.sccp_base.specs.Names.{name_of}
 use Rattle.sccp_base.specs.Text.{cut_at, decimal_of, point_code_of}
@@ -137,11 +137,11 @@ TellsLeaving (Connection m) text = Unit {0}
 TellsLeaving (Management m) text = Unit {0}
 TellsLeaving (Undecodable fault) text = Unit {0}
 
--- The sink took a text that says so of what becomes of the octets at the relay of that name. What is read from a text is a plan.
+-- The sink took a text that says so of what becomes of the octets at the relay of that name.
 abbrev pub SendOnTells : Option Contents → PlanFile → Incoming → Status → Option (List ℕ) → Option (List ℕ) → Type 0
 SendOnTells contents file i given taken taken' = given ≡ Done → HasPlan contents file (λ plan. (text : List ℕ)
-    × (taken' ≡ append_known taken text) × (IsPlan plan → (node : ℕ)
-    → position (has_name i.node) plan.nodes ≡ Some node → TellsLeaving (arrival plan node [] i.origin i.octets) text))
+    × (taken' ≡ append_known taken text) × ((node : ℕ) → position (has_name i.node) plan.nodes ≡ Some node
+    → TellsLeaving (arrival plan node [] i.origin i.octets) text))
 
 -- ---- the same for the calls inside
 

@@ -26,6 +26,7 @@ mod connect;
 mod covers;
 mod cuts;
 mod import;
+mod laws;
 mod load;
 mod loss_limit;
 mod losses;
@@ -44,5 +45,6 @@ mod unused;
 mod verify;
 mod whole_file;
 
+pub use laws::{lines_tell_numbers, plans_have_one_bound};
 pub use program::{run, run_gated};
 pub use sccp_work::Status;

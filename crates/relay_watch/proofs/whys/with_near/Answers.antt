@@ -1,4 +1,3 @@
-use Rattle.std.proofs.Common.{◌≡◌, true, rules}
 use Rattle.relay_watch.proofs.Repeated.{repeat_near}
 use Rattle.relay_watch.proofs.whys.with_near.Goals as goal
 

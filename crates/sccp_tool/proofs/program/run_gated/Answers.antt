@@ -6,7 +6,7 @@ use Rattle.sccp_tool.specs.Run.{work_of}
 use Rattle.sccp_tool.specs.Task.{Task}
 use Rattle.sccp_tool.proofs.RunLemmas.{answer_told, journeys_told, done_cause, refused_cause, wide_cause, usage_cause, bad_plan_cause}
 use Rattle.sccp_tool.proofs.RunLemmas.{bad_line_cause, bad_capture_cause, long_cause, other_nodes_cause, read_cause, write_cause}
-use Rattle.sccp_tool.proofs.RunLemmas.{differs_cause, sound_cause, named_cause}
+use Rattle.sccp_tool.proofs.RunLemmas.{complete_told, differs_cause, sound_cause, named_cause}
 use Rattle.sccp_tool.proofs.TaskWords.{IsOfWords, of_words}
 use Rattle.sccp_work.proofs.WorkLemmas.{Outcome-closed}
 use Rattle.sccp_tool.proofs.program.run_gated.Goals as goal
@@ -38,6 +38,7 @@ returns g c =
       other_nodes = other_nodes_cause task words c.close.result b a o;
       bad_capture = bad_capture_cause task words c.close.result b a o;
       differs = differs_cause task words c.close.result b a o;
+      complete = complete_told task words c.close.result b a o;
       read_fault = read_cause task words c.close.result b a o;
       write_fault = write_cause task words c.close.result b a o;
       sound = sound_cause task words c.close.result b a o;
