@@ -4,7 +4,7 @@
   tools/accept_cases.py [--list] [--program FILE]
 
 The cases are the calls in crates/worked_cases/data/calls, and their stored answers crates/worked_cases/stdout. Without
---program the program of the cases is built without proofs, which takes about two minutes. It runs in a copy of data/, as the
+--program the program of the cases is built without proofs, which takes one to two minutes. It runs in a copy of data/, as the
 gate runs it. For each call whose answer differs, the stored answer is on the left and the new one on the right, and one letter
 is read: y stores the new answer, n leaves the stored one, s stores this one and the rest of its section, q leaves the rest.
 Read each new answer against the specification before you accept it: the gate compares with what is stored, and nothing else does.
