@@ -16,7 +16,7 @@ use Rattle.plan_order.specs.declared.stuck.Stuck.{Stuck}
 use Rattle.order_report.specs.Orders.{HasTurns}
 
 refusal_turns : (may : List Holding) (old new : Network) (why : Change) → IsRefusal may old new why → HasTurns why
-refusal_turns may old new (Broken i j spot turns hops kind) bad = bad_short old new may i j spot turns hops kind bad
+refusal_turns may old new (Broken i j spot turns hops kind) bad = bad_short old new may i j spot turns hops kind bad.0
 refusal_turns may old new (Kept bound spot turns) bad = bad
 refusal_turns may old new TooWide bad = bad
 

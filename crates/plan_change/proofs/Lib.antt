@@ -10,4 +10,5 @@ pub mod Back
 pub mod Cuts
 pub mod Walked
 pub mod Verdicts
+pub mod Ranges
 pub mod Holdings

@@ -1,5 +1,7 @@
 -- The route of a title while each relay holds one of two plans.
 use Rattle.std.specs.Prelude.{ℕ, ◌≡◌, ◌≤◌, ◌⊎◌, List, [], ◌∷◌, length, IsSomeAnd}
+use Rattle.std.specs.List.{All}
+use Rattle.sccp_base.specs.Marks.{IsMarking}
 use Rattle.plan_model.specs.declared.spot.Spot.{Spot}
 use Rattle.plan_model.specs.declared.hop.Step.{Step}
 use Rattle.plan_model.specs.declared.hop.Hop.{Hop}
@@ -7,6 +9,7 @@ use Rattle.plan_model.specs.declared.kind.Kind.{Kind}
 use Rattle.plan_model.specs.Network.{Network}
 use Rattle.plan_model.specs.Steps.{step}
 use Rattle.plan_model.specs.Routes.{route_by}
+use Rattle.plan_model.specs.Spots.{IsSpotOf}
 use Rattle.plan_model.specs.Covered.{Covered, IsAllowed}
 use Rattle.plan_model.specs.Verdicts.{last, MayEnd, HasSpot, EndsBadly}
 use Rattle.plan_mixed.specs.declared.holding.Holding.{Holding}
@@ -29,6 +32,15 @@ tagged_under may [] turns = []
 tagged_under may (hop ∷ hops) [] = []
 tagged_under may (hop ∷ hops) (turn ∷ turns) =
     record { which = chosen (may_hold may hop.spot.node) turn.which; hop = hop } ∷ tagged_under may hops turns
+
+-- each turn has an ascending list of marks of real points
+abbrev pub HaveMarkings : List Turn → Type 0
+HaveMarkings = All (λ turn. IsMarking turn.marking)
+
+-- a mixed route whose numbers are in range, as those of a route in `IsInRange`; both plans have the same nodes
+pub record IsInRangeUnder (may : List Holding) (old new : Network) (spot : Spot) (turns : List Turn) : Type 0 where
+  pub markings : HaveMarkings turns
+  pub spots : All (λ hop. IsSpotOf old hop.spot) (mixed_under may old new spot turns)
 
 -- every cover of both plans that has the spot allows the place
 abbrev pub BothAllow : Network → Network → Spot → ℕ → ℕ → Type 0
@@ -79,6 +91,9 @@ BothSafe old new bound =
 
 abbrev pub BothTight : Network → Network → ℕ → Spot → List Turn → Type 0
 BothTight = TightUnder []
+
+abbrev pub IsMixedInRange : Network → Network → Spot → List Turn → Type 0
+IsMixedInRange = IsInRangeUnder []
 
 abbrev pub BothBad : Network → Network → ℕ → ℕ → Spot → List Turn → List MixedHop → Kind → Type 0
 BothBad = BadUnder []

@@ -12,6 +12,7 @@ use crate::change_fault::ChangeFault;
 use crate::halt::Halt;
 use crate::plans::Plans;
 use crate::stop::Stop;
+use crate::turn::vouch;
 use crate::walking::{Walk, least_way, walk_on};
 use crate::way::Way;
 use crate::witness::broken;
@@ -100,6 +101,7 @@ fn kept(alloc: Global, plans: &Plans<'_>, layers: &[List<Stop>]) -> Result<Chang
     }
     let way = least_way(alloc, stop_at(layers, bound - 1, 0))?;
     let Way { spot, turns } = carry_all(alloc, plans, layers, bound - 1, 0, way)?;
+    vouch(turns.as_slice());
     Ok(Change::Kept {
         bound: bound as u8,
         spot: Some(spot),

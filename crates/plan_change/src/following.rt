@@ -95,36 +95,9 @@ fn follow_plan(
     ensures bad { IfOk result (λ way. IfSome way (IsBadHere plans.now.may.now plans.now.old.now plans.now.new.now class.now)) }
     ensures wide { result ≡ Err halts.Wide → MixedReachAtLeast plans.now.old.now plans.now.new.now plans.now.old.now.limits.classes }
 {
-    match class_row(plans.held(which), class) {
-        Some(row) => follow_row(alloc, plans, which, class, row, place, hop),
-        None => Ok(Some(without_row(alloc, plans, which, class)?)),
-    }
-}
-
-/// As `follow`, under the class's row in one plan.
-fn follow_row(
-    alloc: Global,
-    plans: &Plans<'_>,
-    which: Which,
-    class: &Class,
-    row: &Row,
-    place: usize,
-    hop: &mut OpenHop,
-) -> Result<Option<Way>, Halt>
-    requires sound { IsPlan (held plans.now.old.now plans.now.new.now which) }
-    requires class { IsClass class.now }
-    requires lets { MayHold plans.now.may.now class.now.node which }
-    requires may { MayGoOn plans.now.old.now plans.now.new.now class.now }
-    requires row { class_row (held plans.now.old.now plans.now.new.now which) class.now ≡ Some row.now }
-    requires met { IsMet plans.now.old.now plans.now.new.now hop.old.met hop.old.stops }
-    ensures met { OnOk result (IsMet plans.now.old.now plans.now.new.now hop.new.met hop.new.stops) }
-    ensures grows { OnOk result (Grows hop.old.stops hop.new.stops
-        (ComesFrom plans.now.may.now plans.now.old.now plans.now.new.now class.now place)) }
-    ensures well { IfOk result (λ way. way ≡ None → LeadsUnder plans.now.old.now plans.now.new.now
-        (held plans.now.old.now plans.now.new.now which) class.now hop.new.stops) }
-    ensures bad { IfOk result (λ way. IfSome way (IsBadHere plans.now.may.now plans.now.old.now plans.now.new.now class.now)) }
-    ensures wide { result ≡ Err halts.Wide → MixedReachAtLeast plans.now.old.now plans.now.new.now plans.now.old.now.limits.classes }
-{
+    let Some(row) = class_row(plans.held(which), class) else {
+        return Ok(Some(without_row(alloc, plans, which, class)?));
+    };
     for target in 0..row.target_count() {
         let origin = Origin {
             place,

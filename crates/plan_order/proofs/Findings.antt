@@ -1,12 +1,13 @@
 -- what the search makes of its parts
 use Rattle.std.specs.Prelude.{ℕ, ◌≡◌, ◌<◌, true, false, IsTrue, List, [], ◌∷◌, ◌++◌, length, slice_index_or, refl}
 use Rattle.std.specs.List.{All, Any, AllPairs}
-use Rattle.std.proofs.Common.{sym, ◌∙◌, ap, subst, inl, ⊎_elim, arith, length-append}
+use Rattle.std.proofs.Common.{sym, ◌∙◌, ap, subst, inl, inr, ⊎_elim, arith, length-append}
 use Rattle.std.proofs.lemmas.Bool.{false≢true, true≢false, cases_Bool}
 use Rattle.std.proofs.lemmas.List.{get_or_default}
 use Rattle.std.proofs.lemmas.List.Elements.{All-cons, All-nil, All-append}
 use Rattle.plan_model.specs.Network.{Network}
 use Rattle.plan_model.specs.SameNodes.{SameNodes}
+use Rattle.plan_mixed.specs.declared.holding.Holding.{Holding}
 use Rattle.plan_mixed.specs.Mixed.{MixedReachAtLeast}
 use Rattle.plan_change.specs.declared.answer.Change.{Change}
 use Rattle.plan_change.specs.declared.answer.Change.TheVariants.{Kept, Broken, TooWide}
@@ -18,9 +19,10 @@ use Rattle.plan_order.specs.declared.found.Found.{Found}
 use Rattle.plan_order.specs.declared.found.Found.TheVariants.{Steps, Nowhere, GaveUp}
 use Rattle.plan_order.specs.Sets.{is_in, SameSet, Differs}
 use Rattle.plan_order.specs.Steps.{during, IsSafeFor, IsSafeStep, IsReached, IsStep}
-use Rattle.plan_order.specs.Orders.{IsDeadEnd}
+use Rattle.plan_order.specs.Orders.{IsDeadEnd, IsRefusal}
+use Rattle.plan_order.specs.declared.outcome.Outcome.TheVariants.{Refused}
 use Rattle.plan_order.specs.Refusing.{Refuses}
-use Rattle.plan_order.specs.Searching.{IsSplit, outcome_of, IsOutcome, IsNextStep, IsClosed, IsKnown, IsWayOn, IsFoundIf}
+use Rattle.plan_order.specs.Searching.{IsSplit, outcome_of, IsOutcome, IsNextStep, IsGrown, IsClosed, IsKnown, IsWayOn, IsFoundIf}
 use Rattle.plan_order.specs.Searching.{without}
 use Rattle.plan_order.proofs.Members.{in-left, in-right, in-All, All-in, in-among}
 use Rattle.plan_order.proofs.Joining.{pairs_append}
@@ -46,8 +48,15 @@ pub outcome_lawful : (old new : Network) (done step : List ℕ) (change : Change
     → IsLawfulUnder (during (length old.nodes) done step) old new change → IsOutcome old new done step (outcome_of change)
 outcome_lawful old new done step (Kept bound spot turns) lawful = ((lawful.0, lawful.1), (spot, turns, lawful.2))
 outcome_lawful old new done step (Broken i j spot turns hops kind) bad =
-    λ safe. safe_not_bad_under (during (length old.nodes) done step) old new safe.0 i j spot turns hops kind safe.1.0 safe.1.1 bad
+    λ safe. safe_not_bad_under (during (length old.nodes) done step) old new safe.0 i j spot turns hops kind safe.1.0 safe.1.1 bad.0
 outcome_lawful old new done step TooWide wide = wide
+
+-- a true answer by which a step is refused shows a bad mixed route
+pub refusal_of : (may : List Holding) (old new : Network) (change : Change) → outcome_of change ≡ Refused
+    → IsLawfulUnder may old new change → IsRefusal may old new change
+refusal_of may old new (Broken i j spot turns hops kind) is lawful = lawful
+refusal_of may old new (Kept bound spot turns) is lawful = absurd (cc)
+refusal_of may old new TooWide is lawful = absurd (cc)
 
 -- what is known after a step that was too wide
 pub known_wide : (old new : Network) (before after : Known) → after.dead ≡ before.dead
@@ -62,8 +71,8 @@ known_wide old new before after same kept wide classes known = record {
 
 -- and after one more dead end
 pub known_more : (old new : Network) (before after : Known) (done : List ℕ) → after.dead ≡ before.dead ++ done ∷ []
-    → after.refusals ≡ before.refusals → after.wide ≡ before.wide → (Any (λ set. SameSet set done) before.dead → ⊥) → All (Differs old new) done
-    → (before.wide ≡ false → IsDeadEnd old new done) → IsKnown old new before → IsKnown old new after
+    → after.refusals ≡ before.refusals → after.wide ≡ before.wide → (Any (λ set. SameSet set done) before.dead → ⊥)
+    → All (Differs old new) done → (before.wide ≡ false → IsDeadEnd old new done) → IsKnown old new before → IsKnown old new after
 known_more old new before after done same kept wide fresh differ dead known = record {
   classes = λ h. known.classes (sym wide ∙ h);
   apart = subst (AllPairs (λ (a : List ℕ) (b : List ℕ). SameSet a b → ⊥)) (sym same)
@@ -106,11 +115,11 @@ next_alone old new done left node step inside safe is = record {
   some = subst (λ (s : List ℕ). 0 < length s) (sym is) (omega arith);
 }
 
--- the step with one more relay
+-- the step with one more relay, or as it was
 pub next_grown : (old new : Network) (done left : List ℕ) (step more : SafeStep) (node : ℕ) → is_in left node ≡ true
-    → IsNextStep old new done left step → All (λ own. own < node) step.nodes → more.nodes ≡ step.nodes ++ node ∷ []
-    → IsStep old new done more → IsNextStep old new done left more
-next_grown old new done left step more node inside next before is safe = record {
+    → IsNextStep old new done left step → IsGrown old new done step node more → IsNextStep old new done left more
+next_grown old new done left step more node inside next (inl same) = subst (IsNextStep old new done left) (sym same) next
+next_grown old new done left step more node inside next (inr (before, is, safe)) = record {
   safe = safe;
   among = subst (All (λ (n : ℕ). IsTrue (is_in left n))) (sym is)
       (All-append (λ (n : ℕ). IsTrue (is_in left n)) step.nodes (node ∷ []) next.among

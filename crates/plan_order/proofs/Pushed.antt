@@ -25,7 +25,8 @@ relays_one step = append-nil step.nodes
 pub relays_push : (xs : List SafeStep) (x : SafeStep) → relays_of (xs ++ x ∷ []) ≡ relays_of xs ++ x.nodes
 relays_push xs x = relays_append xs (x ∷ []) ∙ ap (λ (s : List ℕ). relays_of xs ++ s) (relays_one x)
 
-pub sets_push : (xs : List SafeStep) (x : SafeStep) → All IsStepSet (sets_of xs) → IsStepSet x.nodes → All IsStepSet (sets_of (xs ++ x ∷ []))
+pub sets_push : (xs : List SafeStep) (x : SafeStep) → All IsStepSet (sets_of xs) → IsStepSet x.nodes
+    → All IsStepSet (sets_of (xs ++ x ∷ []))
 sets_push xs x sets last =
     subst (All IsStepSet) (sym (map-append (λ (step : SafeStep). step.nodes) xs (x ∷ [])))
     (All-append IsStepSet (sets_of xs) (x.nodes ∷ []) sets (All-cons IsStepSet x.nodes [] last (All-nil IsStepSet)))

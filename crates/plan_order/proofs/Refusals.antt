@@ -56,8 +56,8 @@ sets_more old new done left steps step split is next sets = record {
 -- no order, and each relay that is left is stuck
 pub refusal_lawful : (old new : Network) (done left : List ℕ) (steps : List SafeStep) (stuck : List Stuck)
     → ((sets : List (List ℕ)) → IsOrder old new sets → ⊥) → IsSplit old new done left → AreSteps old new [] steps
-    → concat (sets_of steps) ≡ done → AreStepSets (sets_of steps) → All (IsStuck old new done) stuck → map (λ (s : Stuck). s.node) stuck ≡ left
-    → IsLawfulRefusal old new steps stuck
+    → concat (sets_of steps) ≡ done → AreStepSets (sets_of steps) → All (IsStuck old new done) stuck
+    → map (λ (s : Stuck). s.node) stuck ≡ left → IsLawfulRefusal old new steps stuck
 refusal_lawful old new done left steps stuck none split safe is sets all nodes = record {
   none = none;
   safe = safe;

@@ -98,6 +98,7 @@ step_back old new done later step same three safe = (
         (mirror old new done step.nodes later same three) safe.0.1,
   ),
   longest_back old new (during (length old.nodes) done step.nodes) (during (length new.nodes) later step.nodes) step.bound
+      (same_length old new same)
       (mirror new old later step.nodes done (sym same) (three_back old new done step.nodes later three)) safe.1.0 safe.1.1 safe.1.2,
 )
 

@@ -6,7 +6,7 @@ use Rattle.plan_mixed.specs.Mixed.{MixedReachAtLeast}
 use Rattle.plan_mixed.specs.declared.holding.Holding.{Holding}
 use Rattle.plan_change.specs.declared.answer.Change.{Change}
 use Rattle.plan_change.specs.declared.answer.Change.TheVariants.{Kept, Broken, TooWide}
-use Rattle.plan_change.specs.Mixture.{BadUnder}
+use Rattle.plan_change.specs.Changes.{IsBrokenUnder}
 use Rattle.plan_order.specs.declared.safe_step.SafeStep.{SafeStep}
 use Rattle.plan_order.specs.declared.stuck.Stuck.{Stuck}
 use Rattle.plan_order.specs.declared.answer.Order.{Order}
@@ -33,10 +33,10 @@ HasDeadEnds old new count =
     (sets : List (List ℕ)) × (count ≤ length sets) × AllPairs (λ a b. SameSet a b → ⊥) sets
     × All (λ set. All (Differs old new) set × IsDeadEnd old new set) sets
 
--- a bad mixed route of what these relays may hold
+-- a bad mixed route, in range, of what these relays may hold
 abbrev pub IsRefusal : List Holding → Network → Network → Change → Type 0
 IsRefusal may old new (Kept bound spot turns) = ⊥
-IsRefusal may old new (Broken i j spot turns hops kind) = BadUnder may old new i j spot turns hops kind
+IsRefusal may old new (Broken i j spot turns hops kind) = IsBrokenUnder may old new i j spot turns hops kind
 IsRefusal may old new TooWide = ⊥
 
 -- a relay that is left after these, and the bad mixed route of the step of this relay only

@@ -74,6 +74,11 @@ abbrev pub IsFirst : Network → Network → List ℕ → List ℕ → Known →
 IsFirst old new done left known (Some step) = IsNextStep old new done left step
 IsFirst old new done left known None = known.wide ≡ false → All (λ node. IsSafeStep old new done (node ∷ []) → ⊥) left
 
+-- the step, or a safe step of its relays and this one after them
+abbrev pub IsGrown : Network → Network → List ℕ → SafeStep → ℕ → SafeStep → Type 0
+IsGrown old new done step node more =
+    (more ≡ step) ⊎ (All (λ own. own < node) step.nodes × (more.nodes ≡ step.nodes ++ node ∷ []) × IsStep old new done more)
+
 -- no order goes on by this relay
 abbrev pub IsClosed : Network → Network → List ℕ → ℕ → Type 0
 IsClosed old new done node = (IsSafeStep old new done (node ∷ []) → ⊥) ⊎ IsDeadEnd old new (done ++ node ∷ [])

@@ -1,8 +1,7 @@
 //! Steps of more and more relays.
-ghost use Rattle.std.specs.Prelude.{◌≡◌, false, IsTrue, IfOk, OnOk};
+ghost use Rattle.std.specs.Prelude.{◌≡◌, false, IfOk, OnOk};
 ghost use Rattle.plan_model.specs.SameNodes.{SameNodes};
-ghost use Rattle.plan_order.specs.Sets.{is_in};
-ghost use Rattle.plan_order.specs.Searching.{IsKnown, IsSplit, IsAlone, IsFirst, IsNextStep};
+ghost use Rattle.plan_order.specs.Searching.{IsKnown, IsAlone, IsFirst, IsNextStep, IsGrown};
 
 use crate::known::Known;
 use crate::plans::Plans;
@@ -61,18 +60,15 @@ fn grow_by(
     alloc: Global,
     plans: &Plans<'_>,
     done: &[u8],
-    left: &[u8],
     step: SafeStep,
     node: u8,
     known: &mut Known,
 ) -> Result<SafeStep, OutOfMemory>
     requires same { SameNodes plans.now.old.now plans.now.new.now }
     requires known { IsKnown plans.now.old.now plans.now.new.now known.old }
-    requires step { IsNextStep plans.now.old.now plans.now.new.now done.now left.now step }
-    requires node { IsTrue (is_in left.now node) }
     ensures known { OnOk result (IsKnown plans.now.old.now plans.now.new.now known.new) }
     ensures narrow { OnOk result (known.new.wide ≡ false → known.old.wide ≡ false) }
-    ensures grown { IfOk result (IsNextStep plans.now.old.now plans.now.new.now done.now left.now) }
+    ensures grown { IfOk result (IsGrown plans.now.old.now plans.now.new.now done.now step node) }
 {
     if !are_before(step.nodes.as_slice(), node) {
         return Ok(step);
@@ -102,7 +98,7 @@ pub(crate) fn grown(
 {
     let mut step = first;
     for node in left {
-        step = grow_by(alloc, plans, done, left, step, *node, known)?;
+        step = grow_by(alloc, plans, done, step, *node, known)?;
     }
     Ok(step)
 }

@@ -66,7 +66,8 @@ fn keep_route(
     known: &mut Known,
 ) -> Result<(), OutOfMemory>
     requires known { IsKnown plans.now.old.now plans.now.new.now known.old }
-    requires lawful { IsLawfulUnder (during (length plans.now.old.now.nodes) done.now step.now) plans.now.old.now plans.now.new.now change.now }
+    requires lawful { IsLawfulUnder (during (length plans.now.old.now.nodes) done.now step.now)
+        plans.now.old.now plans.now.new.now change.now }
     ensures known { OnOk result (IsKnown plans.now.old.now plans.now.new.now known.new) }
     ensures wide { OnOk result (known.new.wide ≡ known.old.wide) }
 {

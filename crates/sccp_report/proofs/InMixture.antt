@@ -16,7 +16,7 @@ use Rattle.plan_change.specs.declared.turn.Turn.{Turn}
 use Rattle.plan_change.specs.declared.answer.Change.{Change}
 use Rattle.plan_change.specs.declared.answer.Change.TheVariants.{Kept, Broken}
 use Rattle.plan_change.specs.Changes.{IsLawfulChange, IsLongestOf}
-use Rattle.plan_change.specs.Mixture.{made, BothBad}
+use Rattle.plan_change.specs.Mixture.{made}
 use Rattle.plan_change.proofs.Holdings.{bad_short}
 use Rattle.sccp_report.proofs.InPlan.{step_in}
 
@@ -34,7 +34,7 @@ stays_in old new s turn is also same = by turn.which
 longest_by : (old new : Network) (bound : ℕ) (spot : Option Spot) (turns : List Turn) → IsLongestOf old new bound spot turns
     → IfSome spot (Covered old)
 longest_by old new bound None turns h = tt
-longest_by old new bound (Some spot) turns h = h.old_covered
+longest_by old new bound (Some spot) turns h = h.0.old_covered
 
 pub longest_covered : (old new : Network) (change : Change) (bound : ℕ) (spot : Option Spot) (turns : List Turn)
     → change ≡ Kept bound spot turns → IsLawfulChange old new change → IfSome spot (Covered old)
@@ -46,5 +46,5 @@ longest_covered old new change bound spot turns is lawful =
 pub broken_short : (old new : Network) (change : Change) (i j : ℕ) (spot : Spot) (turns : List Turn) (hops : List MixedHop) (kind : Kind)
     → change ≡ Broken i j spot turns hops kind → IsLawfulChange old new change → length hops ≤ length turns
 broken_short old new change i j spot turns hops kind is lawful =
-    let bad : BothBad old new i j spot turns hops kind = subst (IsLawfulChange old new) is lawful in
-    bad_short old new [] i j spot turns hops kind bad
+    let h : IsLawfulChange old new (Broken i j spot turns hops kind) = subst (IsLawfulChange old new) is lawful in
+    bad_short old new [] i j spot turns hops kind h.0

@@ -2,73 +2,37 @@
 use Rattle.std.specs.Prelude.{ℕ, ◌<◌, List, [], ◌∷◌, ◌++◌, length, take, Option, Some, None}
 use Rattle.std.specs.List.{All}
 use Rattle.std.proofs.Common.{◌≡◌, refl, sym, subst, ◌∙◌, ap, arith, append_assoc}
-use Rattle.std.proofs.lemmas.List.Elements.{All-nil, All-cons, All-head, All-tail}
+use Rattle.std.proofs.lemmas.List.Elements.{All-head, All-tail}
 use Rattle.sccp_base.specs.Marks.{IsMark, IsMarking}
 use Rattle.sccp_base.specs.Names.{IsName}
 use Rattle.sccp_base.specs.declared.mark.Mark.{Mark}
-use Rattle.plan_model.proofs.Spots.{covered_spot, sent_spot}
 use Rattle.plan_model.specs.Network.{Network, IsPlan}
 use Rattle.plan_model.specs.Next.{next_of}
 use Rattle.plan_model.specs.Routes.{onward, StaysIn}
+use Rattle.plan_model.specs.SameNodes.{SameNodes}
 use Rattle.plan_model.specs.Spots.{IsSpotOf}
-use Rattle.plan_model.specs.Steps.{step}
 use Rattle.plan_model.specs.declared.hop.Hop.{Hop}
 use Rattle.plan_model.specs.declared.spot.Spot.{Spot}
 use Rattle.plan_mixed.specs.declared.which.Which.{Which}
 use Rattle.plan_mixed.specs.declared.which.Which.TheVariants.{Old, New}
-use Rattle.plan_mixed.specs.Mixed.{held}
+use Rattle.plan_change.proofs.Ranges.{in_range_under}
 use Rattle.plan_change.proofs.Verdicts.{same_length}
+use Rattle.plan_change.specs.Changes.{IsLawfulChange}
+use Rattle.plan_change.specs.declared.answer.Change.{Change}
+use Rattle.plan_change.specs.declared.answer.Change.TheVariants.{Kept, Broken, TooWide}
 use Rattle.plan_change.specs.declared.mixed_hop.MixedHop.{MixedHop}
 use Rattle.plan_change.specs.declared.turn.Turn.{Turn}
-use Rattle.plan_change.specs.Mixture.{made, mixed, tagged}
+use Rattle.plan_change.specs.Mixture.{made, mixed, tagged, HaveMarkings, IsMixedInRange}
 use Rattle.sccp_report.proofs.HopsTold.{line_parts}
 use Rattle.sccp_report.proofs.InMixture.{stays_in}
 use Rattle.sccp_report.proofs.Parted.{first_same, rest_same}
 use Rattle.sccp_report.specs.Changes.{mixed_hop_line, mixed_hops_text, which_words}
 use Rattle.sccp_report.specs.Hops.{hop_line}
-use Rattle.sccp_report.specs.Told.{HaveMarkings, MixedRoutesAreInRange, TextTellsMixedRoute}
-
--- ---- the numbers of a mixed route
-
--- a spot of one plan is a spot of another with as many nodes
-spot_of : (old new : Network) (s : Spot) → length old.nodes ≡ length new.nodes → IsSpotOf old s → IsSpotOf new s
-spot_of old new s same h = record {
-  node = subst (λ n. s.node < n) same h.node;
-  selector = h.selector;
-  ssn = h.ssn;
-  few = h.few;
-  halves = h.halves;
-  even = h.even;
-}
-
-next_in : (old new : Network) (s next : Spot) (turn : Turn) → IsPlan old → IsPlan new → length old.nodes ≡ length new.nodes
-    → IsSpotOf old s → next_of (made old new turn s) ≡ Some next → IsSpotOf old next
-next_in old new s next turn is also same h = by turn.which
-  where
-    by : (which : Which) → next_of (step (held old new which) s turn.marking) ≡ Some next → IsSpotOf old next
-    by Old e = sent_spot old s next turn.marking is h e
-    by New e = spot_of new old next (sym same) (sent_spot new s next turn.marking also (spot_of old new s same h) e)
-
-mixed_spots : (old new : Network) (s : Spot) (turns : List Turn) → IsPlan old → IsPlan new → length old.nodes ≡ length new.nodes
-    → IsSpotOf old s → All (λ (hop : Hop). IsSpotOf old hop.spot) (mixed old new s turns)
-mixed_spots old new s [] is also same h = All-nil (λ (hop : Hop). IsSpotOf old hop.spot)
-mixed_spots old new s (turn ∷ turns) is also same h =
-    All-cons (λ (hop : Hop). IsSpotOf old hop.spot) (record { spot = s; step = made old new turn s })
-    (onward (next_of (made old new turn s)) (λ next. mixed old new next turns)) h
-    (by (λ next. mixed_spots old new next turns is also same) (next_of (made old new turn s))
-    (λ next e. next_in old new s next turn is also same h e))
-  where
-    by : ((next : Spot) → IsSpotOf old next → All (λ (hop : Hop). IsSpotOf old hop.spot) (mixed old new next turns))
-        → (o : Option Spot) → ((next : Spot) → o ≡ Some next → IsSpotOf old next)
-        → All (λ (hop : Hop). IsSpotOf old hop.spot) (onward o (λ next. mixed old new next turns))
-    by later None all = All-nil (λ (hop : Hop). IsSpotOf old hop.spot)
-    by later (Some next) all = later next (all next refl)
+use Rattle.sccp_report.specs.Told.{MixedRoutesAreInRange, TextTellsMixedRoute, TextTellsChange, hops_of, shown_hops, shown_turns}
 
 pub mixed_in_range : MixedRoutesAreInRange
-mixed_in_range old new s turns is also same covered marked = record {
-  markings = marked;
-  spots = mixed_spots old new s turns is also (same_length old new same) (covered_spot old s is covered);
-}
+mixed_in_range old new s turns is also same covered marked =
+    in_range_under [] old new s turns is also (same_length old new same) covered marked
 
 -- ---- hops that happen
 
@@ -167,3 +131,49 @@ text_tells_mixed_route old new s t us vs is also same names h k e =
     let long = same_length old new same in
     text_tells_hops old new (tagged (mixed old new s us) us) (tagged (mixed old new t vs) vs) us vs is names
     (mixed_at old new s us is also long h.markings h.spots) (mixed_at old new t vs is also long k.markings k.spots) e
+
+-- ---- what a lawful answer shows
+
+-- with a turn for each hop of the route there is one for each hop that is shown
+tags_each : (hops : List Hop) (turns : List Turn) → length hops ≡ length turns → length (tagged hops turns) ≡ length turns
+tags_each [] turns each = each
+tags_each (hop ∷ hops) [] each = refl
+tags_each (hop ∷ hops) (turn ∷ turns) each = let h = tags_each hops turns (omega (arith, each)) in omega (arith, h)
+
+-- the hops that are shown are hops of the two plans, with a turn for each
+record IsShownAt (old new : Network) (hops : List MixedHop) (turns : List Turn) : Type 0 where
+  each : length hops ≡ length turns
+  at : AreHopsAt old new hops turns
+
+route_shown : (old new : Network) (s : Spot) (turns : List Turn) → IsPlan old → IsPlan new → SameNodes old new
+    → length (mixed old new s turns) ≡ length turns → IsMixedInRange old new s turns → IsShownAt old new (hops_of old new s turns) turns
+route_shown old new s turns is also same each range = record {
+  each = tags_each (mixed old new s turns) turns each;
+  at = mixed_at old new s turns is also (same_length old new same) range.markings range.spots;
+}
+
+change_shown : (old new : Network) (change : Change) → IsPlan old → IsPlan new → SameNodes old new → IsLawfulChange old new change
+    → IsShownAt old new (shown_hops old new change) (shown_turns change)
+change_shown old new (Kept bound None turns) is also same lawful = record { each = sym (ap length lawful.2.1); at = tt }
+change_shown old new (Kept bound (Some spot) turns) is also same lawful =
+    let (tight, range) = lawful.2 in route_shown old new spot turns is also same (tight.hops ∙ sym tight.count) range
+change_shown old new (Broken i j spot turns hops kind) is also same (bad, range) =
+    subst (λ (hs : List MixedHop). IsShownAt old new hs turns) (sym bad.is_route)
+    (route_shown old new spot turns is also same bad.each range)
+change_shown old new TooWide is also same lawful = record { each = refl; at = tt }
+
+-- a list of which as many are taken as it has
+whole : (hops : List MixedHop) (turns : List Turn) → length hops ≡ length turns → take (length hops) turns ≡ turns
+whole [] [] each = refl
+whole [] (turn ∷ turns) each = absurd (omega (arith, each))
+whole (hop ∷ hops) [] each = refl
+whole (hop ∷ hops) (turn ∷ turns) each = ap (λ (ts : List Turn). turn ∷ ts) (whole hops turns (omega (arith, each)))
+
+pub text_tells_change : TextTellsChange
+text_tells_change old new c d is also same names lawful true e =
+    let h = change_shown old new c is also same lawful in
+    let k = change_shown old new d is also same true in
+    let told = text_tells_hops old new (shown_hops old new c) (shown_hops old new d) (shown_turns c) (shown_turns d) is names h.at k.at e in (
+      told.0,
+      sym (whole (shown_hops old new c) (shown_turns c) h.each) ∙ told.1 ∙ whole (shown_hops old new d) (shown_turns d) k.each,
+    )

@@ -11,7 +11,7 @@ exact : (old new : Network) (change : Change) → IsLawfulChange old new change 
     → (IsKept change ↔ (bound : ℕ) × IsMixedSafeFor old new bound)
 exact old new (Kept bound spot turns) lawful narrow = (λ t. (bound, (lawful.0, lawful.1)), λ s. tt)
 exact old new (Broken i j spot turns hops kind) lawful narrow =
-    (λ t. absurd t, λ s. safe_not_bad old new s.0 i j spot turns hops kind s.1.0 s.1.1 lawful)
+    (λ t. absurd t, λ s. safe_not_bad old new s.0 i j spot turns hops kind s.1.0 s.1.1 lawful.0)
 exact old new TooWide lawful narrow = (λ t. absurd t, λ s. narrow lawful)
 
 pub returns : goal.returns

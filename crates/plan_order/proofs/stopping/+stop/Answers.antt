@@ -35,8 +35,8 @@ stop_after-stop_at-requires t c =
                 ap relays_of pushed ∙ relays_push c.args.steps c.args.step ∙ ap (λ (s : List ℕ). s ++ c.args.step.nodes) c.requires.done
                     ∙ sym further,
                 subst (λ (s : List SafeStep). AreStepSets (sets_of s)) (sym pushed)
-                    (sets_more old new c.args.done.now c.args.left.now c.args.steps c.args.step c.requires.split c.requires.done c.requires.step
-                    c.requires.sets),
+                    (sets_more old new c.args.done.now c.args.left.now c.args.steps c.args.step c.requires.split c.requires.done
+                    c.requires.step c.requires.sets),
               ),
             ),
           ),

@@ -10,5 +10,6 @@ pub returns-then-is_refused-clause-bound : goal.returns-then-is_refused-clause-b
 returns-then-is_refused-clause-bound c =
     λ narrow. refused_not_safe c.args.plans.now.old.now c.args.plans.now.new.now c.args.known.now c.args.done.now c.args.step.now
     c.requires.known
-    (subst (λ (refusals : List (List Held)). Any (λ refusal. All (λ held. IsTrue (lets c.args.done.now c.args.step.now held)) refusal) refusals)
+    (subst (λ (refusals : List (List Held)).
+    Any (λ refusal. All (λ held. IsTrue (lets c.args.done.now c.args.step.now held)) refusal) refusals)
     c.as_slice.ensures (c.is_refused.ensures.0 c.if-is_refused.true))

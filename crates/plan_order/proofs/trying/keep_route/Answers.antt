@@ -15,4 +15,4 @@ keep-requires-clause-refuses c =
     let may = during (length old.nodes) c.args.done.now c.args.step.now in
     subst (λ (hops : List MixedHop). Refuses old new (held_of hops)) (sym c.as_slice.ensures)
     (bad_refuses old new may c.in-Broken.old_cover c.in-Broken.new_cover c.in-Broken.spot c.in-Broken.turns c.in-Broken.hops
-    c.in-Broken.kind (subst (IsLawfulUnder may old new) c.in-Broken.is c.requires.lawful))
+    c.in-Broken.kind (subst (IsLawfulUnder may old new) c.in-Broken.is c.requires.lawful).0)
