@@ -9,9 +9,10 @@ use Rattle.plan_rules.specs.declared.target.Target.{Target}
 use Rattle.plan_model.specs.declared.node.Node.{Node}
 use Rattle.plan_model.specs.Network.{Network, point_of}
 use Rattle.plan_model.specs.Steps.{marks as closing_marks, closing}
-use Rattle.plan_classes.specs.Titles.{Titles, IsMember, spot_of}
-use Rattle.plan_classes.specs.Classes.{class_targets}
+use Rattle.plan_classes.specs.Titles.{Titles, IsClass, IsMember, spot_of}
+use Rattle.plan_classes.specs.Classes.{Decided, class_row, class_targets}
 use Rattle.plan_classes.specs.Leading.{OpensClass}
+use Rattle.plan_margin.specs.declared.choice.Choice.{Choice}
 use Rattle.plan_margin.specs.declared.outage_set.OutageSet.{OutageSet}
 use Rattle.plan_margin.specs.declared.loss_kinds.LossKinds.{LossKinds}
 use Rattle.plan_margin.specs.declared.found.Found.{Found}
@@ -40,6 +41,15 @@ pub record IsOutageSet (plan : Network) (set : OutageSet) : Type 0 where
 pub record MayExplore (plan : Network) (c : Titles) : Type 0 where
   pub node : c.node < length plan.nodes
   pub cover : c.cover < length plan.covers
+
+-- a decided class at a node of the plan, with the row that counts for it, of which routes may go on
+pub record MayChoose (plan : Network) (choice : Choice) : Type 0 where
+  pub some : 0 < choice.left
+  pub few : choice.left ≤ 14
+  pub may : MayExplore plan choice.class.now
+  pub class : IsClass choice.class.now
+  pub decided : Decided plan choice.class.now
+  pub row : class_row plan choice.class.now ≡ Some choice.row.now
 
 -- a title of the class, and losses that stop it
 pub record StopsOne (plan : Network) (c : Titles) (left most : ℕ) (In : List Mark

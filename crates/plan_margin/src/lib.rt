@@ -7,6 +7,7 @@
 //! does survive.
 #![tactic(auto)]
 
+mod choice;
 mod finding;
 mod found;
 mod laws;

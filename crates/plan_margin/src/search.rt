@@ -5,19 +5,20 @@ ghost use Rattle.plan_classes.specs.declared.leads.Image.TheVariants.{Next, Ends
 ghost use Rattle.plan_classes.specs.Classes.{Decided, HasImage, class_row, class_targets};
 ghost use Rattle.plan_classes.specs.Leading.{ImageIsExact};
 ghost use Rattle.plan_margin.specs.declared.found.Found.TheVariants.{Stopped as StoppedFound};
-ghost use Rattle.plan_margin.specs.Searching.{MayExplore, IsOutageSet, IsFound, IsFoundIf, IsWithinLimit, most_ways, PassesOver, TakesIn};
+ghost use Rattle.plan_margin.specs.Searching.{MayExplore, MayChoose, IsOutageSet, IsFound, IsFoundIf, IsWithinLimit, most_ways};
+ghost use Rattle.plan_margin.specs.Searching.{PassesOver, TakesIn};
 ghost use Rattle.plan_margin.specs.Searching.{IsTurn};
 ghost use Rattle.plan_margin.specs.Searching.{IsInWith};
 ghost use Rattle.plan_margin.specs.declared.turn.Turn.TheVariants.{Either};
 ghost use Rattle.plan_margin.specs.Ways.{AtClass, AtClasses, AtTargets, AtTarget, Counts, CountsUp, CountsLost};
 
+use crate::choice::Choice;
 use crate::found::{Found, joined};
 use crate::outage_set::OutageSet;
 use crate::turn::{Turn, turn_at};
 use plan_check::allows;
 use plan_classes::{Class, Image, carry_back, class_row, decided, image_by, parts, sample};
 use plan_model::Plan;
-use plan_rules::Row;
 use sccp_base::{Digits, Mark, OutOfMemory, PointCode};
 use std::alloc::Global;
 
@@ -119,77 +120,75 @@ fn explore_targets(
     ensures ways { OnOk result (Counts plan.now set.now left (AtTargets class.now 0) count.old count.new) }
 {
     match class_row(plan, class) {
-        Some(row) => follow_row(alloc, plan, class, row, 0, left, set, count),
+        Some(row) => {
+            let choice = Choice {
+                class,
+                row,
+                place: 0,
+                left,
+            };
+            follow_row(alloc, plan, &choice, set, count)
+        }
         None => stopped(alloc, set, sample(class)),
     }
 }
 
-/// Looks for a stopped title of a decided class, if the targets before a place of its row are closed.
+/// Looks for a stopped title of a choice, if the targets before it are closed.
 #[cycle(search)]
 fn follow_row(
     alloc: Global,
     plan: &Plan,
-    class: &Class,
-    row: &Row,
-    place: u8,
-    left: u8,
+    choice: &Choice<'_>,
     set: &OutageSet,
     count: &mut u32,
 ) -> Result<Found, OutOfMemory>
-    requires some { 0 < left }
-    requires left { left ≤ 14 }
-    requires may { MayExplore plan.now class.now }
-    requires class { IsClass class.now }
-    requires decided { Decided plan.now class.now }
-    requires row { class_row plan.now class.now ≡ Some row.now }
-    requires passes { PassesOver plan.now class.now place set.now }
+    requires may { MayChoose plan.now choice.now }
+    requires passes { PassesOver plan.now choice.now.class.now choice.now.place set.now }
     requires set { IsOutageSet plan.now set.now }
     requires few { count.old < most_ways }
-    ensures found { IfOk result (IsFound plan.now class.now left set.now) }
+    ensures found { IfOk result (IsFound plan.now choice.now.class.now choice.now.left set.now) }
     ensures limit { IfOk result (λ found. IsWithinLimit found count.new) }
-    ensures ways { OnOk result (Counts plan.now set.now left (AtTargets class.now place) count.old count.new) }
+    ensures ways { OnOk result
+        (Counts plan.now set.now choice.now.left (AtTargets choice.now.class.now choice.now.place) count.old count.new) }
 {
-    match turn_at(plan, class, row, place, set) {
-        Turn::Past => stopped(alloc, set, sample(class)),
-        Turn::Lost => follow_row(alloc, plan, class, row, place + 1, left, set, count),
-        Turn::Taken => follow_target(alloc, plan, class, row, place, left, set, count),
-        Turn::Either(mark) => follow_either(
-            alloc, plan, class, row, place, left, &mark, set, count,
-        ),
+    match turn_at(plan, choice.class, choice.row, choice.place, set) {
+        Turn::Past => stopped(alloc, set, sample(choice.class)),
+        Turn::Lost => {
+            let after = Choice {
+                place: choice.place + 1,
+                ..*choice
+            };
+            follow_row(alloc, plan, &after, set, count)
+        }
+        Turn::Taken => follow_target(alloc, plan, choice, set, count),
+        Turn::Either(mark) => follow_either(alloc, plan, choice, &mark, set, count),
     }
 }
 
-/// Looks for a stopped title, first if a mark that closes the target at a place is not held, then if it is.
+/// Looks for a stopped title, first if a mark that closes the target is not held, then if it is.
 #[cycle(search)]
 fn follow_either(
     alloc: Global,
     plan: &Plan,
-    class: &Class,
-    row: &Row,
-    place: u8,
-    left: u8,
+    choice: &Choice<'_>,
     mark: &Mark,
     set: &OutageSet,
     count: &mut u32,
 ) -> Result<Found, OutOfMemory>
-    requires some { 0 < left }
-    requires left { left ≤ 14 }
-    requires may { MayExplore plan.now class.now }
-    requires class { IsClass class.now }
-    requires decided { Decided plan.now class.now }
-    requires row { class_row plan.now class.now ≡ Some row.now }
-    requires short { length row.now.targets ≤ 8 }
-    requires passes { PassesOver plan.now class.now place set.now }
-    requires turn { IsTurn plan.now class.now place set.now (Either mark.now) }
+    requires may { MayChoose plan.now choice.now }
+    requires short { length choice.now.row.now.targets ≤ 8 }
+    requires passes { PassesOver plan.now choice.now.class.now choice.now.place set.now }
+    requires turn { IsTurn plan.now choice.now.class.now choice.now.place set.now (Either mark.now) }
     requires set { IsOutageSet plan.now set.now }
     requires few { count.old < most_ways }
-    ensures found { IfOk result (IsFound plan.now class.now left set.now) }
+    ensures found { IfOk result (IsFound plan.now choice.now.class.now choice.now.left set.now) }
     ensures limit { IfOk result (λ found. IsWithinLimit found count.new) }
-    ensures ways { OnOk result (Counts plan.now set.now left (AtTargets class.now place) count.old count.new) }
+    ensures ways { OnOk result
+        (Counts plan.now set.now choice.now.left (AtTargets choice.now.class.now choice.now.place) count.old count.new) }
 {
-    match follow_up(alloc, plan, class, row, place, left, mark, set, count)? {
+    match follow_up(alloc, plan, choice, mark, set, count)? {
         Found::Through { cut } => {
-            let found = follow_lost(alloc, plan, class, row, place, left, mark, set, count)?;
+            let found = follow_lost(alloc, plan, choice, mark, set, count)?;
             Ok(joined(cut, found))
         }
         found => Ok(found),
@@ -202,30 +201,24 @@ fn follow_either(
 fn follow_up(
     alloc: Global,
     plan: &Plan,
-    class: &Class,
-    row: &Row,
-    place: u8,
-    left: u8,
+    choice: &Choice<'_>,
     mark: &Mark,
     set: &OutageSet,
     count: &mut u32,
 ) -> Result<Found, OutOfMemory>
-    requires some { 0 < left }
-    requires left { left ≤ 14 }
-    requires may { MayExplore plan.now class.now }
-    requires class { IsClass class.now }
-    requires decided { Decided plan.now class.now }
-    requires row { class_row plan.now class.now ≡ Some row.now }
-    requires passes { PassesOver plan.now class.now place set.now }
-    requires turn { IsTurn plan.now class.now place set.now (Either mark.now) }
+    requires may { MayChoose plan.now choice.now }
+    requires passes { PassesOver plan.now choice.now.class.now choice.now.place set.now }
+    requires turn { IsTurn plan.now choice.now.class.now choice.now.place set.now (Either mark.now) }
     requires set { IsOutageSet plan.now set.now }
     requires few { count.old < most_ways }
-    ensures found { IfOk result (IsFoundIf plan.now class.now left set.now.most (IsInWith plan.now set.now mark.now false)) }
+    ensures found { IfOk result
+        (IsFoundIf plan.now choice.now.class.now choice.now.left set.now.most (IsInWith plan.now set.now mark.now false)) }
     ensures limit { IfOk result (λ found. IsWithinLimit found count.new) }
-    ensures ways { OnOk result (CountsUp plan.now set.now left class.now place mark.now count.old count.new) }
+    ensures ways { OnOk result
+        (CountsUp plan.now set.now choice.now.left choice.now.class.now choice.now.place mark.now count.old count.new) }
 {
     let with_up = set.with_up(alloc, *mark)?;
-    let found = follow_row(alloc, plan, class, row, place, left, &with_up, count);
+    let found = follow_row(alloc, plan, choice, &with_up, count);
     drop(with_up);
     found
 }
@@ -236,100 +229,83 @@ fn follow_up(
 fn follow_lost(
     alloc: Global,
     plan: &Plan,
-    class: &Class,
-    row: &Row,
-    place: u8,
-    left: u8,
+    choice: &Choice<'_>,
     mark: &Mark,
     set: &OutageSet,
     count: &mut u32,
 ) -> Result<Found, OutOfMemory>
-    requires some { 0 < left }
-    requires left { left ≤ 14 }
-    requires may { MayExplore plan.now class.now }
-    requires class { IsClass class.now }
-    requires decided { Decided plan.now class.now }
-    requires row { class_row plan.now class.now ≡ Some row.now }
-    requires short { length row.now.targets ≤ 8 }
-    requires passes { PassesOver plan.now class.now place set.now }
-    requires turn { IsTurn plan.now class.now place set.now (Either mark.now) }
+    requires may { MayChoose plan.now choice.now }
+    requires short { length choice.now.row.now.targets ≤ 8 }
+    requires passes { PassesOver plan.now choice.now.class.now choice.now.place set.now }
+    requires turn { IsTurn plan.now choice.now.class.now choice.now.place set.now (Either mark.now) }
     requires set { IsOutageSet plan.now set.now }
     requires few { count.old < most_ways }
-    ensures found { IfOk result (IsFoundIf plan.now class.now left set.now.most (IsInWith plan.now set.now mark.now true)) }
+    ensures found { IfOk result
+        (IsFoundIf plan.now choice.now.class.now choice.now.left set.now.most (IsInWith plan.now set.now mark.now true)) }
     ensures limit { IfOk result (λ found. IsWithinLimit found count.new) }
-    ensures ways { OnOk result ((count.new ≡ count.old) ⊎ CountsLost plan.now set.now left class.now place mark.now count.old count.new) }
+    ensures ways { OnOk result ((count.new ≡ count.old)
+        ⊎ CountsLost plan.now set.now choice.now.left choice.now.class.now choice.now.place mark.now count.old count.new) }
 {
     if set.lost.marks().len() == usize::from(set.most) {
         return Ok(Found::Through { cut: true });
     }
     let with_lost = set.with_lost(alloc, *mark)?;
-    let found = follow_row(alloc, plan, class, row, place + 1, left, &with_lost, count);
+    let after = Choice {
+        place: choice.place + 1,
+        ..*choice
+    };
+    let found = follow_row(alloc, plan, &after, &with_lost, count);
     drop(with_lost);
     found
 }
 
-/// Looks for a stopped title if each title takes the target at a place.
+/// Looks for a stopped title if each title takes the target.
 #[cycle(search)]
 fn follow_target(
     alloc: Global,
     plan: &Plan,
-    class: &Class,
-    row: &Row,
-    place: u8,
-    left: u8,
+    choice: &Choice<'_>,
     set: &OutageSet,
     count: &mut u32,
 ) -> Result<Found, OutOfMemory>
-    requires some { 0 < left }
-    requires left { left ≤ 14 }
-    requires may { MayExplore plan.now class.now }
-    requires class { IsClass class.now }
-    requires decided { Decided plan.now class.now }
-    requires row { class_row plan.now class.now ≡ Some row.now }
-    requires place { place < length row.now.targets }
-    requires takes { TakesIn plan.now class.now place set.now }
+    requires may { MayChoose plan.now choice.now }
+    requires place { choice.now.place < length choice.now.row.now.targets }
+    requires takes { TakesIn plan.now choice.now.class.now choice.now.place set.now }
     requires set { IsOutageSet plan.now set.now }
     requires few { count.old < most_ways }
-    ensures found { IfOk result (IsFound plan.now class.now left set.now) }
+    ensures found { IfOk result (IsFound plan.now choice.now.class.now choice.now.left set.now) }
     ensures limit { IfOk result (λ found. IsWithinLimit found count.new) }
-    ensures ways { OnOk result (Counts plan.now set.now left (AtTarget class.now place) count.old count.new) }
+    ensures ways { OnOk result
+        (Counts plan.now set.now choice.now.left (AtTarget choice.now.class.now choice.now.place) count.old count.new) }
 {
-    match image_by(plan, class, row, place) {
+    match image_by(plan, choice.class, choice.row, choice.place) {
         Image::Next(next) => {
-            let found = explore(alloc, plan, &next, left - 1, set, count)?;
-            Ok(carried(plan, class, &next, place, left, set, found))
+            let found = explore(alloc, plan, &next, choice.left - 1, set, count)?;
+            Ok(carried(plan, choice, &next, set, found))
         }
-        Image::Ends { pc, ssn } => end_at(alloc, plan, class, place, left, pc, ssn, set),
-        Image::NotEquipped => stopped(alloc, set, sample(class)),
-        Image::TooLong => stopped(alloc, set, longest(class)),
+        Image::Ends { pc, ssn } => end_at(alloc, plan, choice, pc, ssn, set),
+        Image::NotEquipped => stopped(alloc, set, sample(choice.class)),
+        Image::TooLong => stopped(alloc, set, longest(choice.class)),
     }
 }
 
 /// What was found of the next class, said of the class that the target makes it of.
-fn carried(
-    plan: &Plan,
-    class: &Class,
-    next: &Class,
-    place: u8,
-    left: u8,
-    set: &OutageSet,
-    found: Found,
-) -> Found
-    requires some { 0 < left }
-    requires node { class.now.node < length plan.now.nodes }
-    requires class { IsClass class.now }
-    requires decided { Decided plan.now class.now }
-    requires image { HasImage plan.now class.now place (Next next.now) }
-    requires exact { ImageIsExact plan.now class.now place (Next next.now) }
-    requires cover { next.now.cover ≡ class.now.cover }
-    requires takes { TakesIn plan.now class.now place set.now }
-    requires found { IsFound plan.now next.now (left - 1) set.now found }
-    ensures found { IsFound plan.now class.now left set.now result }
+fn carried(plan: &Plan, choice: &Choice<'_>, next: &Class, set: &OutageSet, found: Found) -> Found
+    requires some { 0 < choice.now.left }
+    requires node { choice.now.class.now.node < length plan.now.nodes }
+    requires class { IsClass choice.now.class.now }
+    requires decided { Decided plan.now choice.now.class.now }
+    requires image { HasImage plan.now choice.now.class.now choice.now.place (Next next.now) }
+    requires exact { ImageIsExact plan.now choice.now.class.now choice.now.place (Next next.now) }
+    requires cover { next.now.cover ≡ choice.now.class.now.cover }
+    requires takes { TakesIn plan.now choice.now.class.now choice.now.place set.now }
+    requires found { IsFound plan.now next.now (choice.now.left - 1) set.now found }
+    ensures found { IsFound plan.now choice.now.class.now choice.now.left set.now result }
     ensures limit { (count : ℕ) → IsWithinLimit found count → IsWithinLimit result count }
 {
     match found {
         Found::Stopped { digits, lost } => Found::Stopped {
-            digits: carry_back(plan, class, place, &digits),
+            digits: carry_back(plan, choice.class, choice.place, &digits),
             lost,
         },
         Found::Through { cut } => Found::Through { cut },
@@ -341,27 +317,25 @@ fn carried(
 fn end_at(
     alloc: Global,
     plan: &Plan,
-    class: &Class,
-    place: u8,
-    left: u8,
+    choice: &Choice<'_>,
     pc: PointCode,
     ssn: u8,
     set: &OutageSet,
 ) -> Result<Found, OutOfMemory>
-    requires some { 0 < left }
-    requires may { MayExplore plan.now class.now }
-    requires class { IsClass class.now }
-    requires decided { Decided plan.now class.now }
-    requires exact { ImageIsExact plan.now class.now place (Ends pc ssn) }
-    requires takes { TakesIn plan.now class.now place set.now }
+    requires some { 0 < choice.now.left }
+    requires may { MayExplore plan.now choice.now.class.now }
+    requires class { IsClass choice.now.class.now }
+    requires decided { Decided plan.now choice.now.class.now }
+    requires exact { ImageIsExact plan.now choice.now.class.now choice.now.place (Ends pc ssn) }
+    requires takes { TakesIn plan.now choice.now.class.now choice.now.place set.now }
     requires set { IsOutageSet plan.now set.now }
-    ensures found { IfOk result (IsFound plan.now class.now left set.now) }
+    ensures found { IfOk result (IsFound plan.now choice.now.class.now choice.now.left set.now) }
     ensures limit { (count : ℕ) → count < most_ways → IfOk result (λ found. IsWithinLimit found count) }
 {
-    if allows(plan, class.cover(), pc, ssn) {
+    if allows(plan, choice.class.cover(), pc, ssn) {
         Ok(Found::Through { cut: false })
     } else {
-        stopped(alloc, set, sample(class))
+        stopped(alloc, set, sample(choice.class))
     }
 }
 

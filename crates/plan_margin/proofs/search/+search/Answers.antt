@@ -52,29 +52,20 @@ pub explore_targets-follow_row-requires : goal.explore_targets-follow_row-requir
 explore_targets-follow_row-requires t c = (
   omega (arith, few_free c.args.plan.now c.args.class.now 0 c.args.set.now),
   (
-    c.requires.some,
+    record {
+      some = c.requires.some;
+      few = c.requires.left;
+      may = c.requires.may;
+      class = c.requires.class;
+      decided = c.requires.decided;
+      row = search rules;
+    },
     (
-      c.requires.left,
-      (
-        c.requires.may,
-        (
-          c.requires.class,
-          (
-            c.requires.decided,
-            (
-              search rules,
-              (
-                record {
-                  closed = λ marks inside k near. absurd
-                      (omega (arith, near));
-                  within = omega arith;
-                },
-                (c.requires.set, c.requires.few),
-              ),
-            ),
-          ),
-        ),
-      ),
+      record {
+        closed = λ marks inside k near. absurd (omega (arith, near));
+        within = omega arith;
+      },
+      (c.requires.set, c.requires.few),
     ),
   ),
 )
@@ -90,15 +81,19 @@ explore_targets-returns-in-None-clause-found t c =
     (sym c.class_row.ensures.value ∙ ap (λ (o : Option (Bor Rule)). option_copied o) c.in-None.is)))
 
 pub follow_lost-returns-then-marks-from-clause-found : goal.follow_lost-returns-then-marks-from-clause-found
-follow_lost-returns-then-marks-from-clause-found t c = record {
-  arrive = λ digits marks member inside few. absurd (too_many c.args.plan.now c.args.set.now c.args.mark.now marks c.marks.ensures.ascending
-      (let full : length c.args.set.now.lost ≡ c.args.set.now.most =
-      omega (arith, c.if-marks-from.true, ap length c.marks.ensures.marks, c.from.ensures) in full)
-      (either_is_free c.args.plan.now c.args.class.now c.args.place c.args.mark.now c.args.set.now c.requires.turn) inside (few refl));
-}
+follow_lost-returns-then-marks-from-clause-found t c =
+    let choice = c.args.choice.now in
+    record {
+      arrive = λ digits marks member inside few. absurd (too_many c.args.plan.now c.args.set.now c.args.mark.now marks
+          c.marks.ensures.ascending
+          (let full : length c.args.set.now.lost ≡ c.args.set.now.most =
+          omega (arith, c.if-marks-from.true, ap length c.marks.ensures.marks, c.from.ensures) in full)
+          (either_is_free c.args.plan.now choice.class.now choice.place c.args.mark.now c.args.set.now c.requires.turn) inside (few refl));
+    }
 
 pub follow_lost-follow_row-found-requires : goal.follow_lost-follow_row-found-requires
 follow_lost-follow_row-found-requires t c =
+    let choice = c.args.choice.now in
     let more = c.in_ok-with_lost.with_lost in
     let made : IsWithLost c.args.set.now c.args.mark.now more = record {
       kinds = c.in_ok-with_lost.ensures.kinds;
@@ -107,44 +102,36 @@ follow_lost-follow_row-found-requires t c =
       up = c.in_ok-with_lost.ensures.up;
       ascending = c.in_ok-with_lost.ensures.ascending;
     } in
-    let inside : c.args.place < length (class_targets c.args.plan.now c.args.class.now) =
-    of_target_within c.args.plan.now c.args.class.now c.args.place
-    (λ node t. IsTurnBy c.args.plan.now (closing_marks node c.args.class.now.ssn t) c.args.set.now
+    let inside : choice.place < length (class_targets c.args.plan.now choice.class.now) =
+    of_target_within c.args.plan.now choice.class.now choice.place
+    (λ node t. IsTurnBy c.args.plan.now (closing_marks node choice.class.now.ssn t) c.args.set.now
     (Either c.args.mark.now)) c.requires.turn in (
       omega (
         arith,
-        few_free c.args.plan.now c.args.class.now (c.args.place + 1) more,
+        few_free c.args.plan.now choice.class.now (choice.place + 1) more,
         inside,
-        ap length (row_targets c.args.plan.now c.args.class.now c.args.row.now c.requires.row),
+        ap length (row_targets c.args.plan.now choice.class.now choice.row.now c.requires.may.row),
         c.requires.short,
       ),
       (
-        c.requires.some,
+        record {
+          some = c.requires.may.some;
+          few = c.requires.may.few;
+          may = c.requires.may.may;
+          class = c.requires.may.class;
+          decided = c.requires.may.decided;
+          row = c.requires.may.row;
+        },
         (
-          c.requires.left,
+          passes_more c.args.plan.now choice.class.now choice.place c.args.set.now more c.requires.passes
+              (λ marks i. (lost_inner c.args.plan.now c.args.set.now more c.args.mark.now marks made i).inside)
+              (λ marks i. either_closes c.args.plan.now choice.class.now choice.place c.args.mark.now c.args.set.now marks
+              c.requires.turn (lost_inner c.args.plan.now c.args.set.now more c.args.mark.now marks made i).held) inside,
           (
-            c.requires.may,
-            (
-              c.requires.class,
-              (
-                c.requires.decided,
-                (
-                  c.requires.row,
-                  (
-                    passes_more c.args.plan.now c.args.class.now c.args.place c.args.set.now more c.requires.passes
-                        (λ marks i. (lost_inner c.args.plan.now c.args.set.now more c.args.mark.now marks made i).inside)
-                        (λ marks i. either_closes c.args.plan.now c.args.class.now c.args.place c.args.mark.now c.args.set.now marks
-                        c.requires.turn (lost_inner c.args.plan.now c.args.set.now more c.args.mark.now marks made i).held) inside,
-                    (
-                      lost_set c.args.plan.now c.args.set.now more c.args.mark.now c.requires.set
-                          (either_is_free c.args.plan.now c.args.class.now c.args.place c.args.mark.now c.args.set.now c.requires.turn)
-                          (λ e. c.if-marks-from.false (omega (arith, e, ap length c.marks.ensures.marks, c.from.ensures))) made,
-                      c.requires.few,
-                    ),
-                  ),
-                ),
-              ),
-            ),
+            lost_set c.args.plan.now c.args.set.now more c.args.mark.now c.requires.set
+                (either_is_free c.args.plan.now choice.class.now choice.place c.args.mark.now c.args.set.now c.requires.turn)
+                (λ e. c.if-marks-from.false (omega (arith, e, ap length c.marks.ensures.marks, c.from.ensures))) made,
+            c.requires.few,
           ),
         ),
       ),
@@ -152,6 +139,7 @@ follow_lost-follow_row-found-requires t c =
 
 pub follow_lost-returns-clause-found : goal.follow_lost-returns-clause-found
 follow_lost-returns-clause-found t c =
+    let choice = c.args.choice.now in
     let more = c.in_ok-with_lost.with_lost in
     let made : IsWithLost c.args.set.now c.args.mark.now more = record {
       kinds = c.in_ok-with_lost.ensures.kinds;
@@ -160,83 +148,62 @@ follow_lost-returns-clause-found t c =
       up = c.in_ok-with_lost.ensures.up;
       ascending = c.in_ok-with_lost.ensures.ascending;
     } in
-    IfOk-weaker c.follow_row-found.result (λ f. IsFound c.args.plan.now c.args.class.now c.args.left more f)
-    (λ f. IsFoundIf c.args.plan.now c.args.class.now c.args.left c.args.set.now.most
+    IfOk-weaker c.follow_row-found.result (λ f. IsFound c.args.plan.now choice.class.now choice.left more f)
+    (λ f. IsFoundIf c.args.plan.now choice.class.now choice.left c.args.set.now.most
     (IsInWith c.args.plan.now c.args.set.now c.args.mark.now true) f)
-    (λ f h. lost_found c.args.plan.now c.args.class.now c.args.left c.args.mark.now c.args.set.now more f made h)
+    (λ f h. lost_found c.args.plan.now choice.class.now choice.left c.args.mark.now c.args.set.now more f made h)
     c.follow_row-found.ensures.found
 
 pub follow_row-follow_row-requires : goal.follow_row-follow_row-requires
 follow_row-follow_row-requires t c =
-    let turn = subst (λ (x : Turn). IsTurn c.args.plan.now c.args.class.now c.args.place c.args.set.now x) c.in-Lost.is
+    let choice = c.args.choice.now in
+    let turn = subst (λ (x : Turn). IsTurn c.args.plan.now choice.class.now choice.place c.args.set.now x) c.in-Lost.is
     c.turn_at.ensures.turn in
-    let inside : c.args.place < length (class_targets c.args.plan.now c.args.class.now) =
-    of_target_within c.args.plan.now c.args.class.now c.args.place
-    (λ node t. IsTurnBy c.args.plan.now (closing_marks node c.args.class.now.ssn t) c.args.set.now Lost) turn in (
+    let inside : choice.place < length (class_targets c.args.plan.now choice.class.now) =
+    of_target_within c.args.plan.now choice.class.now choice.place
+    (λ node t. IsTurnBy c.args.plan.now (closing_marks node choice.class.now.ssn t) c.args.set.now Lost) turn in (
       omega (
         arith,
-        few_free c.args.plan.now c.args.class.now (c.args.place + 1) c.args.set.now,
+        few_free c.args.plan.now choice.class.now (choice.place + 1) c.args.set.now,
         inside,
-        ap length (row_targets c.args.plan.now c.args.class.now c.args.row.now c.requires.row),
+        ap length (row_targets c.args.plan.now choice.class.now choice.row.now c.requires.may.row),
         c.turn_at.ensures.few,
       ),
       (
-        c.requires.some,
+        record {
+          some = c.requires.may.some;
+          few = c.requires.may.few;
+          may = c.requires.may.may;
+          class = c.requires.may.class;
+          decided = c.requires.may.decided;
+          row = c.requires.may.row;
+        },
         (
-          c.requires.left,
-          (
-            c.requires.may,
-            (
-              c.requires.class,
-              (
-                c.requires.decided,
-                (
-                  c.requires.row,
-                  (
-                    passes_more c.args.plan.now c.args.class.now c.args.place c.args.set.now c.args.set.now c.requires.passes
-                        (λ marks i. i)
-                        (λ marks i. lost_is_closed c.args.plan.now c.args.class.now c.args.place c.args.set.now marks turn i) inside,
-                    (c.requires.set, c.requires.few),
-                  ),
-                ),
-              ),
-            ),
-          ),
+          passes_more c.args.plan.now choice.class.now choice.place c.args.set.now c.args.set.now c.requires.passes
+              (λ marks i. i)
+              (λ marks i. lost_is_closed c.args.plan.now choice.class.now choice.place c.args.set.now marks turn i) inside,
+          (c.requires.set, c.requires.few),
         ),
       ),
     )
 
 pub follow_row-follow_target-requires : goal.follow_row-follow_target-requires
 follow_row-follow_target-requires t c =
-    let turn = subst (λ (x : Turn). IsTurn c.args.plan.now c.args.class.now c.args.place c.args.set.now x) c.in-Taken.is
+    let choice = c.args.choice.now in
+    let turn = subst (λ (x : Turn). IsTurn c.args.plan.now choice.class.now choice.place c.args.set.now x) c.in-Taken.is
     c.turn_at.ensures.turn in
-    let inside : c.args.place < length (class_targets c.args.plan.now c.args.class.now) =
-    of_target_within c.args.plan.now c.args.class.now c.args.place
-    (λ node t. IsTurnBy c.args.plan.now (closing_marks node c.args.class.now.ssn t) c.args.set.now Taken) turn in (
+    let inside : choice.place < length (class_targets c.args.plan.now choice.class.now) =
+    of_target_within c.args.plan.now choice.class.now choice.place
+    (λ node t. IsTurnBy c.args.plan.now (closing_marks node choice.class.now.ssn t) c.args.set.now Taken) turn in (
       search rules,
       (
-        c.requires.some,
+        c.requires.may,
         (
-          c.requires.left,
+          omega (arith, inside, ap length (row_targets c.args.plan.now choice.class.now choice.row.now c.requires.may.row)),
           (
-            c.requires.may,
-            (
-              c.requires.class,
-              (
-                c.requires.decided,
-                (
-                  c.requires.row,
-                  (
-                    omega (arith, inside, ap length (row_targets c.args.plan.now c.args.class.now c.args.row.now c.requires.row)),
-                    (
-                      λ marks i. opens_here c.args.plan.now c.args.class.now marks c.args.place (c.requires.passes.closed marks i)
-                          (taken_is_open c.args.plan.now c.args.class.now c.args.place c.args.set.now marks turn i),
-                      (c.requires.set, c.requires.few),
-                    ),
-                  ),
-                ),
-              ),
-            ),
+            λ marks i. opens_here c.args.plan.now choice.class.now marks choice.place (c.requires.passes.closed marks i)
+                (taken_is_open c.args.plan.now choice.class.now choice.place c.args.set.now marks turn i),
+            (c.requires.set, c.requires.few),
           ),
         ),
       ),
@@ -244,34 +211,38 @@ follow_row-follow_target-requires t c =
 
 pub follow_row-returns-in-Past-clause-found : goal.follow_row-returns-in-Past-clause-found
 follow_row-returns-in-Past-clause-found t c =
-    let turn = subst (λ (x : Turn). IsTurn c.args.plan.now c.args.class.now c.args.place c.args.set.now x) c.in-Past.is
+    let choice = c.args.choice.now in
+    let turn = subst (λ (x : Turn). IsTurn c.args.plan.now choice.class.now choice.place c.args.set.now x) c.in-Past.is
     c.turn_at.ensures.turn in
     ok_is c.stopped.result (Stopped c.sample.result c.args.set.now.lost)
-    (λ f. IsFound c.args.plan.now c.args.class.now c.args.left c.args.set.now f) c.stopped.ensures
-    (subst (λ (ds : List ℕ). StopsOne c.args.plan.now c.args.class.now c.args.left c.args.set.now.most
+    (λ f. IsFound c.args.plan.now choice.class.now choice.left c.args.set.now f) c.stopped.ensures
+    (subst (λ (ds : List ℕ). StopsOne c.args.plan.now choice.class.now choice.left c.args.set.now.most
     (IsIn c.args.plan.now c.args.set.now) ds
     c.args.set.now.lost) (sym c.sample.ensures.value)
-    (past_stop c.args.plan.now c.args.class.now c.args.left c.args.place c.args.set.now c.args.row.now c.requires.class c.requires.set
-    c.requires.some c.requires.may.node c.requires.row c.requires.passes turn))
+    (past_stop c.args.plan.now choice.class.now choice.left choice.place c.args.set.now choice.row.now c.requires.may.class c.requires.set
+    c.requires.may.some c.requires.may.may.node c.requires.may.row c.requires.passes turn))
 
 pub follow_target-returns-in-NotEquipped-clause-found : goal.follow_target-returns-in-NotEquipped-clause-found
 follow_target-returns-in-NotEquipped-clause-found t c =
+    let choice = c.args.choice.now in
     ok_is c.stopped.result (Stopped c.sample.result c.args.set.now.lost)
-    (λ f. IsFound c.args.plan.now c.args.class.now c.args.left c.args.set.now f) c.stopped.ensures
-    (target_stop c.args.plan.now c.args.class.now c.args.place c.args.left c.args.set.now c.sample.result (NoRow 4) c.requires.some
-    c.requires.class c.requires.decided c.requires.takes c.requires.set c.sample.ensures.member
+    (λ f. IsFound c.args.plan.now choice.class.now choice.left c.args.set.now f) c.stopped.ensures
+    (target_stop c.args.plan.now choice.class.now choice.place choice.left c.args.set.now c.sample.result (NoRow 4) c.requires.may.some
+    c.requires.may.class c.requires.may.decided c.requires.takes c.requires.set c.sample.ensures.member
     (c.in-NotEquipped.ensures.exact c.sample.result c.sample.ensures.member) refl (λ h. h))
 
 pub follow_target-returns-in-TooLong-clause-found : goal.follow_target-returns-in-TooLong-clause-found
 follow_target-returns-in-TooLong-clause-found t c =
+    let choice = c.args.choice.now in
     ok_is c.stopped-in-TooLong.result (Stopped c.longest.result c.args.set.now.lost)
-    (λ f. IsFound c.args.plan.now c.args.class.now c.args.left c.args.set.now f) c.stopped-in-TooLong.ensures
-    (target_stop c.args.plan.now c.args.class.now c.args.place c.args.left c.args.set.now c.longest.result Overgrown c.requires.some
-    c.requires.class c.requires.decided c.requires.takes c.requires.set c.longest.ensures.0
+    (λ f. IsFound c.args.plan.now choice.class.now choice.left c.args.set.now f) c.stopped-in-TooLong.ensures
+    (target_stop c.args.plan.now choice.class.now choice.place choice.left c.args.set.now c.longest.result Overgrown c.requires.may.some
+    c.requires.may.class c.requires.may.decided c.requires.takes c.requires.set c.longest.ensures.0
     (c.in-TooLong.ensures.exact c.longest.result c.longest.ensures) refl (λ h. h))
 
 pub follow_up-follow_row-found-requires : goal.follow_up-follow_row-found-requires
 follow_up-follow_row-found-requires t c =
+    let choice = c.args.choice.now in
     let more = c.in_ok-with_up.with_up in
     let made : IsWithUp c.args.set.now c.args.mark.now more = record {
       kinds = c.in_ok-with_up.ensures.kinds;
@@ -279,32 +250,17 @@ follow_up-follow_row-found-requires t c =
       lost = c.in_ok-with_up.ensures.lost;
       up = c.in_ok-with_up.ensures.up;
     } in (
-      omega (arith, less_free c.args.plan.now c.args.class.now c.args.place c.args.mark.now c.args.set.now more c.requires.turn made),
+      omega (arith, less_free c.args.plan.now choice.class.now choice.place c.args.mark.now c.args.set.now more c.requires.turn made),
       (
-        c.requires.some,
+        c.requires.may,
         (
-          c.requires.left,
+          passes_same c.args.plan.now choice.class.now choice.place c.args.set.now more c.requires.passes
+              (λ marks i. (up_inner c.args.plan.now c.args.set.now more c.args.mark.now marks made i).inside),
           (
-            c.requires.may,
-            (
-              c.requires.class,
-              (
-                c.requires.decided,
-                (
-                  c.requires.row,
-                  (
-                    passes_same c.args.plan.now c.args.class.now c.args.place c.args.set.now more c.requires.passes
-                        (λ marks i. (up_inner c.args.plan.now c.args.set.now more c.args.mark.now marks made i).inside),
-                    (
-                      up_set c.args.plan.now c.args.set.now more c.args.mark.now c.requires.set
-                          (either_is_free c.args.plan.now c.args.class.now c.args.place c.args.mark.now c.args.set.now c.requires.turn)
-                          made,
-                      c.requires.few,
-                    ),
-                  ),
-                ),
-              ),
-            ),
+            up_set c.args.plan.now c.args.set.now more c.args.mark.now c.requires.set
+                (either_is_free c.args.plan.now choice.class.now choice.place c.args.mark.now c.args.set.now c.requires.turn)
+                made,
+            c.requires.few,
           ),
         ),
       ),
@@ -312,6 +268,7 @@ follow_up-follow_row-found-requires t c =
 
 pub follow_up-returns-clause-found : goal.follow_up-returns-clause-found
 follow_up-returns-clause-found t c =
+    let choice = c.args.choice.now in
     let more = c.in_ok-with_up.with_up in
     let made : IsWithUp c.args.set.now c.args.mark.now more = record {
       kinds = c.in_ok-with_up.ensures.kinds;
@@ -319,10 +276,10 @@ follow_up-returns-clause-found t c =
       lost = c.in_ok-with_up.ensures.lost;
       up = c.in_ok-with_up.ensures.up;
     } in
-    IfOk-weaker c.follow_row-found.result (λ f. IsFound c.args.plan.now c.args.class.now c.args.left more f)
-    (λ f. IsFoundIf c.args.plan.now c.args.class.now c.args.left c.args.set.now.most
+    IfOk-weaker c.follow_row-found.result (λ f. IsFound c.args.plan.now choice.class.now choice.left more f)
+    (λ f. IsFoundIf c.args.plan.now choice.class.now choice.left c.args.set.now.most
     (IsInWith c.args.plan.now c.args.set.now c.args.mark.now false) f)
-    (λ f h. up_found c.args.plan.now c.args.class.now c.args.left c.args.mark.now c.args.set.now more f made h)
+    (λ f h. up_found c.args.plan.now choice.class.now choice.left c.args.mark.now c.args.set.now more f made h)
     c.follow_row-found.ensures.found
 
 -- ---- what is counted
@@ -376,36 +333,42 @@ explore_targets-returns-in-None-clause-ways t c =
 
 pub follow_row-returns-in-Past-clause-ways : goal.follow_row-returns-in-Past-clause-ways
 follow_row-returns-in-Past-clause-ways t c =
-    counts_none c.stopped.result c.args.plan.now c.args.set.now c.args.left (AtTargets c.args.class.now c.args.place) c.args.count.now
+    let choice = c.args.choice.now in
+    counts_none c.stopped.result c.args.plan.now c.args.set.now choice.left (AtTargets choice.class.now choice.place) c.args.count.now
 
 pub follow_row-returns-in-Lost-clause-ways : goal.follow_row-returns-in-Lost-clause-ways
 follow_row-returns-in-Lost-clause-ways t c =
-    counts_closed c.follow_row.result c.args.plan.now c.args.set.now c.args.left c.args.class.now c.args.place c.args.count.now
+    let choice = c.args.choice.now in
+    counts_closed c.follow_row.result c.args.plan.now c.args.set.now choice.left choice.class.now choice.place c.args.count.now
     c.follow_row.new.count
-    (subst (λ (x : Turn). IsTurn c.args.plan.now c.args.class.now c.args.place c.args.set.now x) c.in-Lost.is c.turn_at.ensures.turn)
+    (subst (λ (x : Turn). IsTurn c.args.plan.now choice.class.now choice.place c.args.set.now x) c.in-Lost.is c.turn_at.ensures.turn)
     c.follow_row.ensures.ways
 
 pub follow_row-returns-in-Taken-clause-ways : goal.follow_row-returns-in-Taken-clause-ways
 follow_row-returns-in-Taken-clause-ways t c =
-    counts_taken c.follow_target.result c.args.plan.now c.args.set.now c.args.left c.args.class.now c.args.place c.args.count.now
+    let choice = c.args.choice.now in
+    counts_taken c.follow_target.result c.args.plan.now c.args.set.now choice.left choice.class.now choice.place c.args.count.now
     c.follow_target.new.count
-    (subst (λ (x : Turn). IsTurn c.args.plan.now c.args.class.now c.args.place c.args.set.now x) c.in-Taken.is c.turn_at.ensures.turn)
+    (subst (λ (x : Turn). IsTurn c.args.plan.now choice.class.now choice.place c.args.set.now x) c.in-Taken.is c.turn_at.ensures.turn)
     c.follow_target.ensures.ways
 
 pub follow_either-returns-in_ok-found-in-Through-clause-ways : goal.follow_either-returns-in_ok-found-in-Through-clause-ways
 follow_either-returns-in_ok-found-in-Through-clause-ways t c =
-    counts_both c.args.plan.now c.args.set.now c.args.left c.args.class.now c.args.place c.args.mark.now c.args.count.now
+    let choice = c.args.choice.now in
+    counts_both c.args.plan.now c.args.set.now choice.left choice.class.now choice.place c.args.mark.now c.args.count.now
     c.follow_up.new.count
     c.follow_lost.new.count c.requires.turn c.in_ok-found.ensures.ways c.in_ok-found-in-Through.ensures.ways
 
 pub follow_either-returns-in_default-clause-ways : goal.follow_either-returns-in_default-clause-ways
 follow_either-returns-in_default-clause-ways t c =
-    counts_up c.args.plan.now c.args.set.now c.args.left c.args.class.now c.args.place c.args.mark.now c.args.count.now
+    let choice = c.args.choice.now in
+    counts_up c.args.plan.now c.args.set.now choice.left choice.class.now choice.place c.args.mark.now c.args.count.now
     c.follow_up.new.count
     c.requires.turn c.in_ok-found.ensures.ways
 
 pub follow_up-returns-clause-ways : goal.follow_up-returns-clause-ways
 follow_up-returns-clause-ways t c =
+    let choice = c.args.choice.now in
     let more = c.in_ok-with_up.with_up in
     let made : IsWithUp c.args.set.now c.args.mark.now more = record {
       kinds = c.in_ok-with_up.ensures.kinds;
@@ -413,7 +376,7 @@ follow_up-returns-clause-ways t c =
       lost = c.in_ok-with_up.ensures.lost;
       up = c.in_ok-with_up.ensures.up;
     } in
-    counts_if_up c.follow_row-found.result c.args.plan.now c.args.set.now more c.args.left c.args.class.now c.args.place c.args.mark.now
+    counts_if_up c.follow_row-found.result c.args.plan.now c.args.set.now more choice.left choice.class.now choice.place c.args.mark.now
     c.args.count.now c.follow_row-found.new.count made c.follow_row-found.ensures.ways
 
 pub follow_lost-returns-then-marks-from-clause-ways : goal.follow_lost-returns-then-marks-from-clause-ways
@@ -422,6 +385,7 @@ follow_lost-returns-then-marks-from-clause-ways t c =
 
 pub follow_lost-returns-clause-ways : goal.follow_lost-returns-clause-ways
 follow_lost-returns-clause-ways t c =
+    let choice = c.args.choice.now in
     let more = c.in_ok-with_lost.with_lost in
     let made : IsWithLost c.args.set.now c.args.mark.now more = record {
       kinds = c.in_ok-with_lost.ensures.kinds;
@@ -430,25 +394,29 @@ follow_lost-returns-clause-ways t c =
       up = c.in_ok-with_lost.ensures.up;
       ascending = c.in_ok-with_lost.ensures.ascending;
     } in
-    counts_if_lost c.follow_row-found.result c.args.plan.now c.args.set.now more c.args.left c.args.class.now c.args.place c.args.mark.now
+    counts_if_lost c.follow_row-found.result c.args.plan.now c.args.set.now more choice.left choice.class.now choice.place c.args.mark.now
     c.args.count.now c.follow_row-found.new.count c.requires.set
     (λ e. c.if-marks-from.false (omega (arith, e, ap length c.marks.ensures.marks, c.from.ensures))) made c.follow_row-found.ensures.ways
 
 pub follow_target-returns-in_ok-found-in-Next-clause-ways : goal.follow_target-returns-in_ok-found-in-Next-clause-ways
 follow_target-returns-in_ok-found-in-Next-clause-ways t c =
-    counts_onward c.args.plan.now c.args.set.now c.args.left c.args.class.now c.in-Next.next c.args.place c.args.count.now
+    let choice = c.args.choice.now in
+    counts_onward c.args.plan.now c.args.set.now choice.left choice.class.now c.in-Next.next choice.place c.args.count.now
     c.explore.new.count
     c.in-Next.ensures.image c.in_ok-found-in-Next.ensures.ways
 
 pub follow_target-returns-in-Ends-clause-ways : goal.follow_target-returns-in-Ends-clause-ways
 follow_target-returns-in-Ends-clause-ways t c =
-    counts_none c.end_at.result c.args.plan.now c.args.set.now c.args.left (AtTarget c.args.class.now c.args.place) c.args.count.now
+    let choice = c.args.choice.now in
+    counts_none c.end_at.result c.args.plan.now c.args.set.now choice.left (AtTarget choice.class.now choice.place) c.args.count.now
 
 pub follow_target-returns-in-NotEquipped-clause-ways : goal.follow_target-returns-in-NotEquipped-clause-ways
 follow_target-returns-in-NotEquipped-clause-ways t c =
-    counts_none c.stopped.result c.args.plan.now c.args.set.now c.args.left (AtTarget c.args.class.now c.args.place) c.args.count.now
+    let choice = c.args.choice.now in
+    counts_none c.stopped.result c.args.plan.now c.args.set.now choice.left (AtTarget choice.class.now choice.place) c.args.count.now
 
 pub follow_target-returns-in-TooLong-clause-ways : goal.follow_target-returns-in-TooLong-clause-ways
 follow_target-returns-in-TooLong-clause-ways t c =
-    counts_none c.stopped-in-TooLong.result c.args.plan.now c.args.set.now c.args.left
-    (AtTarget c.args.class.now c.args.place) c.args.count.now
+    let choice = c.args.choice.now in
+    counts_none c.stopped-in-TooLong.result c.args.plan.now c.args.set.now choice.left
+    (AtTarget choice.class.now choice.place) c.args.count.now

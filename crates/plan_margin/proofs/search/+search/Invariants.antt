@@ -17,23 +17,23 @@ abbrev pub decreases-explore_targets : goal.decreases-explore_targets
 decreases-explore_targets l = 6000 * (l.left + l.class.now.most) + 5998
 
 abbrev pub decreases-follow_row : goal.decreases-follow_row
-decreases-follow_row l =
-    6000 * (l.left + l.class.now.most) + 20 * (256 - l.place) + 4 * free_at l.plan.now l.class.now l.place l.set.now + 3
+decreases-follow_row l = 6000 * (l.choice.now.left + l.choice.now.class.now.most) + 20 * (256 - l.choice.now.place)
+    + 4 * free_at l.plan.now l.choice.now.class.now l.choice.now.place l.set.now + 3
 
 abbrev pub decreases-follow_either : goal.decreases-follow_either
-decreases-follow_either l =
-    6000 * (l.left + l.class.now.most) + 20 * (256 - l.place) + 4 * free_at l.plan.now l.class.now l.place l.set.now + 2
+decreases-follow_either l = 6000 * (l.choice.now.left + l.choice.now.class.now.most) + 20 * (256 - l.choice.now.place)
+    + 4 * free_at l.plan.now l.choice.now.class.now l.choice.now.place l.set.now + 2
 
 abbrev pub decreases-follow_up : goal.decreases-follow_up
-decreases-follow_up l =
-    6000 * (l.left + l.class.now.most) + 20 * (256 - l.place) + 4 * free_at l.plan.now l.class.now l.place l.set.now + 1
+decreases-follow_up l = 6000 * (l.choice.now.left + l.choice.now.class.now.most) + 20 * (256 - l.choice.now.place)
+    + 4 * free_at l.plan.now l.choice.now.class.now l.choice.now.place l.set.now + 1
 
 abbrev pub decreases-follow_lost : goal.decreases-follow_lost
-decreases-follow_lost l =
-    6000 * (l.left + l.class.now.most) + 20 * (256 - l.place) + 4 * free_at l.plan.now l.class.now l.place l.set.now + 1
+decreases-follow_lost l = 6000 * (l.choice.now.left + l.choice.now.class.now.most) + 20 * (256 - l.choice.now.place)
+    + 4 * free_at l.plan.now l.choice.now.class.now l.choice.now.place l.set.now + 1
 
 abbrev pub decreases-follow_target : goal.decreases-follow_target
-decreases-follow_target l = 6000 * (l.left + l.class.now.most)
+decreases-follow_target l = 6000 * (l.choice.now.left + l.choice.now.class.now.most)
 
 -- the titles of the parts so far arrive, the limit is not reached, and what is counted is on the ways of these parts
 abbrev pub invariant-explore_parts-loop-part : goal.invariant-explore_parts-loop-part

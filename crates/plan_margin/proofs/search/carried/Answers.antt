@@ -6,9 +6,10 @@ use Rattle.plan_margin.proofs.search.carried.Goals as goal
 
 pub returns-in-Stopped-clause-found : goal.returns-in-Stopped-clause-found
 returns-in-Stopped-clause-found c =
-    let stop = subst (λ (f : Found). IsFound c.args.plan.now c.args.next.now (c.args.left - 1) c.args.set.now f) c.in-Stopped.is
+    let choice = c.args.choice.now in
+    let stop = subst (λ (f : Found). IsFound c.args.plan.now c.args.next.now (choice.left - 1) c.args.set.now f) c.in-Stopped.is
     c.requires.found in
-    stops_back c.args.plan.now c.args.class.now c.args.next.now c.args.place c.args.left c.args.set.now.most
+    stops_back c.args.plan.now choice.class.now c.args.next.now choice.place choice.left c.args.set.now.most
     (IsIn c.args.plan.now c.args.set.now)
     c.in-Stopped.digits c.carry_back.result c.in-Stopped.lost c.requires.some c.requires.class c.requires.decided
     (c.requires.takes c.in-Stopped.lost stop.within) c.requires.cover c.carry_back.ensures.member
@@ -16,7 +17,8 @@ returns-in-Stopped-clause-found c =
 
 pub returns-in-Through-clause-found : goal.returns-in-Through-clause-found
 returns-in-Through-clause-found c =
-    arrive_next c.args.plan.now c.args.class.now c.args.next.now c.args.place c.args.left c.args.set.now.most
+    let choice = c.args.choice.now in
+    arrive_next c.args.plan.now choice.class.now c.args.next.now choice.place choice.left c.args.set.now.most
     (IsIn c.args.plan.now c.args.set.now)
     c.in-Through.cut c.requires.some c.requires.class c.requires.decided c.requires.takes c.requires.exact c.requires.cover
-    (subst (λ (f : Found). IsFound c.args.plan.now c.args.next.now (c.args.left - 1) c.args.set.now f) c.in-Through.is c.requires.found)
+    (subst (λ (f : Found). IsFound c.args.plan.now c.args.next.now (choice.left - 1) c.args.set.now f) c.in-Through.is c.requires.found)
