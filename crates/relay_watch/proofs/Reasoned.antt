@@ -9,7 +9,8 @@ use Rattle.std.proofs.lemmas.List.Elements.{All-more}
 use Rattle.sccp_base.specs.declared.out_of_memory.OutOfMemory.{OutOfMemory}
 use Rattle.sccp_message.specs.declared.message.Message.{Message}
 use Rattle.plan_model.specs.Network.{Network, IsPlan}
-use Rattle.relay_ways.specs.Explained.{AreConditions, IsHandled}
+use Rattle.relay_ways.specs.Explained.{AreConditions, AreShortest, IsHandled}
+use Rattle.relay_ways.specs.Ways as relay
 use Rattle.relay_ways.specs.declared.explanation.Explanation.{Explanation}
 use Rattle.relay_watch.specs.Arrivals.{IsWaiting, data_of}
 use Rattle.relay_watch.specs.Reasons.{IsNoReason, IsReason, AreReasons, IsFirst}
@@ -34,20 +35,22 @@ not_so false e = refl
 -- the ways that were asked for
 pub asked : (plan : Network) (node to : ℕ) (sent : Message) (w : Waiting) (ways : List Explanation) → w.node ≡ node
     → AreConditions plan node w.origin w.octets to sent (map (λ x. x.condition) ways)
+    → AreShortest to sent (relay.ways plan node w.origin w.octets) (map (λ x. x.condition) ways)
     → All (IsHandled plan node w.origin w.octets) ways → AreReasons plan node to sent w ways
-asked plan node to sent w [] here are handled = λ same M like. no_condition (are.exact M).1 like where
+asked plan node to sent w [] here are shortest handled = λ same M like. no_condition (are.exact M).1 like where
   no_condition : {P : Type 0} → (P → false ≡ true) → P → ⊥
   no_condition f p = let e = f p in cc
-asked plan node to sent w (x ∷ xs) here are handled = record {
+asked plan node to sent w (x ∷ xs) here are shortest handled = record {
   here = here;
-  under = record { conditions = are; some = omega arith; handled = handled };
+  under = record { conditions = are; shortest = shortest; some = omega arith; handled = handled };
 }
 
 pub asked_of : (plan : Network) (node to : ℕ) (sent : Message) (w : Waiting) (r : Result (List Explanation) OutOfMemory) → w.node ≡ node
     → IfOk r (λ ways. AreConditions plan node w.origin w.octets to sent (map (λ x. x.condition) ways))
+    → IfOk r (λ ways. AreShortest to sent (relay.ways plan node w.origin w.octets) (map (λ x. x.condition) ways))
     → IfOk r (All (IsHandled plan node w.origin w.octets)) → IfOk r (AreReasons plan node to sent w)
-asked_of plan node to sent w (Ok ways) here are handled = asked plan node to sent w ways here are handled
-asked_of plan node to sent w (Err fault) here are handled = tt
+asked_of plan node to sent w (Ok ways) here are shortest handled = asked plan node to sent w ways here are shortest handled
+asked_of plan node to sent w (Err fault) here are shortest handled = tt
 
 -- none of the ways: no reason
 pub no_ways : (plan : Network) (node to : ℕ) (sent : Message) (w : Waiting) (ways : List Explanation) → length ways ≡ 0

@@ -4,7 +4,8 @@ use Rattle.std.specs.List.{All}
 use Rattle.sccp_base.specs.declared.mark.Mark.{Mark}
 use Rattle.sccp_message.specs.declared.message.Message.{Message}
 use Rattle.plan_model.specs.Network.{Network}
-use Rattle.relay_ways.specs.Explained.{AreConditions, SendsLike, IsHandled}
+use Rattle.relay_ways.specs.Explained.{AreConditions, AreShortest, SendsLike, IsHandled}
+use Rattle.relay_ways.specs.Ways as relay
 use Rattle.relay_ways.specs.declared.explanation.Explanation.{Explanation}
 use Rattle.relay_watch.specs.declared.found.Found.{Found}
 use Rattle.relay_watch.specs.declared.waiting.Waiting.{Waiting}
@@ -13,10 +14,12 @@ use Rattle.relay_watch.specs.declared.waiting.Waiting.{Waiting}
 abbrev pub NeverSends : Network → ℕ → ℕ → List ℕ → ℕ → Message → Type 0
 NeverSends plan node origin b to sent = (marking : List Mark) → SendsLike plan node origin b to sent marking → ⊥
 
--- It does exactly under the markings that meet a condition of these ways, and there is such a marking. Under each that meets the
--- condition of one way, it handles the octets as that way says.
+-- It does exactly under the markings that meet a condition of these ways, and there is such a marking. They are those of the relay's
+-- ways that send such a message, each once and in their order, with its condition in the shortest form. Under each marking that meets
+-- the condition of one way, it handles the octets as that way says.
 pub record SendsUnder (plan : Network) (node origin : ℕ) (b : List ℕ) (to : ℕ) (sent : Message) (ways : List Explanation) : Type 0 where
   pub conditions : AreConditions plan node origin b to sent (map (λ w. w.condition) ways)
+  pub shortest : AreShortest to sent (relay.ways plan node origin b) (map (λ w. w.condition) ways)
   pub some : 0 < length ways
   pub handled : All (IsHandled plan node origin b) ways
 

@@ -5,8 +5,7 @@ use Rattle.std.specs.Prelude.{◌≤◌, IsTrue, IsSome, IsSomeAnd, Result, Ok, 
 use Rattle.std.specs.List.{All, AllByRecursion, list_any}
 use Rattle.std.proofs.Math.Seq.{take-suc}
 use Rattle.std.proofs.lemmas.List.{map-append, take_more}
-use Rattle.std.proofs.lemmas.List.Elements.{All-append, All-from_recursion, All-map, All-nil}
-use Rattle.std.proofs.lemmas.List.Folds.{list_any-append}
+use Rattle.std.proofs.lemmas.List.Elements.{All-append, All-from_recursion, All-map, All-nil, recursion_from_All}
 use Rattle.sccp_base.specs.declared.mark.Mark.{Mark}
 use Rattle.sccp_base.proofs.Among.{Among, All-among}
 use Rattle.sccp_message.specs.declared.message.Message.{Message}
@@ -15,8 +14,9 @@ use Rattle.sccp_message.specs.Reading.{reading}
 use Rattle.plan_model.specs.Network.{Network}
 use Rattle.relay_ways.specs.Alike.{IsAlike}
 use Rattle.relay_ways.specs.Conditions.{meets, IsPossible}
-use Rattle.relay_ways.specs.Explained.{IsSendingOf, SendsLike, AreConditions, Keeps, Tells, IsHandled, AddsTold}
+use Rattle.relay_ways.specs.Explained.{IsSendingOf, SendsLike, AreConditions, AreThose, AreShortest, Keeps, Tells, IsHandled, AddsTold}
 use Rattle.relay_ways.specs.Sends.{sends}
+use Rattle.relay_ways.specs.Settled.{settled}
 use Rattle.relay_ways.specs.Ways.{AreWays, ways}
 use Rattle.relay_ways.specs.declared.way.Sending.{Sending}
 use Rattle.relay_ways.specs.Handling.{Handles, HasCondition}
@@ -24,6 +24,7 @@ use Rattle.relay_ways.specs.declared.condition.Condition.{Condition}
 use Rattle.relay_ways.specs.declared.explanation.Explanation.{Explanation}
 use Rattle.relay_ways.specs.declared.way.Way.{Way}
 use Rattle.relay_ways.proofs.Adding.{one_more}
+use Rattle.relay_ways.proofs.SameMet.{settled_met}
 
 same_value : (m n : Message) (r : Result Message DecodeFault) → r ≡ Ok m → r ≡ Ok n → m ≡ n
 same_value m n r e f = cc
@@ -44,59 +45,96 @@ pub sending_none : (to : ℕ) (sent : Message) (s : Sending) (fault : DecodeFaul
     → IsTrue false ↔ IsSendingOf to sent s
 sending_none to sent s fault reads = (λ t. absurd cc, λ is. absurd (no_value is.1.0 fault (reading s.octets) is.1.1 reads))
 
--- of these ways, those that send a message like this one to that point
-pub record AreKept (to : ℕ) (sent : Message) (found kept : List Way) : Type 0 where
-  pub each : (w : Way) → Among w kept → Among w found × IsSendingOf to sent w.sending
-  pub all : (w : Way) → Among w found → IsSendingOf to sent w.sending → Among w kept
+take_past : (xs : List Way) (i : ℕ) → length xs ≤ i → take i xs ≡ xs
+take_past [] zero e = refl
+take_past [] (suc i) e = refl
+take_past (x ∷ xs) zero e = absurd (omega (arith, e))
+take_past (x ∷ xs) (suc i) e = ap (λ ys. x ∷ ys) (take_past xs i (omega (arith, e)))
 
-pub nothing_kept : (to : ℕ) (sent : Message) → AreKept to sent [] []
-nothing_kept to sent = record { each = λ w at. absurd at; all = λ w at is. absurd at }
+-- the first of the ways is one of those, or it is not
+abbrev IsOne : ℕ → Message → Way → List Way → List Way → Type 0
+IsOne to sent w ws those = (others : List Way) × IsSendingOf to sent w.sending × (those ≡ w ∷ others) × AreThose to sent ws others
 
-among_push : {X : Type 0} (x y : X) (xs : List X) → Among x (xs ++ y ∷ []) → Among x xs ⊎ (y ≡ x)
-among_push x y [] at = ⊎_elim (λ (e : y ≡ x). inr e) (λ (n : ⊥). absurd n) at
-among_push {X} x y (z ∷ zs) at =
-    ⊎_elim (λ (e : z ≡ x). inl (inl e))
-    (λ (rest : Among x (zs ++ y ∷ [])). ⊎_elim (λ (k : Among x zs). inl (inr k)) (λ (e : y ≡ x). inr e) (among_push x y zs rest)) at
+abbrev IsNone : ℕ → Message → Way → List Way → List Way → Type 0
+IsNone to sent w ws those = (IsSendingOf to sent w.sending → ⊥) × AreThose to sent ws those
 
-among_front : {X : Type 0} (x : X) (xs ys : List X) → Among x xs → Among x (xs ++ ys)
-among_front x [] ys at = absurd at
-among_front {X} x (z ∷ zs) ys at =
-    ⊎_elim (λ (e : z ≡ x). inl e) (λ (rest : Among x zs). inr (among_front x zs ys rest)) at
-
-among_last : {X : Type 0} (x : X) (xs : List X) → Among x (xs ++ x ∷ [])
-among_last x [] = inl refl
-among_last x (z ∷ zs) = inr (among_last x zs)
-
-kept_push : (to : ℕ) (sent : Message) (found kept new : List Way) (w : Way) → AreKept to sent found kept → Keeps to sent kept w new
-    → AreKept to sent (found ++ w ∷ []) new
-kept_push to sent found kept new w are keeps =
+-- each of those is one of the ways, and sends such a message
+those_each : (to : ℕ) (sent : Message) (found those : List Way) → AreThose to sent found those → (w : Way) → Among w those
+    → Among w found × IsSendingOf to sent w.sending
+those_each to sent [] those are w at = absurd (subst (λ (xs : List Way). Among w xs) are at)
+those_each to sent (v ∷ vs) those are w at =
     ⊎_elim
-    (λ (h : IsSendingOf to sent w.sending × (new ≡ kept ++ w ∷ [])).
-    subst (λ (xs : List Way). AreKept to sent (found ++ w ∷ []) xs) (sym h.1)
-    (record {
-      each = λ v at. ⊎_elim (λ (k : Among v kept). let e = are.each v k in (among_front v found (w ∷ []) e.0, e.1))
-          (λ (e : w ≡ v). (
-            subst (λ (x : Way). Among x (found ++ w ∷ [])) e (among_last w found),
-            subst (λ (x : Way). IsSendingOf to sent x.sending) e h.0,
-          )) (among_push v w kept at);
-      all = λ v at is. ⊎_elim (λ (k : Among v found). among_front v kept (w ∷ []) (are.all v k is))
-          (λ (e : w ≡ v). subst (λ (x : Way). Among x (kept ++ w ∷ [])) e (among_last w kept)) (among_push v w found at);
-    }))
-    (λ (h : (IsSendingOf to sent w.sending → ⊥) × (new ≡ kept)).
-    subst (λ (xs : List Way). AreKept to sent (found ++ w ∷ []) xs) (sym h.1)
-    (record {
-      each = λ v at. let e = are.each v at in (among_front v found (w ∷ []) e.0, e.1);
-      all = λ v at is. ⊎_elim (λ (k : Among v found). are.all v k is)
-          (λ (e : w ≡ v). absurd (h.0 (subst (λ (x : Way). IsSendingOf to sent x.sending) (sym e) is))) (among_push v w found at);
-    }))
-    keeps
+    (λ (h : IsOne to sent v vs those).
+    ⊎_elim (λ (e : v ≡ w). (inl e, subst (λ (x : Way). IsSendingOf to sent x.sending) e h.1))
+    (λ (r : Among w h.0). let k = those_each to sent vs h.0 h.3 w r in (inr k.0, k.1))
+    (subst (λ (xs : List Way). Among w xs) h.2 at))
+    (λ (h : IsNone to sent v vs those). let k = those_each to sent vs those h.1 w at in (inr k.0, k.1))
+    are
 
-pub kept_more : (to : ℕ) (sent : Message) (found kept new : List Way) (i : ℕ) (w : Way) → i < length found → w ≡ get_or found i w
-    → AreKept to sent (take i found) kept → Keeps to sent kept w new → AreKept to sent (take (i + 1) found) new
-kept_more to sent found kept new i w inside is are keeps =
-    subst (λ (xs : List Way). AreKept to sent xs new)
+-- each of the ways that does is one of those
+those_all : (to : ℕ) (sent : Message) (found those : List Way) → AreThose to sent found those → (w : Way) → Among w found
+    → IsSendingOf to sent w.sending → Among w those
+those_all to sent [] those are w at is = absurd at
+those_all to sent (v ∷ vs) those are w at is =
+    ⊎_elim
+    (λ (h : IsOne to sent v vs those).
+    subst (λ (xs : List Way). Among w xs) (sym h.2)
+    (⊎_elim (λ (e : v ≡ w). inl e) (λ (r : Among w vs). inr (those_all to sent vs h.0 h.3 w r is)) at))
+    (λ (h : IsNone to sent v vs those).
+    ⊎_elim (λ (e : v ≡ w). absurd (h.0 (subst (λ (x : Way). IsSendingOf to sent x.sending) (sym e) is)))
+    (λ (r : Among w vs). those_all to sent vs those h.1 w r is) at)
+    are
+
+-- one more way at the end
+those_last : (to : ℕ) (sent : Message) (found those new : List Way) (w : Way) → AreThose to sent found those → Keeps to sent those w new
+    → AreThose to sent (found ++ w ∷ []) new
+those_last to sent [] those new w are keeps =
+    ⊎_elim
+    (λ (k : IsSendingOf to sent w.sending × (new ≡ those ++ w ∷ [])). inl ([], k.0, k.1 ∙ ap (λ xs. xs ++ w ∷ []) are, refl))
+    (λ (k : (IsSendingOf to sent w.sending → ⊥) × (new ≡ those)). inr (k.0, k.1 ∙ are))
+    keeps
+those_last to sent (v ∷ vs) those new w are keeps =
+    ⊎_elim
+    (λ (h : IsOne to sent v vs those).
+    ⊎_elim
+    (λ (k : IsSendingOf to sent w.sending × (new ≡ those ++ w ∷ [])).
+    inl (h.0 ++ w ∷ [], h.1, k.1 ∙ ap (λ xs. xs ++ w ∷ []) h.2, those_last to sent vs h.0 (h.0 ++ w ∷ []) w h.3 (inl (k.0, refl))))
+    (λ (k : (IsSendingOf to sent w.sending → ⊥) × (new ≡ those)).
+    inl (h.0, h.1, k.1 ∙ h.2, those_last to sent vs h.0 h.0 w h.3 (inr (k.0, refl))))
+    keeps)
+    (λ (h : IsNone to sent v vs those). inr (h.0, those_last to sent vs those new w h.1 keeps))
+    are
+
+pub those_more : (to : ℕ) (sent : Message) (found those new : List Way) (i : ℕ) (w : Way) → i < length found → w ≡ get_or found i w
+    → AreThose to sent (take i found) those → Keeps to sent those w new → AreThose to sent (take (i + 1) found) new
+those_more to sent found those new i w inside is are keeps =
+    subst (λ (xs : List Way). AreThose to sent xs new)
     (sym (ap (λ n. take n found) (one_more i) ∙ take-suc found i w inside ∙ ap (λ v. take i found ++ v ∷ []) (sym is)))
-    (kept_push to sent (take i found) kept new w are keeps)
+    (those_last to sent (take i found) those new w are keeps)
+
+-- after the last way
+pub those_whole : (to : ℕ) (sent : Message) (found items those : List Way) (i : ℕ) → length items ≤ i → items ≡ found
+    → AreThose to sent (take i items) those → AreThose to sent found those
+those_whole to sent found items those i all same are =
+    subst (λ (xs : List Way). AreThose to sent xs those) (take_past items i all ∙ same) are
+
+-- there is one list of those
+those_one : (to : ℕ) (sent : Message) (found xs ys : List Way) → AreThose to sent found xs → AreThose to sent found ys → xs ≡ ys
+those_one to sent [] xs ys a b = a ∙ sym b
+those_one to sent (v ∷ vs) xs ys a b =
+    ⊎_elim
+    (λ (h : IsOne to sent v vs xs).
+    ⊎_elim (λ (k : IsOne to sent v vs ys). h.2 ∙ ap (λ zs. v ∷ zs) (those_one to sent vs h.0 k.0 h.3 k.3) ∙ sym k.2)
+    (λ (k : IsNone to sent v vs ys). absurd (k.0 h.1)) b)
+    (λ (h : IsNone to sent v vs xs).
+    ⊎_elim (λ (k : IsOne to sent v vs ys). absurd (h.0 k.1))
+    (λ (k : IsNone to sent v vs ys). those_one to sent vs xs ys h.1 k.1) b)
+    a
+
+pub shortest_one : (to : ℕ) (sent : Message) (found : List Way) (a b : List Condition) → AreShortest to sent found a
+    → AreShortest to sent found b → a ≡ b
+shortest_one to sent found a b x y =
+    x.shortest ∙ ap (map (λ w. settled w.condition)) (those_one to sent found x.those y.those x.are y.are) ∙ sym y.shortest
 
 any_among : (M : List Mark) (found : List Way) → list_any (λ w. meets M w.condition) found ≡ true
     → (w : Way) × Among w found × (meets M w.condition ≡ true)
@@ -130,17 +168,17 @@ each_among P (x ∷ xs) f = (f x (inl refl), each_among P xs (λ y at. f y (inr 
 
 -- what is sent under a marking
 sends_like : (plan : Network) (node origin : ℕ) (b : List ℕ) (to : ℕ) (sent : Message) (found kept : List Way) (M : List Mark)
-    → AreWays plan node origin b found → AreKept to sent found kept
+    → AreWays plan node origin b found → AreThose to sent found kept
     → list_any (meets M) (map (λ w. w.condition) kept) ≡ true → SendsLike plan node origin b to sent M
 sends_like plan node origin b to sent found kept M are keep any =
     let w = any_among M kept (sym (any_mapped M kept) ∙ any) in
-    let k = keep.each w.0 w.1 in
+    let k = those_each to sent found kept keep w.0 w.1 in
     let says : sends plan node M origin b ≡ Some w.0.sending =
     All-among (λ (v : Way). meets M v.condition ≡ true → sends plan node M origin b ≡ Some v.sending) w.0 found (are.each M) k.0 w.2 in
     subst (λ (o : Option Sending). IsSomeAnd o (IsSendingOf to sent)) (sym says) k.1
 
 like_met : (plan : Network) (node origin : ℕ) (b : List ℕ) (to : ℕ) (sent : Message) (found kept : List Way) (M : List Mark)
-    → AreWays plan node origin b found → AreKept to sent found kept
+    → AreWays plan node origin b found → AreThose to sent found kept
     → SendsLike plan node origin b to sent M → list_any (meets M) (map (λ w. w.condition) kept) ≡ true
 like_met plan node origin b to sent found kept M are keep like = by (sends plan node M origin b) refl like where
   by : (o : Option Sending) → sends plan node M origin b ≡ o → IsSomeAnd o (IsSendingOf to sent)
@@ -152,24 +190,18 @@ like_met plan node origin b to sent found kept M are keep like = by (sends plan 
       All-among (λ (v : Way). meets M v.condition ≡ true → sends plan node M origin b ≡ Some v.sending) w.0 found (are.each M) w.1 w.2 in
       let same : s ≡ w.0.sending = let f : Some s ≡ Some w.0.sending = sym e ∙ says in cc in
       any_mapped M kept
-      ∙ any_from M w.0 kept (keep.all w.0 w.1 (subst (λ (x : Sending). IsSendingOf to sent x) same is)) w.2
+      ∙ any_from M w.0 kept (those_all to sent found kept keep w.0 w.1 (subst (λ (x : Sending). IsSendingOf to sent x) same is)) w.2
 
 pub conditions_are : (plan : Network) (node origin : ℕ) (b : List ℕ) (to : ℕ) (sent : Message) (found kept : List Way)
-    → AreWays plan node origin b found → All (λ w. IsPossible w.condition) found → AreKept to sent found kept
+    → AreWays plan node origin b found → All (λ w. IsPossible w.condition) found → AreThose to sent found kept
     → AreConditions plan node origin b to sent (map (λ w. w.condition) kept)
 conditions_are plan node origin b to sent found kept are possible keep = record {
   exact = λ M. (sends_like plan node origin b to sent found kept M are keep, like_met plan node origin b to sent found kept M are keep);
   possible = All-map IsPossible (λ (w : Way). w.condition) kept
       (All-from_recursion (λ (w : Way). IsPossible w.condition) kept
       (each_among (λ (w : Way). IsPossible w.condition) kept
-      (λ w at. All-among (λ (v : Way). IsPossible v.condition) w found possible (keep.each w at).0)));
+      (λ w at. All-among (λ (v : Way). IsPossible v.condition) w found possible (those_each to sent found kept keep w at).0)));
 }
-
-pub take_past : (xs : List Way) (i : ℕ) → length xs ≤ i → take i xs ≡ xs
-take_past [] zero e = refl
-take_past [] (suc i) e = refl
-take_past (x ∷ xs) zero e = absurd (omega (arith, e))
-take_past (x ∷ xs) (suc i) e = ap (λ ys. x ∷ ys) (take_past xs i (omega (arith, e)))
 
 -- each of those that are kept has the condition of one of the ways
 
@@ -178,78 +210,81 @@ has_among w [] at = absurd at
 has_among w (v ∷ vs) at =
     ⊎_elim (λ (e : v ≡ w). inl (ap (λ (x : Way). x.condition) e)) (λ (r : Among w vs). inr (has_among w vs r)) at
 
-pub kept_among : (to : ℕ) (sent : Message) (found kept : List Way) → AreKept to sent found kept
-    → All (λ w. HasCondition w.condition found) kept
-kept_among to sent found kept are =
-    All-from_recursion (λ (w : Way). HasCondition w.condition found) kept
-    (each_among (λ (w : Way). HasCondition w.condition found) kept (λ w at. has_among w found (are.each w at).0))
+pub those_among : (to : ℕ) (sent : Message) (found those : List Way) → AreThose to sent found those
+    → All (λ w. HasCondition w.condition found) those
+those_among to sent found those are =
+    All-from_recursion (λ (w : Way). HasCondition w.condition found) those
+    (each_among (λ (w : Way). HasCondition w.condition found) those
+    (λ w at. has_among w found (those_each to sent found those are w at).0))
 
-pub kept_possible : (to : ℕ) (sent : Message) (found kept : List Way) → All (λ w. IsPossible w.condition) found → AreKept to sent found kept
-    → All (λ w. IsPossible w.condition) kept
-kept_possible to sent found kept all are =
-    All-from_recursion (λ (w : Way). IsPossible w.condition) kept
-    (each_among (λ (w : Way). IsPossible w.condition) kept
-    (λ w at. All-among (λ (v : Way). IsPossible v.condition) w found all (are.each w at).0))
+-- the shortest forms of conditions are met by the same markings
+
+settled_any : (M : List Mark) (those : List Way)
+    → list_any (meets M) (map (λ w. settled w.condition) those) ≡ list_any (meets M) (map (λ w. w.condition) those)
+settled_any M [] = refl
+settled_any M (w ∷ ws) =
+    ap (λ b. b || list_any (meets M) (map (λ w. settled w.condition) ws)) (settled_met M w.condition)
+    ∙ ap (λ b. meets M w.condition || b) (settled_any M ws)
+
+settled_possible : (those : List Way) → AllByRecursion IsPossible (map (λ w. w.condition) those)
+    → AllByRecursion IsPossible (map (λ w. settled w.condition) those)
+settled_possible [] can = tt
+settled_possible (w ∷ ws) can = ((can.0.0, can.0.1, settled_met can.0.0 w.condition ∙ can.0.2), settled_possible ws can.1)
+
+pub settled_conditions : (plan : Network) (node origin : ℕ) (b : List ℕ) (to : ℕ) (sent : Message) (those : List Way) (cs : List Condition)
+    → AreConditions plan node origin b to sent (map (λ w. w.condition) those) → cs ≡ map (λ w. settled w.condition) those
+    → AreConditions plan node origin b to sent cs
+settled_conditions plan node origin b to sent those cs are shortest =
+    subst (λ (xs : List Condition). AreConditions plan node origin b to sent xs) (sym shortest)
+    (record {
+      exact = λ M. (λ h. (are.exact M).0 (sym (settled_any M those) ∙ h), λ like. settled_any M those ∙ (are.exact M).1 like);
+      possible = All-from_recursion IsPossible (map (λ w. settled w.condition) those)
+          (settled_possible those (recursion_from_All IsPossible (map (λ w. w.condition) those) are.possible));
+    })
 
 -- What is told of ways, one after the other.
-pub record AreTold (plan : Network) (node origin : ℕ) (b : List ℕ) (kept : List Way) (found : List Explanation) : Type 0 where
-  pub same : (M : List Mark) → list_any (meets M) (map (λ x. x.condition) found) ≡ list_any (meets M) (map (λ w. w.condition) kept)
+pub record AreTold (plan : Network) (node origin : ℕ) (b : List ℕ) (those : List Way) (found : List Explanation) : Type 0 where
+  pub shortest : map (λ x. x.condition) found ≡ map (λ w. settled w.condition) those
   pub handled : All (IsHandled plan node origin b) found
-  pub possible : All IsPossible (map (λ x. x.condition) found)
 
 pub nothing_told : (plan : Network) (node origin : ℕ) (b : List ℕ) → AreTold plan node origin b [] []
-nothing_told plan node origin b = record {
-  same = λ M. refl;
-  handled = All-nil (IsHandled plan node origin b);
-  possible = All-nil IsPossible;
-}
+nothing_told plan node origin b = record { shortest = refl; handled = All-nil (IsHandled plan node origin b) }
 
-told_one : (plan : Network) (node origin : ℕ) (b : List ℕ) (kept : List Way) (found : List Explanation) (w : Way) (x : Explanation)
-    → HasCondition w.condition (ways plan node origin b) → IsPossible w.condition → Tells plan node origin b w x
-    → AreTold plan node origin b kept found → AreTold plan node origin b (kept ++ w ∷ []) (found ++ x ∷ [])
-told_one plan node origin b kept found w x has can tells are = record {
-  same = λ M.
-      ap (list_any (meets M)) (map-append (λ (y : Explanation). y.condition) found (x ∷ []))
-      ∙ list_any-append (meets M) (map (λ (y : Explanation). y.condition) found) (x.condition ∷ [])
-      ∙ ap (λ e. e || (meets M x.condition || false)) (are.same M)
-      ∙ ap (λ e. list_any (meets M) (map (λ (v : Way). v.condition) kept) || (e || false)) (tells.same M)
-      ∙ sym (list_any-append (meets M) (map (λ (v : Way). v.condition) kept) (w.condition ∷ []))
-      ∙ sym (ap (list_any (meets M)) (map-append (λ (v : Way). v.condition) kept (w ∷ [])));
+told_one : (plan : Network) (node origin : ℕ) (b : List ℕ) (those : List Way) (found : List Explanation) (w : Way) (x : Explanation)
+    → HasCondition w.condition (ways plan node origin b) → Tells plan node origin b w x
+    → AreTold plan node origin b those found → AreTold plan node origin b (those ++ w ∷ []) (found ++ x ∷ [])
+told_one plan node origin b those found w x has tells are = record {
+  shortest =
+      map-append (λ (y : Explanation). y.condition) found (x ∷ [])
+      ∙ ap (λ cs. cs ++ x.condition ∷ []) are.shortest
+      ∙ ap (λ c. map (λ (v : Way). settled v.condition) those ++ c ∷ []) tells.shortest
+      ∙ sym (map-append (λ (v : Way). settled v.condition) those (w ∷ []));
   handled = All-append (IsHandled plan node origin b) found (x ∷ []) are.handled
       (All-from_recursion (IsHandled plan node origin b) (x ∷ []) (tells.handled has, tt));
-  possible = subst (λ (cs : List Condition). All IsPossible cs) (sym (map-append (λ (y : Explanation). y.condition) found (x ∷ [])))
-      (All-append IsPossible (map (λ (y : Explanation). y.condition) found) (x.condition ∷ []) are.possible
-      (All-from_recursion IsPossible (x.condition ∷ []) ((can.0, can.1, tells.same can.0 ∙ can.2), tt)));
 }
 
-pub told_more : (plan : Network) (node origin : ℕ) (b : List ℕ) (kept : List Way) (found new : List Explanation) (i : ℕ) (w : Way)
-    → i < length kept → w ≡ get_or kept i w → All (λ w. HasCondition w.condition (ways plan node origin b)) kept
-    → All (λ w. IsPossible w.condition) kept → AddsTold plan node origin b w found new → AreTold plan node origin b (take i kept) found
-    → AreTold plan node origin b (take (i + 1) kept) new
-told_more plan node origin b kept found new i w inside is has can adds are =
+pub told_more : (plan : Network) (node origin : ℕ) (b : List ℕ) (those : List Way) (found new : List Explanation) (i : ℕ) (w : Way)
+    → i < length those → w ≡ get_or those i w → All (λ w. HasCondition w.condition (ways plan node origin b)) those
+    → AddsTold plan node origin b w found new → AreTold plan node origin b (take i those) found
+    → AreTold plan node origin b (take (i + 1) those) new
+told_more plan node origin b those found new i w inside is has adds are =
     let x : Explanation = adds.explanation in
-    subst (λ (ys : List Explanation). AreTold plan node origin b (take (i + 1) kept) ys) (sym adds.added)
+    subst (λ (ys : List Explanation). AreTold plan node origin b (take (i + 1) those) ys) (sym adds.added)
     (subst (λ (ws : List Way). AreTold plan node origin b ws (found ++ x ∷ []))
-    (sym (take_more kept i w inside ∙ ap (λ (v : Way). take i kept ++ v ∷ []) (sym is)))
-    (told_one plan node origin b (take i kept) found w x
-    (subst (λ (v : Way). HasCondition v.condition (ways plan node origin b)) (sym is) (has i w inside))
-    (subst (λ (v : Way). IsPossible v.condition) (sym is) (can i w inside)) adds.tells are))
+    (sym (take_more those i w inside ∙ ap (λ (v : Way). take i those ++ v ∷ []) (sym is)))
+    (told_one plan node origin b (take i those) found w x
+    (subst (λ (v : Way). HasCondition v.condition (ways plan node origin b)) (sym is) (has i w inside)) adds.tells are))
 
-pub told_all : (plan : Network) (node origin : ℕ) (b : List ℕ) (kept items : List Way) (found : List Explanation) (i : ℕ) → length items ≤ i
-    → items ≡ kept → AreTold plan node origin b (take i items) found → AreTold plan node origin b kept found
-told_all plan node origin b kept items found i past same told =
+pub told_all : (plan : Network) (node origin : ℕ) (b : List ℕ) (those items : List Way) (found : List Explanation) (i : ℕ)
+    → length items ≤ i
+    → items ≡ those → AreTold plan node origin b (take i items) found → AreTold plan node origin b those found
+told_all plan node origin b those items found i past same told =
     subst (λ (ws : List Way). AreTold plan node origin b ws found) (take_past items i past ∙ same) told
 
-pub told_conditions : (plan : Network) (node origin : ℕ) (b : List ℕ) (to : ℕ) (sent : Message) (kept : List Way) (found : List Explanation)
-    → AreConditions plan node origin b to sent (map (λ w. w.condition) kept) → AreTold plan node origin b kept found
-    → AreConditions plan node origin b to sent (map (λ x. x.condition) found)
-told_conditions plan node origin b to sent kept found are told = record {
-  exact = λ M. (λ h. (are.exact M).0 (sym (told.same M) ∙ h), λ like. told.same M ∙ (are.exact M).1 like);
-  possible = told.possible;
-}
-
-pub tells_way : (plan : Network) (node origin : ℕ) (b : List ℕ) (w : Way) (x : Explanation)
-    → ((M : List Mark) → meets M x.condition ≡ meets M w.condition)
+pub tells_way : (plan : Network) (node origin : ℕ) (b : List ℕ) (w : Way) (x : Explanation) → x.condition ≡ settled w.condition
     → (HasCondition w.condition (ways plan node origin b) → (M : List Mark) → meets M w.condition ≡ true
     → Handles plan node M origin b x.handling) → Tells plan node origin b w x
-tells_way plan node origin b w x same handles = record { same = same; handled = λ has M met. handles has M (sym (same M) ∙ met) }
+tells_way plan node origin b w x shortest handles = record {
+  shortest = shortest;
+  handled = λ has M met. handles has M (sym (ap (meets M) shortest ∙ settled_met M w.condition) ∙ met);
+}

@@ -1,9 +1,7 @@
 //! Under which markings a relay sends a given message because of a given arrival.
 ghost use Rattle.std.specs.Prelude.{◌≡◌, IsTrue, ◌↔◌, IfOk, OnOk, map};
 ghost use Rattle.std.specs.List.{All};
-ghost use Rattle.relay_ways.specs.Explained.{IsSendingOf, Keeps, AreConditions, Tells, IsHandled, AddsTold};
-ghost use Rattle.relay_ways.specs.Handling.{HasCondition};
-ghost use Rattle.relay_ways.specs.Conditions.{IsPossible};
+ghost use Rattle.relay_ways.specs.Explained.{IsSendingOf, Keeps, AreConditions, AreThose, AreShortest, Tells, IsHandled, AddsTold};
 ghost use Rattle.relay_ways.specs.Ways.{ways};
 
 use crate::alike::is_alike;
@@ -82,9 +80,7 @@ fn kept_ways(
 ) -> Result<List<Way>, OutOfMemory>
     ensures conditions { IfOk result (λ kept. AreConditions at.now.plan.now at.now.node at.now.origin at.now.octets.now to sent.now
         (map (λ w. w.condition) kept)) }
-    ensures among { IfOk result (All (λ w. HasCondition w.condition
-        (ways at.now.plan.now at.now.node at.now.origin at.now.octets.now))) }
-    ensures possible { IfOk result (All (λ w. IsPossible w.condition)) }
+    ensures those { IfOk result (AreThose to sent.now (ways at.now.plan.now at.now.node at.now.origin at.now.octets.now)) }
 {
     let found = ways(alloc, at)?;
     let mut kept = List::new(alloc);
@@ -120,8 +116,8 @@ fn add_told(
     Ok(())
 }
 
-/// Why the node may have sent a message to that point because of octets that arrived at it: each way in which it does. Their
-/// conditions are those under which it does: none if no marking lets it. The error is want of memory.
+/// Why the node may have sent a message to that point because of octets that arrived at it: each of the `ways` in which it does, once
+/// and in their order. Their conditions are those under which it does: none if no marking lets it. The error is want of memory.
 pub fn explain(
     alloc: Global,
     at: &Incoming<'_>,
@@ -130,6 +126,9 @@ pub fn explain(
 ) -> Result<List<Explanation>, OutOfMemory>
     // The node sends the message exactly under the markings that meet one of the conditions, and some marking meets each.
     ensures conditions { IfOk result (λ found. AreConditions at.now.plan.now at.now.node at.now.origin at.now.octets.now to sent.now
+        (map (λ x. x.condition) found)) }
+    // The conditions are those of the ways that send such a message, in the order of the ways, each in its shortest form.
+    ensures shortest { IfOk result (λ found. AreShortest to sent.now (ways at.now.plan.now at.now.node at.now.origin at.now.octets.now)
         (map (λ x. x.condition) found)) }
     // Under each marking that meets the condition of one, the node handles the octets as this one says.
     ensures handled { IfOk result (All (IsHandled at.now.plan.now at.now.node at.now.origin at.now.octets.now)) }

@@ -38,7 +38,7 @@ pub use explaining::explain;
 pub use explanation::Explanation;
 pub use handling::{Handling, Taken};
 pub use incoming::Incoming;
-pub use laws::{markings_are_least, turns_are_steps};
+pub use laws::{markings_are_least, shortest_conditions_are_one, turns_are_steps};
 pub use markings::{begins, next_marking};
 pub use reason::Reason;
 pub use reasoning::why_not;

@@ -12,7 +12,8 @@ returns-clause-are c =
     c.in_ok-add_all_ways.ensures.added
     ∙ ap (λ xs. xs ++ ways c.args.at.now.plan.now c.args.at.now.node c.args.at.now.origin c.args.at.now.octets.now) c.new-found.ensures in
     subst (λ (xs : List Way). AreWays c.args.at.now.plan.now c.args.at.now.node c.args.at.now.origin c.args.at.now.octets.now xs) (sym same)
-    (ways_are c.args.at.now.plan.now c.args.at.now.node c.args.at.now.origin c.args.at.now.octets.now c.nodes-nodes.ensures.sound c.args.at.now.inside)
+    (ways_are c.args.at.now.plan.now c.args.at.now.node c.args.at.now.origin c.args.at.now.octets.now c.nodes-nodes.ensures.sound
+    c.args.at.now.inside)
 
 pub returns-clause-possible : goal.returns-clause-possible
 returns-clause-possible c =

@@ -9,5 +9,7 @@ use Rattle.relay_ways.proofs.returning.add_service_steps.Given as goal
 -- the candidates so far, then those of the steps ahead, are those of all
 abbrev pub invariant-loop-step : goal.invariant-loop-step
 invariant-loop-step l = (m : Message) → reading l.service.octets.now ≡ Ok m
-    → l.found ++ flat_map (step_going_on l.service.plan.now l.service.node l.service.cause m l.address) (drop l.step-index (turn_steps l.service.plan.now l.spot))
-    ≡ l.fn.found ++ flat_map (step_going_on l.service.plan.now l.service.node l.service.cause m l.address) (turn_steps l.service.plan.now l.spot)
+    → l.found ++ flat_map (step_going_on l.service.plan.now l.service.node l.service.cause m l.address)
+    (drop l.step-index (turn_steps l.service.plan.now l.spot))
+    ≡ l.fn.found ++ flat_map (step_going_on l.service.plan.now l.service.node l.service.cause m l.address)
+    (turn_steps l.service.plan.now l.spot)

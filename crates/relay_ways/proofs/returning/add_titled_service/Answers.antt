@@ -14,8 +14,10 @@ pub returns-in-Some : goal.returns-in-Some
 returns-in-Some c m reads =
     subst (λ (o : Option Spot). OnOk c.add_service_steps.result (c.add_service_steps.new.found ≡ c.args.found.now
     ++ flat_map (outcome_going_on (Some c.args.service.now.cause))
-    (titled c.args.service.now.plan.now c.args.service.now.node (point_of c.args.service.now.plan.now c.args.service.now.node) m c.args.address.now o)))
+    (titled c.args.service.now.plan.now c.args.service.now.node
+    (point_of c.args.service.now.plan.now c.args.service.now.node) m c.args.address.now o)))
     (sym c.in-Some.is ∙ c.spot.ensures.value)
     (subst (λ (xs : List Candidate). OnOk c.add_service_steps.result (c.add_service_steps.new.found ≡ c.args.found.now ++ xs))
-    (titled_going_on c.args.service.now.plan.now c.args.service.now.node c.args.service.now.cause m c.args.address.now (turns_of c.args.service.now.plan.now c.in-Some.spot))
+    (titled_going_on c.args.service.now.plan.now c.args.service.now.node c.args.service.now.cause m c.args.address.now
+    (turns_of c.args.service.now.plan.now c.in-Some.spot))
     (c.add_service_steps.ensures m reads))

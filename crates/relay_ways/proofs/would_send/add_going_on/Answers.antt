@@ -9,8 +9,8 @@ use Rattle.relay_ways.proofs.would_send.add_going_on.Goals as goal
 pub returns-in-Some : goal.returns-in-Some
 returns-in-Some c m reads =
     subst (λ (xs : List Candidate). OnOk c.add_onward.result (c.add_onward.new.found ≡ c.args.found.now ++ xs))
-    (onward_is c.args.at.now.plan.now c.args.at.now.node c.args.at.now.origin m c.args.address.now c.args.step.now c.in-Some.going.0 c.in-Some.going.1
-    (sym c.onward.ensures ∙ c.in-Some.is))
+    (onward_is c.args.at.now.plan.now c.args.at.now.node c.args.at.now.origin m c.args.address.now c.args.step.now
+    c.in-Some.going.0 c.in-Some.going.1 (sym c.onward.ensures ∙ c.in-Some.is))
     (c.add_onward.ensures m reads)
 
 pub returns-in-None : goal.returns-in-None

@@ -14,16 +14,19 @@ use Rattle.relay_ways.proofs.would_send.add_titled.Goals as goal
 pub returns-in-Some : goal.returns-in-Some
 returns-in-Some c m reads =
     subst (λ (o : Option Spot). OnOk c.add_steps.result (c.add_steps.new.found ≡ c.args.found.now
-    ++ flat_map (outcome_candidates c.args.at.now.plan.now c.args.at.now.node) (titled c.args.at.now.plan.now c.args.at.now.node c.args.at.now.origin m c.args.address.now o)))
+    ++ flat_map (outcome_candidates c.args.at.now.plan.now c.args.at.now.node)
+    (titled c.args.at.now.plan.now c.args.at.now.node c.args.at.now.origin m c.args.address.now o)))
     (sym c.in-Some.is ∙ c.spot.ensures.value)
     (subst (λ (xs : List Candidate). OnOk c.add_steps.result (c.add_steps.new.found ≡ c.args.found.now ++ xs))
-    (titled_candidates c.args.at.now.plan.now c.args.at.now.node c.args.at.now.origin m c.args.address.now (turns_of c.args.at.now.plan.now c.in-Some.spot))
+    (titled_candidates c.args.at.now.plan.now c.args.at.now.node c.args.at.now.origin m c.args.address.now
+    (turns_of c.args.at.now.plan.now c.in-Some.spot))
     (c.add_steps.ensures m reads))
 
 pub returns-in-None : goal.returns-in-None
 returns-in-None c m reads =
     subst (λ (o : Option Spot). OnOk c.add_returned.result (c.add_returned.new.found ≡ c.args.found.now
-    ++ flat_map (outcome_candidates c.args.at.now.plan.now c.args.at.now.node) (titled c.args.at.now.plan.now c.args.at.now.node c.args.at.now.origin m c.args.address.now o)))
+    ++ flat_map (outcome_candidates c.args.at.now.plan.now c.args.at.now.node)
+    (titled c.args.at.now.plan.now c.args.at.now.node c.args.at.now.origin m c.args.address.now o)))
     (sym c.in-None.is ∙ c.spot.ensures.value)
     (subst (λ (xs : List Candidate). OnOk c.add_returned.result (c.add_returned.new.found ≡ c.args.found.now ++ xs))
     (sym (append-nil (candidates_of c.args.at.now.plan.now c.args.at.now.node (returned [] c.args.at.now.origin m 0 []))))
