@@ -6,9 +6,8 @@ use Rattle.std.proofs.Math.Nat.{mod-lt, div-mul-le_self}
 use Rattle.std.proofs.lemmas.Nat.{div-add-mod', le-div}
 use Rattle.std.proofs.lemmas.Option.{slice_get_within}
 use Rattle.plan_check.specs.Verified.{Verified}
-use Rattle.relay_net.specs.declared.job.Job.{Job}
-use Rattle.relay_net.specs.States.{State}
 use Rattle.relay_net.specs.declared.served.Served.{Served}
+use Rattle.live_plan.specs.declared.job_batch.JobBatch.{JobBatch}
 use Rattle.live_plan.specs.declared.place.Place.{Ghosts}
 use Rattle.live_plan.specs.declared.worker.Worker.{Worker}
 use Rattle.live_plan.specs.Batches.{AreServed, Follows, Lasts, Counted, KeepsAll, HasServed}
@@ -45,38 +44,42 @@ module _ {P : Type 0} {g : Ghosts P} where
   counted_from n u v w l c = ⊎_elim (λ r. inl (rose_less (g.entries u.place) (g.entries v.place) (g.entries w.place) l.entries r))
       (λ r. inr (rose_less (g.refusals u.place) (g.refusals v.place) (g.refusals w.place) l.refusals r)) c
 
-  module _ (plans : List Verified) (states : List State) (jobs : List Job) (count from : ℕ) (before after : List (Worker P g))
-      (answers : List Served) (long : length answers ≡ length jobs) (some : 0 < count) (all : count ≡ length before)
-      (served : (i : ℕ) (d : Worker P g) → i < count → HasServed states jobs count i (get_or before i d) (get_or after i d))
+  module _ (plans : List Verified) (batch : JobBatch) (count from : ℕ) (before after : List (Worker P g))
+      (answers : List Served) (long : length answers ≡ length batch.jobs.now) (some : 0 < count) (all : count ≡ length before)
+      (served : (i : ℕ) (d : Worker P g) → i < length before → HasServed batch (length before) i (get_or before i d) (get_or after i d))
       (follow : (i : ℕ) (d : Worker P g) → i < count → Follows plans (get_or before i d))
       (begun : (i : ℕ) (d : Worker P g) → i < count → (get_or before i d).kept.number ≡ from)
-      (taken : (i : ℕ) (d : Worker P g) → i < length jobs
+      (taken : (i : ℕ) (d : Worker P g) → i < length batch.jobs.now
       → IsSomeAnd (get_or after (i % count) d).answers (λ q. slice_get answers i ≡ slice_get q.items (i / count))) where
     d : Worker P g
     d = first_item before (subst (λ n. 0 < n) all some)
 
-    inside : (i : ℕ) (s : Served) → slice_get answers i ≡ Some s → i < length jobs
+    inside : (i : ℕ) (s : Served) → slice_get answers i ≡ Some s → i < length batch.jobs.now
     inside i s at = subst (λ n. i < n) long (slice_get_within answers i s at)
 
-    pub batch_served : AreServed plans states jobs count from answers
+    served_by : (i : ℕ) (d : Worker P g) → i < count → HasServed batch count i (get_or before i d) (get_or after i d)
+    served_by i d lt = subst (λ n. HasServed batch n i (get_or before i d) (get_or after i d)) (sym all)
+        (served i d (subst (λ n. i < n) all lt))
+
+    pub batch_served : AreServed plans batch.states.now batch.jobs.now count from answers
     batch_served = record {
       long = long;
       each = λ i job s there at.
           let k = i % count in
           let k_lt : k < count = mod-lt i some in
-          let h = served k d k_lt in
+          let h = served_by k d k_lt in
           let both = some_both (get_or after k d).answers _ _ h.served (taken i d (inside i s at)) in
           let share = both.1 plans (follow k d k_lt) in
           let here = sym both.2 ∙ at in
           let same : i / count * count + k ≡ i = div-add-mod' i count in (
-            share.each (i / count) job s (subst (λ n. slice_get jobs n ≡ Some job) (sym same) there) here,
+            share.each (i / count) job s (subst (λ n. slice_get batch.jobs.now n ≡ Some job) (sym same) there) here,
             subst (λ n. n ≤ s.number)
                 (begun k d k_lt) (share.within (i / count) s here).0,
           );
       rising = λ i j s t le same at_i at_j.
           let k = i % count in
           let k_lt : k < count = mod-lt i some in
-          let h = served k d k_lt in
+          let h = served_by k d k_lt in
           let other = subst (λ n. IsSomeAnd (get_or after n d).answers (λ q. slice_get answers j ≡ slice_get q.items (j / count)))
           (sym same) (taken j d (inside j t at_j)) in
           let both = some_three (get_or after k d).answers _ _ _ h.served (taken i d (inside i s at_i)) other in
@@ -86,12 +89,12 @@ module _ {P : Type 0} {g : Ghosts P} where
     }
 
   -- a worker through a batch: it is briefed, serves, and gives its answers
-  module _ (n : ℕ) (u v w x : Worker P g) (states : List State) (jobs : List Job) (count share : ℕ) (l : Lasts n u v)
-      (h : HasServed states jobs count share v w) (k : KeepsAll w x) where
+  module _ (n : ℕ) (u v w x : Worker P g) (batch : JobBatch) (count share : ℕ) (l : Lasts n u v)
+      (h : HasServed batch count share v w) (k : KeepsAll w x) where
     pub lasts_through : Lasts n u x
     lasts_through = lasts_trans n u v x l (goes_same v w x h.goes_on k)
 
-    pub counted_through : share < length jobs → Counted u x
+    pub counted_through : share < length batch.jobs.now → Counted u x
     counted_through lt = counted_from n u v x l (counted_same v w x (h.counted lt) k)
 
     pub follows_through : (plans : List Verified) → Follows plans v → Follows plans x

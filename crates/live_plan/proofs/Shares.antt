@@ -7,8 +7,8 @@ use Rattle.std.specs.Prelude.{IfSome}
 use Rattle.std.specs.Option.{ForSome}
 use Rattle.plan_check.specs.Verified.{Verified}
 use Rattle.relay_net.specs.declared.job.Job.{Job}
-use Rattle.relay_net.specs.States.{State}
 use Rattle.relay_net.specs.declared.served.Served.{Served}
+use Rattle.live_plan.specs.declared.job_batch.JobBatch.{JobBatch}
 use Rattle.live_plan.specs.declared.place.Place.{Ghosts}
 use Rattle.live_plan.specs.declared.worker.Worker.{Worker}
 use Rattle.live_plan.specs.Entries.{entry_plan}
@@ -70,16 +70,16 @@ module _ {P : Type 0} {g : Ghosts P} where
       (λ r. inr (rose_less (g.refusals u.place) (g.refusals v.place) (g.refusals w.place) l.refusals r)) c
 
 -- one more answer
-pub share_more : (plans : List Verified) (states : List State) (jobs : List Job) (count share from upto : ℕ) (answers : List Served)
-    (s : Served) (job : Job)
-    → IsShare plans states jobs count share from upto answers → from ≤ upto → upto ≤ s.number
-    → slice_get jobs (length answers * count + share) ≡ Some job → IsServed plans states job s
-    → IsShare plans states jobs count share from s.number (answers ++ s ∷ [])
-share_more plans states jobs count share from upto answers s job h some more at served = record {
+pub share_more : (plans : List Verified) (batch : JobBatch) (count share from upto : ℕ) (answers : List Served) (s : Served) (job : Job)
+    → IsShare plans batch count share from upto answers → from ≤ upto → upto ≤ s.number
+    → slice_get batch.jobs.now (length answers * count + share) ≡ Some job → IsServed plans batch.states.now job s
+    → IsShare plans batch count share from s.number (answers ++ s ∷ [])
+share_more plans batch count share from upto answers s job h some more at served = record {
   each = λ r other t there e. ⊎_elim (h.each r other t there)
       (λ (last : (r ≡ length answers) × (s ≡ t)). let same : job
-      ≡ other = cc (at, subst (λ k. slice_get jobs (k * count + share) ≡ Some other) last.0 there) in subst
-      (IsServed plans states other) last.1 (subst (λ (j : Job). IsServed plans states j s) same served)) (get_snoc answers s r t e);
+      ≡ other = cc (at, subst (λ k. slice_get batch.jobs.now (k * count + share) ≡ Some other) last.0 there) in subst
+      (IsServed plans batch.states.now other) last.1 (subst (λ (j : Job). IsServed plans batch.states.now j s) same served))
+      (get_snoc answers s r t e);
   within = λ r t e. ⊎_elim (λ o. let w = h.within r t o in (w.0, le_trans w.1 more))
       (λ (last : (r ≡ length answers) × (s ≡ t)). subst (λ (u : Served). (from ≤ u.number) × (u.number ≤ s.number)) last.1
       (le_trans some more, le_refl _)) (get_snoc answers s r t e);

@@ -7,6 +7,7 @@ use Rattle.plan_check.specs.Verified.{Verified}
 use Rattle.relay_net.specs.declared.job.Job.{Job}
 use Rattle.relay_net.specs.States.{State}
 use Rattle.relay_net.specs.declared.served.Served.{Served}
+use Rattle.live_plan.specs.declared.job_batch.JobBatch.{JobBatch}
 use Rattle.live_plan.specs.declared.place.Place.{Ghosts}
 use Rattle.live_plan.specs.declared.worker.Worker.{Worker}
 use Rattle.live_plan.specs.Entries.{entry_plan}
@@ -22,10 +23,9 @@ pub record IsServed (plans : List Verified) (states : List State) (job : Job) (s
 
 -- The answers of a share, so far: those of every count-th job, from the share's own one on. The numbers lie between two
 -- bounds, and never fall.
-pub record IsShare (plans : List Verified) (states : List State) (jobs : List Job) (count share from upto : ℕ)
-    (answers : List Served) : Type 0 where
-  pub each : (r : ℕ) (job : Job) (s : Served) → slice_get jobs (r * count + share) ≡ Some job → slice_get answers r ≡ Some s
-      → IsServed plans states job s
+pub record IsShare (plans : List Verified) (batch : JobBatch) (count share from upto : ℕ) (answers : List Served) : Type 0 where
+  pub each : (r : ℕ) (job : Job) (s : Served) → slice_get batch.jobs.now (r * count + share) ≡ Some job → slice_get answers r ≡ Some s
+      → IsServed plans batch.states.now job s
   pub within : (r : ℕ) (s : Served) → slice_get answers r ≡ Some s → (from ≤ s.number) × (s.number ≤ upto)
   pub rising : (q r : ℕ) (s t : Served) → q ≤ r → slice_get answers q ≡ Some s → slice_get answers r ≡ Some t → s.number ≤ t.number
 
@@ -96,12 +96,12 @@ module _ {P : Type 0} {g : Ghosts P} where
     pub kept : w'.kept ≡ w.kept
 
   -- a worker served its share, and keeps the answers unless memory was lacking
-  pub record HasServed (states : List State) (jobs : List Job) (count share : ℕ) (w w' : Worker P g) : Type 0 where
+  pub record HasServed (batch : JobBatch) (count share : ℕ) (w w' : Worker P g) : Type 0 where
     pub goes_on : GoesOn w w'
-    pub counted : share < length jobs → Counted w w'
-    pub enough : IfSome w'.answers (λ q. length jobs ≤ length q.items * count + share)
+    pub counted : share < length batch.jobs.now → Counted w w'
+    pub enough : IfSome w'.answers (λ q. length batch.jobs.now ≤ length q.items * count + share)
     pub served : IfSome w'.answers (λ q. (plans : List Verified) → Follows plans w
-        → IsShare plans states jobs count share w.kept.number w'.kept.number q.items)
+        → IsShare plans batch count share w.kept.number w'.kept.number q.items)
 
   -- a new worker, when n plans are published
   pub record IsHired (plans : List Verified) (n nodes index : ℕ) (w : Worker P g) : Type 0 where

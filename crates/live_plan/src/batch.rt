@@ -11,6 +11,8 @@ ghost use Rattle.live_plan.specs.Tellers.{told_by, plans_of, due_of};
 use crate::briefing::brief_all;
 use crate::collecting::collect;
 use crate::gate::Gate;
+use crate::host::Host;
+use crate::job_batch::JobBatch;
 use crate::live_place::LivePlace;
 use crate::publishing::publish_all;
 use crate::resting::{rest_all, spare_plans};
@@ -32,59 +34,50 @@ pub(crate) const WORTHWHILE: usize = 16;
 
 // Each worker serves its share.
 fn serve_all<R: Threads + Sync, G: Gate + Sync>(
-    rt: &R,
-    alloc: Global,
-    threads: usize,
-    states: &[NodeState],
-    jobs: &[Job],
-    gate: &G,
+    host: &Host<'_, R, G>,
+    batch: &JobBatch<'_>,
     workers: &mut [Worker<LivePlace>],
 )
-    requires threads { 0 < threads }
     requires count { (0 < length workers.old) × (length workers.old ≤ 16) }
-    requires states { All (λ w. w.place.nodes ≡ length states.now) workers.old }
-    requires entries { All (λ job. job.entry < length states.now) jobs.now }
-    ensures { (i : ℕ) (d : _) → i < length workers.old → HasServed states.now jobs.now (length workers.old) i
-        (slice_index_or workers.old i d) (slice_index_or workers.new i d) }
+    requires states { All (λ w. w.place.nodes ≡ length batch.now.states.now) workers.old }
+    ensures { (i : ℕ) (d : _) → i < length workers.old
+        → HasServed batch.now (length workers.old) i (slice_index_or workers.old i d) (slice_index_or workers.new i d) }
 {
     let count = workers.len();
+    let gate = host.gate;
+    let alloc = host.alloc;
     for_each_beside(
-        rt,
+        host.rt,
         workers,
-        threads,
+        batch.threads,
         &|share: usize, worker: &mut Worker<LivePlace>|
-            requires { (0 < count) × (count ≤ 16) × (share < count) × (worker.now.place.nodes ≡ length states.now)
-                × All (λ job. job.entry < length states.now) jobs.now }
-            ensures { HasServed states.entry.now jobs.entry.now count share worker.entry.now worker.exit.now }
-        { keep_share(alloc, count, share, states, jobs, gate, worker) },
+            requires { (0 < count) × (count ≤ 16) × (share < count) × (worker.now.place.nodes ≡ length batch.now.states.now) }
+            ensures { HasServed batch.entry.now count share worker.entry.now worker.exit.now }
+        { keep_share(alloc, batch, count, share, gate, worker) },
     );
 }
 
 // Each worker serves its share, while the plans are published.
 fn serve_beside<R: Threads + Wait + Sync, G: Gate + Sync>(
-    rt: &R,
-    alloc: Global,
-    threads: usize,
-    states: &[NodeState],
-    jobs: &[Job],
-    gate: &G,
+    host: &Host<'_, R, G>,
+    batch: &JobBatch<'_>,
     teller: &mut Teller,
     plans: &mut VecDeque<Accepted>,
     workers: &mut [Worker<LivePlace>],
 ) -> Result<(), OutOfMemory>
-    requires threads { 0 < threads }
     requires due { due_of teller.old ≡ plans_of teller.old ++ plans.old.items }
     requires count { (0 < length workers.old) × (length workers.old ≤ 16) }
-    requires states { All (λ w. w.place.nodes ≡ length states.now) workers.old }
-    requires entries { All (λ job. job.entry < length states.now) jobs.now }
+    requires states { All (λ w. w.place.nodes ≡ length batch.now.states.now) workers.old }
     ensures published { HasPublished teller.old teller.new result }
     ensures served { (i : ℕ) (d : _) → i < length workers.old
-        → HasServed states.now jobs.now (length workers.old) i (slice_index_or workers.old i d) (slice_index_or workers.new i d) }
+        → HasServed batch.now (length workers.old) i (slice_index_or workers.old i d) (slice_index_or workers.new i d) }
 {
     if plans.is_empty() {
-        serve_all(rt, alloc, threads, states, jobs, gate, workers);
+        serve_all(host, batch, workers);
         return Ok(());
     }
+    let rt = host.rt;
+    let gate = host.gate;
     let (published, ()) = thread::join_mut(
         rt,
         &mut || -> Result<(), OutOfMemory>
@@ -92,12 +85,12 @@ fn serve_beside<R: Threads + Wait + Sync, G: Gate + Sync>(
             ensures { HasPublished teller.entry.now teller.exit.now result }
         { publish_all(rt, gate, teller, plans) },
         &mut ||
-            requires { IsSync R.row × IsSync G.row × (0 < threads) × (0 < length workers.now) × (length workers.now ≤ 16)
-                × All (λ w. w.place.nodes ≡ length states.now) workers.now × All (λ job. job.entry < length states.now) jobs.now }
+            requires { IsSync R.row × IsSync G.row × (0 < length workers.now) × (length workers.now ≤ 16)
+                × All (λ w. w.place.nodes ≡ length batch.now.states.now) workers.now }
             ensures { (i : ℕ) (d : _) → i < length workers.entry.now
-                → HasServed states.entry.now jobs.entry.now (length workers.entry.now) i (slice_index_or workers.entry.now i d)
+                → HasServed batch.entry.now (length workers.entry.now) i (slice_index_or workers.entry.now i d)
                 (slice_index_or workers.exit.now i d) }
-        { serve_all(rt, alloc, threads, states, jobs, gate, workers) },
+        { serve_all(host, batch, workers) },
     );
     published
 }
@@ -105,34 +98,26 @@ fn serve_beside<R: Threads + Wait + Sync, G: Gate + Sync>(
 // The same. If memory was lacking for a plan, each worker rests with the last plan from before the batch: no clause says that what it
 // has seen meanwhile is still published.
 fn serve_or_rest<R: Threads + Wait + Sync, G: Gate + Sync>(
-    rt: &R,
-    alloc: Global,
-    threads: usize,
-    states: &[NodeState],
-    jobs: &[Job],
-    gate: &G,
+    host: &Host<'_, R, G>,
+    batch: &JobBatch<'_>,
     teller: &mut Teller,
     plans: &mut VecDeque<Accepted>,
     workers: &mut [Worker<LivePlace>],
     spares: Vec<Arc<Arc<Accepted>>>,
 ) -> Result<(), OutOfMemory>
-    requires threads { 0 < threads }
     requires due { due_of teller.old ≡ plans_of teller.old ++ plans.old.items }
     requires count { (0 < length workers.old) × (length workers.old ≤ 16) }
-    requires states { All (λ w. w.place.nodes ≡ length states.now) workers.old }
-    requires entries { All (λ job. job.entry < length states.now) jobs.now }
+    requires states { All (λ w. w.place.nodes ≡ length batch.now.states.now) workers.old }
     requires enough { length workers.old ≤ length spares.items }
-    requires spares { All (λ plan. nodes_of (arc_value (arc_value plan)) ≡ length states.now) spares.items }
+    requires spares { All (λ plan. nodes_of (arc_value (arc_value plan)) ≡ length batch.now.states.now) spares.items }
     ensures published { HasPublished teller.old teller.new result }
     ensures served { OnOk result ((i : ℕ) (d : _) → i < length workers.old
-        → HasServed states.now jobs.now (length workers.old) i (slice_index_or workers.old i d) (slice_index_or workers.new i d)) }
+        → HasServed batch.now (length workers.old) i (slice_index_or workers.old i d) (slice_index_or workers.new i d)) }
     ensures rests { OnErr result ((i : ℕ) (d : _) → i < length workers.old
         → Rests (length (plans_of teller.old)) (slice_index_or workers.old i d) (slice_index_or workers.new i d)) }
 {
     let number = teller.number();
-    match serve_beside(
-        rt, alloc, threads, states, jobs, gate, teller, plans, workers,
-    ) {
+    match serve_beside(host, batch, teller, plans, workers) {
         Ok(()) => Ok(()),
         Err(OutOfMemory) => {
             rest_all(workers, number, spares);
@@ -161,11 +146,9 @@ fn threads_for<R: Threads>(rt: &R, teller: &mut Teller, shares: usize, jobs: usi
 
 // Briefs the workers, serves the jobs while these plans are published, and collects the answers.
 fn serve_batch<R: Threads + Wait + Sync, G: Gate + Sync>(
-    rt: &R,
-    alloc: Global,
+    host: &Host<'_, R, G>,
     states: &[NodeState],
     jobs: &[Job],
-    gate: &G,
     teller: &mut Teller,
     plans: &mut VecDeque<Accepted>,
     workers: &mut [Worker<LivePlace>],
@@ -189,12 +172,15 @@ fn serve_batch<R: Threads + Wait + Sync, G: Gate + Sync>(
     ensures nodes { teller.new.nodes ≡ teller.old.nodes }
 {
     brief_all(workers, teller)?;
-    let spares = spare_plans(alloc, teller, workers.len())?;
-    let threads = threads_for(rt, teller, workers.len(), jobs.len());
-    serve_or_rest(
-        rt, alloc, threads, states, jobs, gate, teller, plans, workers, spares,
-    )?;
-    collect(alloc, jobs.len(), workers)
+    let spares = spare_plans(host.alloc, teller, workers.len())?;
+    let threads = threads_for(host.rt, teller, workers.len(), jobs.len());
+    let batch = JobBatch {
+        states,
+        jobs,
+        threads,
+    };
+    serve_or_rest(host, &batch, teller, plans, workers, spares)?;
+    collect(host.alloc, jobs.len(), workers)
 }
 
 /// Serves a batch of jobs while these plans are published, one after the other. Each job is answered with the number of its
@@ -210,14 +196,12 @@ fn serve_batch<R: Threads + Wait + Sync, G: Gate + Sync>(
 /// The only error is lack of memory. Then some of the plans may be published, the first ones, and jobs may have been served. If
 /// not all of them are published, the workers keep the last plan from before the batch.
 pub fn run_batch<R: Threads + Wait + Sync, G: Gate + Sync>(
-    rt: &R,
-    alloc: Global,
+    host: &Host<'_, R, G>,
     teller: &mut Teller,
     workers: &mut List<Worker<LivePlace>>,
     states: &[NodeState],
     jobs: &List<Job>,
     plans: List<Accepted>,
-    gate: &G,
 ) -> Result<List<Served>, OutOfMemory>
     requires count { (0 < length workers.old) × (length workers.old ≤ 16) }
     requires made { All (λ w. w.place.nodes ≡ teller.old.nodes) workers.old }
@@ -239,17 +223,9 @@ pub fn run_batch<R: Threads + Wait + Sync, G: Gate + Sync>(
     ensures within { IsPrefix (plans_of teller.new) (plans_of teller.old ++ plans) }
     ensures nodes { teller.new.nodes ≡ teller.old.nodes }
 {
-    teller.begin(rt, &plans)?;
+    teller.begin(host.rt, &plans)?;
     let mut coming = VecDeque::from_vec(plans.into_vec());
     let jobs = jobs.as_slice();
-    serve_batch(
-        rt,
-        alloc,
-        states,
-        jobs,
-        gate,
-        teller,
-        &mut coming,
-        workers.as_mut_slice(),
-    )
+    let workers = workers.as_mut_slice();
+    serve_batch(host, states, jobs, teller, &mut coming, workers)
 }

@@ -6,6 +6,7 @@ ghost use Rattle.relay_net.specs.declared.served.Served.{Served};
 ghost use Rattle.live_plan.specs.Blocks.{EnterIn, HasAnswers, answer_in};
 
 use crate::gate::Gate;
+use crate::host::Host;
 use crate::setting::Setting;
 use crate::worker::route;
 use relay_net::{Job, Served};
@@ -92,20 +93,20 @@ fn serve_lane<G: Gate>(
 
 // Serves the jobs by this number of threads, one of which is the caller's.
 fn serve_lanes<R: Threads + Sync, G: Gate + Sync>(
-    rt: &R,
-    alloc: Global,
+    host: &Host<'_, R, G>,
     threads: usize,
     setting: &Setting<'_>,
     jobs: &[Job],
-    gate: &G,
 ) -> Result<Vec<List<Block>>, AllocError>
     requires { EnterIn setting.now jobs.now }
     ensures { IfOk result (λ lanes. All (λ lane. All (HasAnswers (answer_in setting.now) jobs.now) lane) lanes.items) }
 {
     let next = AtomicUsize::new(0);
     let shared = &next;
+    let gate = host.gate;
+    let alloc = host.alloc;
     thread::map_indices(
-        rt,
+        host.rt,
         alloc,
         threads,
         &|_lane: usize| -> List<Block>
@@ -159,23 +160,22 @@ fn in_order(alloc: Global, room: usize, blocks: Vec<Block>) -> Result<Vec<Served
 /// Answers each job under the plan of this setting, in the order of the jobs, by this number of threads. If a thread had no
 /// memory for a block, this thread serves the jobs from there on again. The only error is lack of memory.
 pub(crate) fn serve_blocks<R: Threads + Sync, G: Gate + Sync>(
-    rt: &R,
-    alloc: Global,
+    host: &Host<'_, R, G>,
     threads: usize,
     setting: &Setting<'_>,
     jobs: &[Job],
-    gate: &G,
 ) -> Result<List<Served>, OutOfMemory>
     requires { EnterIn setting.now jobs.now }
     ensures { IfOk result (λ answers. answers ≡ map (answer_in setting.now) jobs.now) }
 {
+    let alloc = host.alloc;
     if threads < 2 {
-        return serve_each(alloc, setting, jobs, gate);
+        return serve_each(alloc, setting, jobs, host.gate);
     }
-    let lanes = serve_lanes(rt, alloc, threads, setting, jobs, gate)?;
+    let lanes = serve_lanes(host, threads, setting, jobs)?;
     let mut answers = in_order(alloc, jobs.len(), all_blocks(alloc, lanes)?)?;
     let (_, left) = jobs.split_at(answers.len());
-    let rest = serve_each(alloc, setting, left, gate)?;
+    let rest = serve_each(alloc, setting, left, host.gate)?;
     answers.append(&mut rest.into_vec())?;
     Ok(List::from_vec(answers))
 }

@@ -8,6 +8,7 @@ ghost use Rattle.live_plan.specs.Tellers.{told_by, plans_of};
 use crate::batch::{WORTHWHILE, run_batch};
 use crate::blocks::serve_blocks;
 use crate::gate::Gate;
+use crate::host::Host;
 use crate::live_place::LivePlace;
 use crate::setting::Setting;
 use crate::teller::Teller;
@@ -15,7 +16,6 @@ use crate::worker::Worker;
 use plan_check::Accepted;
 use relay_net::{Job, NodeState, Served};
 use sccp_base::{List, OutOfMemory};
-use std::alloc::Global;
 use std::sync::Wait;
 use std::thread::Threads;
 
@@ -33,14 +33,12 @@ fn threads_for<R: Threads>(rt: &R, teller: &mut Teller, shares: usize, jobs: usi
 
 // Serves all jobs under the publisher's last plan. Nothing can be published meanwhile, so no worker needs to look.
 fn serve_latest<R: Threads + Sync, G: Gate + Sync>(
-    rt: &R,
-    alloc: Global,
+    host: &Host<'_, R, G>,
     threads: usize,
     teller: &Teller,
     workers: usize,
     states: &[NodeState],
     jobs: &[Job],
-    gate: &G,
 ) -> Result<List<Served>, OutOfMemory>
     requires workers { (0 < workers) × (workers ≤ 16) }
     requires states { length states.now ≡ teller.now.nodes }
@@ -53,20 +51,18 @@ fn serve_latest<R: Threads + Sync, G: Gate + Sync>(
         states,
         workers: workers as u32,
     };
-    serve_blocks(rt, alloc, threads, &setting, jobs, gate)
+    serve_blocks(host, threads, &setting, jobs)
 }
 
 /// Serves a batch of jobs as `run_batch` does, or faster if there are no further plans. Then all jobs go under the last plan,
 /// each thread takes the next few jobs when it has served some, and the workers rest. The only error is lack of memory.
 pub fn serve_jobs<R: Threads + Wait + Sync, G: Gate + Sync>(
-    rt: &R,
-    alloc: Global,
+    host: &Host<'_, R, G>,
     teller: &mut Teller,
     workers: &mut List<Worker<LivePlace>>,
     states: &[NodeState],
     jobs: &List<Job>,
     plans: List<Accepted>,
-    gate: &G,
 ) -> Result<List<Served>, OutOfMemory>
     requires count { (0 < length workers.old) × (length workers.old ≤ 16) }
     requires made { All (λ w. w.place.nodes ≡ teller.old.nodes) workers.old }
@@ -87,8 +83,8 @@ pub fn serve_jobs<R: Threads + Wait + Sync, G: Gate + Sync>(
     if plans.as_slice().is_empty() {
         let jobs = jobs.as_slice();
         let shares = workers.as_slice().len();
-        let threads = threads_for(rt, teller, shares, jobs.len());
-        return serve_latest(rt, alloc, threads, teller, shares, states, jobs, gate);
+        let threads = threads_for(host.rt, teller, shares, jobs.len());
+        return serve_latest(host, threads, teller, shares, states, jobs);
     }
-    run_batch(rt, alloc, teller, workers, states, jobs, plans, gate)
+    run_batch(host, teller, workers, states, jobs, plans)
 }

@@ -20,6 +20,8 @@ mod blocks;
 mod briefing;
 mod collecting;
 mod gate;
+mod host;
+mod job_batch;
 mod known;
 mod latest;
 mod laws;
@@ -40,6 +42,7 @@ mod worker;
 
 pub use batch::run_batch;
 pub use gate::{Gate, OpenGate};
+pub use host::Host;
 pub use latest::serve_jobs;
 pub use laws::{numbers_never_fall, passes_go_on};
 pub use list_place::ListPlace;

@@ -4,9 +4,10 @@ ghost use Rattle.plan_check.specs.Verified.{Verified};
 ghost use Rattle.live_plan.specs.Batches.{IsShare, GoesOn, Follows, Counted, HasServed};
 
 use crate::gate::Gate;
+use crate::job_batch::JobBatch;
 use crate::place::Place;
 use crate::worker::Worker;
-use relay_net::{Job, NodeState, Served};
+use relay_net::Served;
 use sccp_base::OutOfMemory;
 use std::alloc::Global;
 use std::collections::VecDeque;
@@ -24,26 +25,25 @@ fn room_for(alloc: Global, answers: usize) -> VecDeque<Served>
 // Serves every count-th job, from `share` on.
 pub(crate) fn serve_from<P: Place, G: Gate>(
     alloc: Global,
+    batch: &JobBatch<'_>,
     count: usize,
     share: usize,
-    states: &[NodeState],
-    jobs: &[Job],
     gate: &G,
     worker: &mut Worker<P>,
 ) -> Result<VecDeque<Served>, OutOfMemory>
     requires count { (0 < count) × (count ≤ 16) × (share < count) }
-    requires entries { All (λ job. job.entry < P.nodes worker.old.place) jobs.now }
-    requires states { length states.now ≡ P.nodes worker.old.place }
+    requires states { length batch.now.states.now ≡ P.nodes worker.old.place }
     ensures goes_on { GoesOn worker.old worker.new }
-    ensures counted { share < length jobs.now → Counted worker.old worker.new }
-    ensures all { IfOk result (λ answers. length jobs.now ≤ length answers.items * count + share) }
+    ensures counted { share < length batch.now.jobs.now → Counted worker.old worker.new }
+    ensures all { IfOk result (λ answers. length batch.now.jobs.now ≤ length answers.items * count + share) }
     ensures served { IfOk result (λ answers. (plans : List Verified) → Follows plans worker.old
-        → IsShare plans states.now jobs.now count share worker.old.kept.number worker.new.kept.number answers.items) }
+        → IsShare plans batch.now count share worker.old.kept.number worker.new.kept.number answers.items) }
 {
+    let jobs = batch.jobs;
     let mut answers = room_for(alloc, jobs.len() / count + 1);
     let mut at = share;
     while at < jobs.len() {
-        let served = worker.serve(alloc, states, &jobs[at], gate)?;
+        let served = worker.serve(alloc, batch.states, &jobs[at], gate)?;
         answers.push_back(served)?;
         at += count;
     }
@@ -53,17 +53,15 @@ pub(crate) fn serve_from<P: Place, G: Gate>(
 /// Serves a share. The worker keeps the answers, or none if memory was lacking.
 pub(crate) fn keep_share<P: Place, G: Gate>(
     alloc: Global,
+    batch: &JobBatch<'_>,
     count: usize,
     share: usize,
-    states: &[NodeState],
-    jobs: &[Job],
     gate: &G,
     worker: &mut Worker<P>,
 )
     requires count { (0 < count) × (count ≤ 16) × (share < count) }
-    requires entries { All (λ job. job.entry < P.nodes worker.old.place) jobs.now }
-    requires states { length states.now ≡ P.nodes worker.old.place }
-    ensures { HasServed states.now jobs.now count share worker.old worker.new }
+    requires states { length batch.now.states.now ≡ P.nodes worker.old.place }
+    ensures { HasServed batch.now count share worker.old worker.new }
 {
-    worker.answers = serve_from(alloc, count, share, states, jobs, gate, worker).ok();
+    worker.answers = serve_from(alloc, batch, count, share, gate, worker).ok();
 }

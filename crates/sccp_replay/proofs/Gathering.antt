@@ -5,9 +5,11 @@ use Rattle.std.specs.Prelude.{OnOk}
 use Rattle.std.proofs.lemmas.List.Elements.{All-nil, All-push, All-same}
 use Rattle.plan_model.specs.Network.{Network}
 use Rattle.sccp_report.specs.Roles.{StandsIn, role_of}
-use Rattle.sccp_replay.specs.Gathering.{HasTaken, IsBegun, IsCounted, IsJoined, MayBeDone, MayTake, joining_role, lines_in}
+use Rattle.sccp_replay.specs.Gathering.{HasTaken, IsBegun, IsJoined, MayBeDone, MayTake, joining_role, lines_in}
+use Rattle.sccp_replay.specs.Progress.{IsCounted}
 use Rattle.sccp_replay.specs.Replay.{Standing, is_full}
 use Rattle.sccp_replay.specs.declared.joined.Joined.{Joined}
+use Rattle.sccp_replay.specs.declared.progress.Progress.{Progress}
 use Rattle.sccp_work.specs.declared.stop.Stop.{Stop}
 
 -- without a line
@@ -18,11 +20,11 @@ empty_begun plan batch none = record {
 }
 
 -- before the first line
-pub none_counted : (at : Standing) (batch : List Joined) → at.later ≡ [] → batch ≡ [] → IsCounted 0 at batch
-none_counted at batch no_plan none =
+pub none_counted : (at : Standing) (p : Progress) → at.later ≡ [] → p.batch ≡ [] → IsCounted at p
+none_counted at p no_plan none =
     let plans : length at.later ≡ 0 = ap length no_plan in
-    let lines : length batch ≡ 0 = ap length none in
-    record { begun = empty_begun at.first batch none; few = omega (arith, plans, lines) }
+    let lines : length p.batch ≡ 0 = ap length none in
+    record { begun = empty_begun at.first p.batch none; few = omega (arith, plans, lines) }
 
 -- ---- one more line
 
@@ -99,16 +101,15 @@ more_taken taken at at' at'' batch batch' batch'' has one =
     let now = one.few in
     record { begun = one.begun; few = omega (arith, so_far, now) }
 
-pub may_take : (count lines : ℕ) (at : Standing) (batch : List Joined) → IsCounted count at batch → count + lines ≤ 1000000
-    → MayTake lines at batch
-may_take count lines at batch is le = let few = is.few in record { begun = is.begun; few = omega (arith, few, le) }
+pub may_take : (lines : ℕ) (at : Standing) (p : Progress) → IsCounted at p → p.count + lines ≤ 1000000 → MayTake lines at p.batch
+may_take lines at p is le = let few = is.few in record { begun = is.begun; few = omega (arith, few, le) }
 
-pub counted : (count lines n : ℕ) (at at' : Standing) (batch batch' : List Joined) → IsCounted count at batch
-    → HasTaken lines at batch at' batch' → n ≡ count + lines → IsCounted n at' batch'
-counted count lines n at at' batch batch' is has e =
+pub counted : (lines : ℕ) (at at' : Standing) (p p' : Progress) → IsCounted at p → HasTaken lines at p.batch at' p'.batch
+    → p'.count ≡ p.count + lines → IsCounted at' p'
+counted lines at at' p p' is has e =
     let few = is.few in
     let so_far = has.few in
     record { begun = has.begun; few = omega (arith, few, so_far, e) }
 
-pub counted_done : (count : ℕ) (at : Standing) (batch : List Joined) → IsCounted count at batch → count ≤ 1000000 → MayBeDone at batch
-counted_done count at batch is le = let few = is.few in record { joined = is.begun.joined; few = omega (arith, few, le) }
+pub counted_done : (at : Standing) (p : Progress) → IsCounted at p → p.count ≤ 1000000 → MayBeDone at p.batch
+counted_done at p is le = let few = is.few in record { joined = is.begun.joined; few = omega (arith, few, le) }

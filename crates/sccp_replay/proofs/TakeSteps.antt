@@ -173,16 +173,16 @@ may_end None end = tt
 may_end (Some octets) end = end
 
 pub told_taken : (work : Work) (count : ℕ) (at at' : Standing) (batch batch' lines : List Numbered) (reader : reading.Standing)
-    (left : Option (List ℕ)) (n : ℕ) (first mid now : Moment)
-    → GoesOn work count at batch lines reader left first mid → TakesLines at batch lines (Ok n) at' batch' mid now
+    (left : Option (List ℕ)) (first mid now : Moment)
+    → GoesOn work count at batch lines reader left first mid → TakesLines {T = Unit {0}} at batch lines (Ok tt) at' batch' mid now
     → GoesOn work count at' batch' [] reader left first now
-told_taken work count at at' batch batch' lines reader left n first mid now all takes = λ rest may result after h.
+told_taken work count at at' batch batch' lines reader left first mid now all takes = λ rest may result after h.
     let fed : Fed = ahead reader true rest in
     all rest may result after (takes (closing_of (count + length fed.lines) fed.fault) fed.lines result after h)
 
 pub told_stopped : (work : Work) (count : ℕ) (at at' : Standing) (batch batch' lines : List Numbered) (reader : reading.Standing)
     (left : Option (List ℕ)) (stop : Stop) (first mid now : Moment)
-    → GoesOn work count at batch lines reader left first mid → TakesLines {T = ℕ} at batch lines (Err stop) at' batch' mid now
+    → GoesOn work count at batch lines reader left first mid → TakesLines {T = Unit {0}} at batch lines (Err stop) at' batch' mid now
     → Works work (Err stop) first now
 told_stopped work count at at' batch batch' lines reader left stop first mid now all takes =
     let may = may_come left in
@@ -209,7 +209,7 @@ fault_ends work count at batch reader left fault result first mid now all stands
 -- the last lines were given and taken
 pub last_taken : (count : ℕ) (at at' : Standing) (batch batch' : List Numbered) (reader : reading.Standing) (fed : Fed) (n : ℕ)
     (result : Result Status Stop) (first mid now : Moment) → fed ≡ ahead reader true []
-    → TakesLines at batch fed.lines (Ok n) at' batch' first mid → n ≡ count + length fed.lines
+    → TakesLines {T = Unit {0}} at batch fed.lines (Ok tt) at' batch' first mid → n ≡ count + length fed.lines
     → Works (lines_work (closing_of n fed.fault) at' batch' []) result mid now
     → Works (rest_work count at batch [] reader []) result first now
 last_taken count at at' batch batch' reader fed n result first mid now is takes counted h =
@@ -221,7 +221,7 @@ last_taken count at at' batch batch' reader fed n result first mid now is takes 
 
 pub last_stopped : (count : ℕ) (at at' : Standing) (batch batch' : List Numbered) (reader : reading.Standing) (fed : Fed) (stop : Stop)
     (first now : Moment) → fed ≡ ahead reader true []
-    → TakesLines {T = ℕ} at batch fed.lines (Err stop) at' batch' first now
+    → TakesLines {T = Unit {0}} at batch fed.lines (Err stop) at' batch' first now
     → Works (rest_work count at batch [] reader []) (Err stop) first now
 last_stopped count at at' batch batch' reader fed stop first now is takes =
     let closing : Status × List ℕ = closing_of (count + length fed.lines) fed.fault in

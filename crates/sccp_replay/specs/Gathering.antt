@@ -65,8 +65,3 @@ pub record MayTake (lines : ℕ) (at : Standing) (batch : List Joined) : Type 0 
 pub record HasTaken (lines : ℕ) (at : Standing) (batch : List Joined) (at' : Standing) (batch' : List Joined) : Type 0 where
   pub begun : IsBegun at'.first batch'
   pub few : length at'.later + length batch' ≤ length at.later + length batch + lines
-
--- this number of lines of the trace was taken so far
-pub record IsCounted (count : ℕ) (at : Standing) (batch : List Joined) : Type 0 where
-  pub begun : IsBegun at.first batch
-  pub few : length at.later + length batch ≤ count

@@ -6,6 +6,7 @@ pub mod Gathering
 pub mod Holding
 pub mod Incoming
 pub mod LaterPlans
+pub mod Progress
 pub mod Replay
 pub mod ReplayEnds
 pub mod Replayers

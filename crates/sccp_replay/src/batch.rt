@@ -4,12 +4,11 @@ ghost use Rattle.sccp_replay.specs.Gathering.{MayBeDone, lines_in};
 ghost use Rattle.sccp_work.specs.Moment.{moment};
 ghost use Rattle.sccp_replay.specs.Settling.{GivesBatch};
 
-use crate::host::Host;
 use crate::joined::Joined;
 use crate::replayer::Replayer;
 use crate::settle::settle;
 use crate::tell::tell;
-use live_plan::Gate;
+use live_plan::{Gate, Host};
 use sccp_base::List;
 use sccp_io::{Files, Sink};
 use sccp_report::Text;

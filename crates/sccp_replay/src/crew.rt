@@ -4,9 +4,8 @@ ghost use Rattle.sccp_replay.specs.Replay.{latest};
 ghost use Rattle.sccp_replay.specs.Replayers.{MayBeRouted, RoutesBatch, jobs_from, settled_in};
 ghost use Rattle.sccp_replay.specs.Routings.{ArePlans, IsRouting, ahead, routing, standing};
 
-use crate::host::Host;
 use crate::settled::Settled;
-use live_plan::{Entry, Gate, Live, LivePlace, Teller, Worker, serve_jobs};
+use live_plan::{Entry, Gate, Host, Live, LivePlace, Teller, Worker, serve_jobs};
 use plan_check::Accepted;
 use relay_net::{Job, NodeState, Served};
 use sccp_base::{List, OutOfMemory};
@@ -137,16 +136,8 @@ impl Crew {
         // This call ensures that the plans are sound.
         let _first = self.first();
         let jobs = jobs_of(host.alloc, settled)?;
-        serve_jobs(
-            host.rt,
-            host.alloc,
-            &mut self.teller,
-            &mut self.workers,
-            states,
-            &jobs,
-            coming,
-            host.gate,
-        )
+        let workers = &mut self.workers;
+        serve_jobs(host, &mut self.teller, workers, states, &jobs, coming)
     }
 
     /// Ends the workers. It may wait for them.

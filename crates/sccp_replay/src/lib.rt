@@ -8,13 +8,14 @@
 
 mod alone;
 mod batch;
+mod batch_end;
 mod crew;
 mod gathered;
-mod host;
 mod incoming;
 mod joined;
 mod later_lines;
 mod laws;
+mod progress;
 mod replayer;
 mod replaying;
 mod router;
@@ -25,7 +26,7 @@ mod tell;
 mod tracing;
 mod workers;
 
-pub use host::Host;
 pub use laws::fenced_replays_are_those_of_one_worker;
+pub use live_plan::Host;
 pub use replaying::replay;
 pub use workers::Workers;

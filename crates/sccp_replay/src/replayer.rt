@@ -11,11 +11,10 @@ ghost use Rattle.sccp_replay.specs.Replayers.{IsStanding, MayBeRouted, RoutesBat
 ghost use Rattle.sccp_replay.specs.Routers.{routing_of};
 ghost use Rattle.sccp_replay.specs.Routings.{ArePlans, AtMostOneMore, HasRoom, ahead, standing};
 
-use crate::host::Host;
 use crate::incoming::Incoming;
 use crate::router::Router;
 use crate::settled::Settled;
-use live_plan::Gate;
+use live_plan::{Gate, Host};
 use plan_check::Accepted;
 use plan_model::{Limits, Plan};
 use relay_net::{Journey, Net, Outcome, Served};

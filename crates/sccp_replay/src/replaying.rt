@@ -6,12 +6,11 @@ ghost use Rattle.sccp_replay.specs.Replay.{replay_work, start, trace_work};
 ghost use Rattle.sccp_replay.specs.Trace.{trace_of};
 ghost use Rattle.sccp_work.specs.Work.{print, read};
 
-use crate::host::Host;
 use crate::later_lines::first_plan_line;
 use crate::replayer::Replayer;
 use crate::tracing::replay_trace;
 use crate::workers::Workers;
-use live_plan::Gate;
+use live_plan::{Gate, Host};
 use plan_check::Accepted;
 use sccp_io::{Files, Sink};
 use sccp_work::{PlanPath, Status, Stop, if_accepted, put_all, with_plan};

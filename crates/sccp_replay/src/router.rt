@@ -7,9 +7,8 @@ ghost use Rattle.sccp_replay.specs.Routings.{ArePlans, IsRouting, ahead, routing
 
 use crate::alone::Alone;
 use crate::crew::Crew;
-use crate::host::Host;
 use crate::settled::Settled;
-use live_plan::Gate;
+use live_plan::{Gate, Host};
 use plan_check::Accepted;
 use relay_net::{NodeState, Served};
 use sccp_base::{List, OutOfMemory};

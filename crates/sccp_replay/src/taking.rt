@@ -9,12 +9,12 @@ ghost use Rattle.sccp_replay.specs.Replay.{done_alone};
 ghost use Rattle.sccp_replay.specs.Settling.{TakesLine, TakesLines, WritesBatch, Gathers, StandsAlone, IsPlaced};
 
 use crate::batch::batch_text;
+use crate::batch_end::BatchEnd;
 use crate::gathered::Gathered;
-use crate::host::Host;
 use crate::incoming::Incoming;
 use crate::joined::{Joined, Joining};
 use crate::replayer::Replayer;
-use live_plan::Gate;
+use live_plan::{Gate, Host};
 use sccp_base::{List, Octets, OutOfMemory};
 use sccp_io::{Files, Sink};
 use sccp_report::{Due, Role, Text, put_event, role_of};
@@ -77,14 +77,14 @@ fn alone_text(
     alloc: Global,
     at: &mut Replayer,
     mut text: Text,
-    line: &Numbered,
-    due: Option<Due>,
+    ends: BatchEnd<'_>,
 ) -> Result<Octets, OutOfMemory>
-    requires { StandsIn at.old.first (alone (option_map as_due due)) }
-    ensures at { OnOk result (at.new ≡ record at.old { states = (done_alone at.old (option_map as_due due)).states }) }
-    ensures text { IfOk result (λ whole. whole ≡ text ++ event_text at.old.first line.now
-        (done_alone at.old (option_map as_due due)).outcomes) }
+    requires { StandsIn at.old.first (alone (option_map as_due ends.due)) }
+    ensures at { OnOk result (at.new ≡ record at.old { states = (done_alone at.old (option_map as_due ends.entry.due)).states }) }
+    ensures text { IfOk result (λ whole. whole ≡ text ++ event_text at.old.first ends.entry.line.now
+        (done_alone at.old (option_map as_due ends.entry.due)).outcomes) }
 {
+    let BatchEnd { line, due } = ends;
     let outcomes = at.apply_alone(due)?;
     let told = put_event(alloc, &mut text, at.first(), line, &outcomes);
     drop(outcomes);
@@ -98,14 +98,13 @@ fn stand_alone<R: Threads + Wait + Sync, G: Gate + Sync, F: Files, K: Sink>(
     host: &Host<'_, R, G>,
     at: &mut Replayer,
     batch: &mut Gathered,
-    line: &Numbered,
-    due: Option<Due>,
+    ends: BatchEnd<'_>,
     files: &mut F,
     out: &mut K,
 ) -> Result<(), Stop>
     requires joined { MayBeDone at.old batch.old }
-    requires stands { StandsIn at.old.first (alone (option_map as_due due)) }
-    ensures gives { StandsAlone at.old (lines_in batch.old) line.now (option_map as_due due) result at.new
+    requires stands { StandsIn at.old.first (alone (option_map as_due ends.due)) }
+    ensures gives { StandsAlone at.old (lines_in batch.old) ends.entry.line.now (option_map as_due ends.entry.due) result at.new
         (moment F.contents F.sound F.faults K.taken K.faults files.old out.old)
         (moment F.contents F.sound F.faults K.taken K.faults files.new out.new) }
     ensures none { OnOk result (batch.new ≡ []) }
@@ -114,11 +113,11 @@ fn stand_alone<R: Threads + Wait + Sync, G: Gate + Sync, F: Files, K: Sink>(
 {
     match batch_text(host, at, batch.take(host.alloc), files, out) {
         Ok(text) => {
-            let whole = alone_text(host.alloc, at, text, line, due)?;
+            let whole = alone_text(host.alloc, at, text, ends)?;
             put_all(out, whole.as_slice())
         }
         Err(stop) => {
-            drop(due);
+            drop(ends);
             Err(stop)
         }
     }
@@ -171,7 +170,10 @@ fn take_kept<R: Threads + Wait + Sync, G: Gate + Sync, F: Files, K: Sink>(
     ensures left { F.left files.new ≡ F.left files.old }
 {
     match place_of(host.alloc, at, &line)? {
-        Place::Alone(due) => stand_alone(host, at, batch, &line, due, files, out),
+        Place::Alone(due) => {
+            let ends = BatchEnd { line: &line, due };
+            stand_alone(host, at, batch, ends, files, out)
+        }
         Place::Joins(joining) => {
             let one = Joined { line, joining };
             gather(host, at, batch, one, files, out)

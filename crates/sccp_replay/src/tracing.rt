@@ -1,7 +1,8 @@
 //! A trace that is read and replayed in pieces.
 ghost use Rattle.std.specs.Prelude.{◌≡◌, ◌+◌, ◌≤◌, ◌++◌, [], length, IfOk, OnOk};
 ghost use Rattle.sccp_work.specs.Ending.{Works};
-ghost use Rattle.sccp_replay.specs.Gathering.{IsCounted, MayBeDone, lines_in};
+ghost use Rattle.sccp_replay.specs.Gathering.{MayBeDone, lines_in};
+ghost use Rattle.sccp_replay.specs.Progress.{IsCounted};
 ghost use Rattle.sccp_work.specs.Moment.{moment};
 ghost use Rattle.sccp_replay.specs.Replay.{closing_of, end_line, lines_work, trace_work};
 ghost use Rattle.sccp_replay.specs.Replaying.{IsFed, rest_work};
@@ -11,10 +12,10 @@ ghost use Rattle.sccp_work.specs.Work.{read};
 
 use crate::batch::batch_text;
 use crate::gathered::Gathered;
-use crate::host::Host;
+use crate::progress::Progress;
 use crate::replayer::Replayer;
 use crate::taking::take_lines;
-use live_plan::Gate;
+use live_plan::{Gate, Host};
 use sccp_base::{List, OutOfMemory};
 use sccp_io::{Files, Sink};
 use sccp_report::Text;
@@ -65,19 +66,18 @@ fn put_closing(
 fn write_last<R: Threads + Wait + Sync, G: Gate + Sync, F: Files, K: Sink>(
     host: &Host<'_, R, G>,
     at: &mut Replayer,
-    batch: &mut Gathered,
-    count: usize,
+    progress: &mut Progress,
     fault: Option<LineFault>,
     files: &mut F,
     out: &mut K,
 ) -> Result<Status, Stop>
-    requires joined { MayBeDone at.old batch.old }
-    ensures { Works (lines_work (closing_of count fault) at.old (lines_in batch.old) []) result
+    requires joined { MayBeDone at.old progress.old.batch }
+    ensures { Works (lines_work (closing_of progress.old.count fault) at.old (lines_in progress.old.batch) []) result
         (moment F.contents F.sound F.faults K.taken K.faults files.old out.old)
         (moment F.contents F.sound F.faults K.taken K.faults files.new out.new) }
 {
-    let mut text = batch_text(host, at, batch.take(host.alloc), files, out)?;
-    let status = put_closing(host.alloc, &mut text, count, fault)?;
+    let mut text = batch_text(host, at, progress.batch.take(host.alloc), files, out)?;
+    let status = put_closing(host.alloc, &mut text, progress.count, fault)?;
     print_last(out, text.into_octets().as_slice(), status)
 }
 
@@ -86,24 +86,24 @@ fn write_last<R: Threads + Wait + Sync, G: Gate + Sync, F: Files, K: Sink>(
 fn take_told<R: Threads + Wait + Sync, G: Gate + Sync, F: Files, K: Sink>(
     host: &Host<'_, R, G>,
     at: &mut Replayer,
-    batch: &mut Gathered,
-    count: usize,
+    progress: &mut Progress,
     lines: List<Numbered>,
     files: &mut F,
     out: &mut K,
-) -> Result<usize, Stop>
-    requires begun { IsCounted count at.old batch.old }
-    requires few { count + length lines ≤ 1000000 }
-    ensures takes { TakesLines at.old (lines_in batch.old) lines result at.new (lines_in batch.new)
+) -> Result<(), Stop>
+    requires begun { IsCounted at.old progress.old }
+    requires few { progress.old.count + length lines ≤ 1000000 }
+    ensures takes { TakesLines at.old (lines_in progress.old.batch) lines result at.new (lines_in progress.new.batch)
         (moment F.contents F.sound F.faults K.taken K.faults files.old out.old)
         (moment F.contents F.sound F.faults K.taken K.faults files.new out.new) }
-    ensures count { IfOk result (λ n. n ≡ count + length lines) }
-    ensures begun { IfOk result (λ n. IsCounted n at.new batch.new) }
+    ensures count { OnOk result (progress.new.count ≡ progress.old.count + length lines) }
+    ensures begun { OnOk result (IsCounted at.new progress.new) }
     ensures left { F.left files.new ≡ F.left files.old }
 {
-    let more = count + lines.as_slice().len();
-    take_lines(host, at, batch, lines, files, out)?;
-    Ok(more)
+    let more = lines.as_slice().len();
+    take_lines(host, at, &mut progress.batch, lines, files, out)?;
+    progress.count += more;
+    Ok(())
 }
 
 /// Takes the end of the trace: its last line, if no line feed ends it, and what is written then.
@@ -111,21 +111,20 @@ fn take_told<R: Threads + Wait + Sync, G: Gate + Sync, F: Files, K: Sink>(
 fn take_end<R: Threads + Wait + Sync, G: Gate + Sync, F: Files, K: Sink>(
     host: &Host<'_, R, G>,
     at: &mut Replayer,
-    batch: &mut Gathered,
+    progress: &mut Progress,
     reader: &mut Reader,
-    count: usize,
     files: &mut F,
     out: &mut K,
 ) -> Result<Status, Stop>
-    requires begun { IsCounted count at.old batch.old }
-    requires fed { IsFed reader.old count 0 }
-    ensures { Works (rest_work count at.old (lines_in batch.old) [] reader.old []) result
+    requires begun { IsCounted at.old progress.old }
+    requires fed { IsFed reader.old progress.old.count 0 }
+    ensures { Works (rest_work progress.old.count at.old (lines_in progress.old.batch) [] reader.old []) result
         (moment F.contents F.sound F.faults K.taken K.faults files.old out.old)
         (moment F.contents F.sound F.faults K.taken K.faults files.new out.new) }
 {
     let fed = reader.finish()?;
-    let count = take_told(host, at, batch, count, fed.lines, files, out)?;
-    write_last(host, at, batch, count, fed.fault, files, out)
+    take_told(host, at, progress, fed.lines, files, out)?;
+    write_last(host, at, progress, fed.fault, files, out)
 }
 
 /// Replays the trace of a file: its lines in batches, each written as soon as it is done. No later plan was accepted yet.
@@ -145,8 +144,8 @@ pub fn replay_trace<R: Threads + Wait + Sync, G: Gate + Sync, F: Files, K: Sink>
         return Err(stopped(fault));
     }
     let mut reader = Reader::new(host.alloc);
-    let mut batch = Gathered::new(host.alloc);
-    let mut count = 0;
+    let batch = Gathered::new(host.alloc);
+    let mut progress = Progress { batch, count: 0 };
     let mut piece = [0u8; PIECE];
     for _turn in 0..MOST_PIECES {
         let taken = match files.take(&mut piece) {
@@ -154,12 +153,12 @@ pub fn replay_trace<R: Threads + Wait + Sync, G: Gate + Sync, F: Files, K: Sink>
             Err(fault) => return Err(stopped(fault)),
         };
         if taken == 0 {
-            return take_end(host, at, &mut batch, &mut reader, count, files, out);
+            return take_end(host, at, &mut progress, &mut reader, files, out);
         }
         let fed = reader.feed(&piece[..taken])?;
-        count = take_told(host, at, &mut batch, count, fed.lines, files, out)?;
+        take_told(host, at, &mut progress, fed.lines, files, out)?;
         if fed.fault.is_some() {
-            return write_last(host, at, &mut batch, count, fed.fault, files, out);
+            return write_last(host, at, &mut progress, fed.fault, files, out);
         }
     }
     unreachable!()

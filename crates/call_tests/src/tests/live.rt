@@ -7,7 +7,9 @@ ghost use Rattle.live_plan.specs.Tellers.{plans_of};
 
 use super::plans::plan_of;
 use super::workers::Meeting;
-use live_plan::{Entry, Gate, ListPlace, Live, LivePlace, OpenGate, Teller, Worker, run_batch};
+use live_plan::{
+    Entry, Gate, Host, ListPlace, Live, LivePlace, OpenGate, Teller, Worker, run_batch,
+};
 use plan_check::Accepted;
 use plan_verify::{Verdict, verify};
 use relay_net::{End, Job, Net, NodeState, Served};
@@ -259,7 +261,8 @@ fn serve_four<R: Threads + Wait + Sync, G: Gate + Sync>(
     let net = states(alloc)?;
     let jobs = jobs(alloc)?;
     let states = net.states();
-    Ok(run_batch(rt, alloc, teller, workers, states, &jobs, plans, gate)?)
+    let host = Host { rt, gate, alloc };
+    Ok(run_batch(&host, teller, workers, states, &jobs, plans)?)
 }
 
 /// Two workers serve four jobs, while the second plan is published.

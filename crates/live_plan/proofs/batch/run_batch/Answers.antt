@@ -17,7 +17,7 @@ pub returns-clause-served : goal.returns-clause-served
 returns-clause-served g c =
     let plans = plans_of c.serve_batch.new.teller in
     let states = c.args.states.now in
-    let same : c.as_mut_slice.result.now ≡ c.args.workers.now = c.as_mut_slice.ensures.value in
+    let same : c.as_mut_slice-workers.result.now ≡ c.args.workers.now = c.as_mut_slice-workers.ensures.value in
     let told : c.as_slice-jobs.result.now ≡ c.args.jobs.now = c.as_slice-jobs.ensures in
     let before : plans_of c.begin.new.self ≡ plans_of c.args.teller.now = c.begin.ensures.plans in
     subst (λ (l : List Verified). IfOk c.serve_batch.result
@@ -31,7 +31,7 @@ pub returns-clause-counted : goal.returns-clause-counted
 returns-clause-counted g c =
     let before = c.args.workers.now in
     let after = c.serve_batch.new.workers in
-    let same : c.as_mut_slice.result.now ≡ before = c.as_mut_slice.ensures.value in
+    let same : c.as_mut_slice-workers.result.now ≡ before = c.as_mut_slice-workers.ensures.value in
     let told : c.as_slice-jobs.result.now ≡ c.args.jobs.now = c.as_slice-jobs.ensures in
     let back : take (length before) (after ++ drop (length after) before) ≡ after =
     whole_back before after (c.serve_batch.ensures.lasts.long ∙ ap length same) in
@@ -44,7 +44,7 @@ pub returns-clause-follows : goal.returns-clause-follows
 returns-clause-follows g c =
     let before = c.args.workers.now in
     let after = c.serve_batch.new.workers in
-    let same : c.as_mut_slice.result.now ≡ before = c.as_mut_slice.ensures.value in
+    let same : c.as_mut_slice-workers.result.now ≡ before = c.as_mut_slice-workers.ensures.value in
     let back : take (length before) (after ++ drop (length after) before) ≡ after =
     whole_back before after (c.serve_batch.ensures.lasts.long ∙ ap length same) in
     if_ok _ _ c.serve_batch.result (λ answers h i d lt.
@@ -56,7 +56,7 @@ returns-clause-lasts g c =
     let before = c.args.workers.now in
     let after = c.serve_batch.new.workers in
     let plans : plans_of c.begin.new.self ≡ plans_of c.args.teller.now = c.begin.ensures.plans in
-    let same : c.as_mut_slice.result.now ≡ before = c.as_mut_slice.ensures.value in
+    let same : c.as_mut_slice-workers.result.now ≡ before = c.as_mut_slice-workers.ensures.value in
     let back : take (length before) (after ++ drop (length after) before) ≡ after =
     whole_back before after (c.serve_batch.ensures.lasts.long ∙ ap length same) in
     let lasts = subst (λ (ws : List _). AllPairs (Lasts (length (plans_of c.begin.new.self))) ws after) same c.serve_batch.ensures.lasts in
@@ -77,10 +77,11 @@ returns-clause-sees g c =
     let after = c.serve_batch.new.workers in
     let plans : plans_of c.begin.new.self ≡ plans_of c.args.teller.now = c.begin.ensures.plans in
     let published = plans_of c.serve_batch.new.teller in
-    let same : c.as_mut_slice.result.now ≡ before = c.as_mut_slice.ensures.value in
+    let same : c.as_mut_slice-workers.result.now ≡ before = c.as_mut_slice-workers.ensures.value in
     let back : take (length before) (after ++ drop (length after) before) ≡ after =
     whole_back before after (c.serve_batch.ensures.lasts.long ∙ ap length same) in
-    let sees = subst (λ (ws : List _). AllPairs (SeesMore (plans_of c.begin.new.self) published) ws after) same c.serve_batch.ensures.sees in
+    let sees = subst (λ (ws : List _). AllPairs (SeesMore
+    (plans_of c.begin.new.self) published) ws after) same c.serve_batch.ensures.sees in
     subst (λ (ws : List _). AllPairs (SeesMore (plans_of c.args.teller.now) published) before ws) (sym back)
     (subst (λ (l : List Verified). AllPairs (SeesMore l published) before after) plans sees)
 

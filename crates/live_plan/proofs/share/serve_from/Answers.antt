@@ -10,8 +10,8 @@ use Rattle.live_plan.proofs.share.serve_from.Goals as goal
 pub serve-requires-clause-entry : goal.serve-requires-clause-entry
 serve-requires-clause-entry g c =
     let l = c.loop-at.invariant.1.lasts 0 in
-    rw l.nodes (subst (λ (j : Job). j.entry < g.P.Place.nodes c.args.worker.now.place) (sym c.index-jobs-at.is)
-    (c.requires.entries c.loop-at.at c.index-jobs-at.result c.loop-at-test.true))
+    rw (l.nodes ∙ sym c.requires.states) (subst (λ (j : Job). j.entry < length c.args.batch.now.states.now) (sym c.index-jobs-at.is)
+    (c.args.batch.now.enter c.loop-at.at c.index-jobs-at.result c.loop-at-test.true))
 
 pub serve-requires-clause-states : goal.serve-requires-clause-states
 serve-requires-clause-states g c = let l = c.loop-at.invariant.1.lasts 0 in c.requires.states ∙ sym l.nodes
@@ -46,7 +46,7 @@ loop-at-preserved g c =
     let served : Served = c.in_ok-served.served in
     let longer : c.push_back.new.self.items ≡ answers ++ served ∷ [] = search rules in
     let job : Job = c.index-jobs-at.result in
-    let here : slice_get c.args.jobs.now c.loop-at.at ≡ Some job = get_here _ _ _ c.loop-at-test.true c.index-jobs-at.is in
+    let here : slice_get c.args.batch.now.jobs.now c.loop-at.at ≡ Some job = get_here _ _ _ c.loop-at-test.true c.index-jobs-at.is in
     let number : served.number ≡ now.kept.number = c.in_ok-served.ensures.number in
     let le : before.kept.number ≤ served.number = rw number s.rises in (
       (ap (λ n. n + c.args.count) c.loop-at.invariant.0 ∙ sym (ap (λ l. length l * c.args.count + c.args.share) longer
@@ -55,13 +55,13 @@ loop-at-preserved g c =
       (λ lt. counts_last c.args.worker.now before now c.loop-at.invariant.1 s.entered),
       (λ plans f.
           let mine : Follows plans now = one.follows plans (c.loop-at.invariant.1.follows plans f) in
-          let is : IsServed plans c.args.states.now job served =
+          let is : IsServed plans c.args.batch.now.states.now job served =
           record { plan = entry_plan now.kept; has = rw number mine.has; journey = c.in_ok-served.ensures.journey } in
-          let more = share_more plans c.args.states.now c.args.jobs.now c.args.count c.args.share c.args.worker.now.kept.number
+          let more = share_more plans c.args.batch.now c.args.count c.args.share c.args.worker.now.kept.number
           before.kept.number answers served job (c.loop-at.invariant.3 plans f) c.loop-at.invariant.1.rises le
-          (subst (λ i. slice_get c.args.jobs.now i ≡ Some job) c.loop-at.invariant.0 here) is in
-          subst (λ n. IsShare plans c.args.states.now c.args.jobs.now c.args.count c.args.share c.args.worker.now.kept.number n
+          (subst (λ i. slice_get c.args.batch.now.jobs.now i ≡ Some job) c.loop-at.invariant.0 here) is in
+          subst (λ n. IsShare plans c.args.batch.now c.args.count c.args.share c.args.worker.now.kept.number n
           c.push_back.new.self.items) number
-          (subst (λ l. IsShare plans c.args.states.now c.args.jobs.now c.args.count c.args.share c.args.worker.now.kept.number served.number
+          (subst (λ l. IsShare plans c.args.batch.now c.args.count c.args.share c.args.worker.now.kept.number served.number
           l) (sym longer) more)),
     )

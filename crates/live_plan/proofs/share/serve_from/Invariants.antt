@@ -7,7 +7,7 @@ abbrev pub invariant-loop-at : goal.invariant-loop-at
 invariant-loop-at g l =
     (l.at ≡ length l.answers.items * l.count + l.share) × GoesOn l.fn.worker l.worker × (l.fn.share < l.at → Counted l.fn.worker l.worker)
     × ((plans : List Verified) → Follows plans l.fn.worker
-    → IsShare plans l.states l.jobs l.count l.share l.fn.worker.kept.number l.worker.kept.number l.answers.items)
+    → IsShare plans l.batch l.count l.share l.fn.worker.kept.number l.worker.kept.number l.answers.items)
 
 abbrev pub decreases-loop-at : goal.decreases-loop-at
-decreases-loop-at g l = length l.jobs - l.at
+decreases-loop-at g l = length l.batch.jobs.now - l.at

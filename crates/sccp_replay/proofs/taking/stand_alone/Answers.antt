@@ -19,7 +19,7 @@ returns-in_err-whole-in-Ok-clause-gives g c =
     c.batch_text.new.out in
     rw (p.1, p.2) (λ next. batch_memory c.args.at.now c.batch_text.new.at (lines_in c.args.batch.now) c.in-Ok.text b m
     (subst (λ l. BatchGives c.args.at.now (lines_in l) c.batch_text.new.at c.in-Ok.text b m) c.take.ensures.gives c.in-Ok.ensures.gives)
-    (alone_work c.args.line.now (option_map as_due c.args.due) next))
+    (alone_work c.args.ends.line.now (option_map as_due c.args.ends.due) next))
 
 pub returns-in_ok-whole-in-Ok-clause-gives : goal.returns-in_ok-whole-in-Ok-clause-gives
 returns-in_ok-whole-in-Ok-clause-gives g c =
@@ -29,9 +29,9 @@ returns-in_ok-whole-in-Ok-clause-gives g c =
     c.batch_text.new.out in
     let a : Moment = moment g.F.Files.contents g.F.Files.sound g.F.Files.faults g.K.Sink.taken g.K.Sink.faults c.batch_text.new.files
     c.put_all.new.out in
-    let d : Option Due = option_map as_due c.args.due in
+    let d : Option Due = option_map as_due c.args.ends.due in
     alone_written c.args.at.now c.batch_text.new.at c.alone_text.new.at
-    (lines_in c.args.batch.now) c.args.line.now d c.in-Ok.text c.as_slice.result.now c.put_all.result b m a
+    (lines_in c.args.batch.now) c.args.ends.line.now d c.in-Ok.text c.as_slice.result.now c.put_all.result b m a
     (subst (λ l. BatchGives c.args.at.now (lines_in l) c.batch_text.new.at c.in-Ok.text b m) c.take.ensures.gives c.in-Ok.ensures.gives)
     (c.as_slice.ensures ∙ c.in_ok-whole-in-Ok.ensures.text)
     c.in_ok-whole-in-Ok.ensures.at c.put_all.ensures

@@ -37,7 +37,7 @@ loop-turn-init g c =
           (g.F.Files.left c.begin.new.self) b m e.begins
           (record { contents = e.contents; sound = e.soundness; taken = refl; write_faults = refl })
           (ap lines_in c.new-batch.ensures) c.new-reader.ensures.start;
-      begun = none_counted c.args.at.now c.new-batch.result c.requires.none c.new-batch.ensures;
+      begun = none_counted c.args.at.now _ c.requires.none c.new-batch.ensures;
       fed = nothing_fed c.new-reader.result c.new-reader.ensures.text;
     }
 
@@ -51,8 +51,8 @@ returns-in-Err-take g c =
     let a : Moment = moment g.F.Files.contents g.F.Files.sound g.F.Files.faults g.K.Sink.taken g.K.Sink.faults c.take.new.self
     c.loop-turn.out in
     let e = c.in-Err-take.ensures in
-    take_fails work c.loop-turn.count c.loop-turn.at
-    (lines_in c.loop-turn.batch) c.loop-turn.reader c.in-Err-take.fault c.stopped-in-Err-take.result c.take.new.buffer
+    take_fails work c.loop-turn.progress.count c.loop-turn.at
+    (lines_in c.loop-turn.progress.batch) c.loop-turn.reader c.in-Err-take.fault c.stopped-in-Err-take.result c.take.new.buffer
     (g.F.Files.left c.loop-turn.files) (g.F.Files.left c.take.new.self) b m a
     c.loop-turn.invariant.goes e.takes
     (record { contents = e.contents; sound = e.soundness; taken = refl; write_faults = refl }) c.stopped-in-Err-take.ensures
@@ -70,7 +70,8 @@ returns-then-taken-eq0 g c =
     c.take_end.new.out in
     let e = c.in-Ok.ensures in
     let none : c.in-Ok.taken ≡ 0 = omega (arith, c.if-taken-eq0.true) in
-    end_found work c.loop-turn.count c.loop-turn.at (lines_in c.loop-turn.batch) c.loop-turn.reader c.in-Ok.taken c.take.new.buffer
+    end_found work c.loop-turn.progress.count c.loop-turn.at
+    (lines_in c.loop-turn.progress.batch) c.loop-turn.reader c.in-Ok.taken c.take.new.buffer
     (g.F.Files.left c.loop-turn.files) (g.F.Files.left c.take.new.self) c.take_end.result b m a z
     c.loop-turn.invariant.goes e.takes none
     (record { contents = e.contents; sound = e.soundness; taken = refl; write_faults = refl }) c.take_end.ensures
@@ -86,29 +87,30 @@ returns-in_err-fed g c =
     let a : Moment = moment g.F.Files.contents g.F.Files.sound g.F.Files.faults g.K.Sink.taken g.K.Sink.faults c.take.new.self
     c.loop-turn.out in
     let e = c.in-Ok.ensures in
-    rw (p.1, p.2) (take_memory work c.loop-turn.count c.loop-turn.at
-    (lines_in c.loop-turn.batch) c.loop-turn.reader c.in-Ok.taken c.take.new.buffer (g.F.Files.left c.loop-turn.files)
+    rw (p.1, p.2) (take_memory work c.loop-turn.progress.count c.loop-turn.at
+    (lines_in c.loop-turn.progress.batch) c.loop-turn.reader c.in-Ok.taken c.take.new.buffer (g.F.Files.left c.loop-turn.files)
     (g.F.Files.left c.take.new.self) b m a
     c.loop-turn.invariant.goes e.takes (record { contents = e.contents; sound = e.soundness; taken = refl; write_faults = refl }))
 
 pub take_end-requires-clause-fed : goal.take_end-requires-clause-fed
-take_end-requires-clause-fed g c κs within = any_fed c.loop-turn.reader c.loop-turn.count c.loop-turn._turn c.loop-turn.invariant.fed
+take_end-requires-clause-fed g c κs within =
+    any_fed c.loop-turn.reader c.loop-turn.progress.count c.loop-turn._turn c.loop-turn.invariant.fed
 
 pub take_told-requires-clause-few : goal.take_told-requires-clause-few
 take_told-requires-clause-few g c κs within =
-    few_fed c.loop-turn.reader c.feed.new.self c.loop-turn.count c.loop-turn._turn
+    few_fed c.loop-turn.reader c.feed.new.self c.loop-turn.progress.count c.loop-turn._turn
     (take c.in-Ok.taken c.take.new.buffer) c.in_ok-fed.fed c.loop-turn.invariant.fed c.in_ok-fed.ensures.text
 
 pub write_last-requires-clause-joined : goal.write_last-requires-clause-joined
 write_last-requires-clause-joined g c κs within =
-    let counted = c.in_ok-count.ensures.count in
-    let few = few_fed c.loop-turn.reader c.feed.new.self c.loop-turn.count c.loop-turn._turn
+    let counted = c.in_ok-take_told.ensures.count in
+    let few = few_fed c.loop-turn.reader c.feed.new.self c.loop-turn.progress.count c.loop-turn._turn
     (take c.in-Ok.taken c.take.new.buffer) c.in_ok-fed.fed c.loop-turn.invariant.fed c.in_ok-fed.ensures.text in
-    counted_done c.in_ok-count.count c.take_told.new.at c.take_told.new.batch c.in_ok-count.ensures.begun (omega (arith, counted, few))
+    counted_done c.take_told.new.at c.take_told.new.progress c.in_ok-take_told.ensures.begun (omega (arith, counted, few))
 
-pub returns-in_err-count : goal.returns-in_err-count
-returns-in_err-count g c =
-    let p = err_from_is_err_and c.from_residual-in_err-count.result c.from_residual-in_err-count.ensures.1 in
+pub returns-in_err-take_told : goal.returns-in_err-take_told
+returns-in_err-take_told g c =
+    let p = err_from_is_err_and c.from_residual-in_err-take_told.result c.from_residual-in_err-take_told.ensures.1 in
     let work : Work = read c.args.name.now (λ octets. trace_work c.args.at.now (trace_of octets)) in
     let b : Moment = moment g.F.Files.contents g.F.Files.sound g.F.Files.faults g.K.Sink.taken g.K.Sink.faults c.args.files.now
     c.args.out.now in
@@ -120,14 +122,15 @@ returns-in_err-count g c =
     c.take_told.new.out in
     let e = c.in-Ok.ensures in
     let lines : List Numbered = c.in_ok-fed.fed.lines in
-    let fed = piece_fed work c.loop-turn.count c.loop-turn.at
-    (lines_in c.loop-turn.batch) c.loop-turn.reader c.feed.new.self c.in-Ok.taken c.take.new.buffer
+    let fed = piece_fed work c.loop-turn.progress.count c.loop-turn.at
+    (lines_in c.loop-turn.progress.batch) c.loop-turn.reader c.feed.new.self c.in-Ok.taken c.take.new.buffer
     (take c.in-Ok.taken c.take.new.buffer) lines (g.F.Files.left c.loop-turn.files) (g.F.Files.left c.take.new.self) b m a
     c.loop-turn.invariant.goes e.takes refl c.in_ok-fed.ensures.goes_on
     (record { contents = e.contents; sound = e.soundness; taken = refl; write_faults = refl }) in
-    rw (p.1, p.2) (told_stopped work (c.loop-turn.count + length lines) c.loop-turn.at c.take_told.new.at (lines_in c.loop-turn.batch)
-    (lines_in c.take_told.new.batch) lines c.feed.new.self
-    (g.F.Files.left c.take.new.self) c.in_err-count.field-0.0 b a z fed c.in_err-count.ensures.takes)
+    rw (p.1, p.2) (told_stopped work (c.loop-turn.progress.count + length lines) c.loop-turn.at c.take_told.new.at
+    (lines_in c.loop-turn.progress.batch)
+    (lines_in c.take_told.new.progress.batch) lines c.feed.new.self
+    (g.F.Files.left c.take.new.self) c.in_err-take_told.field-0.0 b a z fed c.in_err-take_told.ensures.takes)
 
 pub returns-then-is_some : goal.returns-then-is_some
 returns-then-is_some g c =
@@ -144,17 +147,19 @@ returns-then-is_some g c =
     c.write_last.new.out in
     let e = c.in-Ok.ensures in
     let lines : List Numbered = c.in_ok-fed.fed.lines in
-    let n = c.in_ok-count.count in
-    let fed = piece_fed work c.loop-turn.count c.loop-turn.at
-    (lines_in c.loop-turn.batch) c.loop-turn.reader c.feed.new.self c.in-Ok.taken c.take.new.buffer
+    let n = c.take_told.new.progress.count in
+    let fed = piece_fed work c.loop-turn.progress.count c.loop-turn.at
+    (lines_in c.loop-turn.progress.batch) c.loop-turn.reader c.feed.new.self c.in-Ok.taken c.take.new.buffer
     (take c.in-Ok.taken c.take.new.buffer) lines (g.F.Files.left c.loop-turn.files) (g.F.Files.left c.take.new.self) b m a
     c.loop-turn.invariant.goes e.takes refl c.in_ok-fed.ensures.goes_on
     (record { contents = e.contents; sound = e.soundness; taken = refl; write_faults = refl }) in
-    let told = told_taken work (c.loop-turn.count + length lines) c.loop-turn.at c.take_told.new.at (lines_in c.loop-turn.batch)
-    (lines_in c.take_told.new.batch) lines c.feed.new.self (g.F.Files.left c.take.new.self) n b a z fed c.in_ok-count.ensures.takes in
-    let goes = subst (λ k. GoesOn work k c.take_told.new.at (lines_in c.take_told.new.batch) [] c.feed.new.self
-    (g.F.Files.left c.take.new.self) b z) (sym c.in_ok-count.ensures.count) told in
-    fault_stands work n c.take_told.new.at (lines_in c.take_told.new.batch) c.feed.new.self
+    let told = told_taken work (c.loop-turn.progress.count + length lines) c.loop-turn.at c.take_told.new.at
+    (lines_in c.loop-turn.progress.batch)
+    (lines_in c.take_told.new.progress.batch) lines c.feed.new.self
+    (g.F.Files.left c.take.new.self) b a z fed c.in_ok-take_told.ensures.takes in
+    let goes = subst (λ k. GoesOn work k c.take_told.new.at (lines_in c.take_told.new.progress.batch) [] c.feed.new.self
+    (g.F.Files.left c.take.new.self) b z) (sym c.in_ok-take_told.ensures.count) told in
+    fault_stands work n c.take_told.new.at (lines_in c.take_told.new.progress.batch) c.feed.new.self
     (g.F.Files.left c.take.new.self) c.in_ok-fed.fed.fault c.write_last.result b z last goes c.if-is_some.ensures
     c.in_ok-fed.ensures.fault c.write_last.ensures
 
@@ -171,30 +176,32 @@ loop-turn-preserved g c =
     c.take_told.new.out in
     let e = c.in-Ok.ensures in
     let lines : List Numbered = c.in_ok-fed.fed.lines in
-    let fed = piece_fed work c.loop-turn.count c.loop-turn.at
-    (lines_in c.loop-turn.batch) c.loop-turn.reader c.feed.new.self c.in-Ok.taken c.take.new.buffer
+    let fed = piece_fed work c.loop-turn.progress.count c.loop-turn.at
+    (lines_in c.loop-turn.progress.batch) c.loop-turn.reader c.feed.new.self c.in-Ok.taken c.take.new.buffer
     (take c.in-Ok.taken c.take.new.buffer) lines (g.F.Files.left c.loop-turn.files) (g.F.Files.left c.take.new.self) b m a
     c.loop-turn.invariant.goes e.takes refl c.in_ok-fed.ensures.goes_on
     (record { contents = e.contents; sound = e.soundness; taken = refl; write_faults = refl }) in
-    let told = told_taken work (c.loop-turn.count + length lines) c.loop-turn.at c.take_told.new.at (lines_in c.loop-turn.batch)
-    (lines_in c.take_told.new.batch) lines c.feed.new.self
-    (g.F.Files.left c.take.new.self) c.in_ok-count.count b a z fed c.in_ok-count.ensures.takes in
+    let told = told_taken work (c.loop-turn.progress.count + length lines) c.loop-turn.at c.take_told.new.at
+    (lines_in c.loop-turn.progress.batch)
+    (lines_in c.take_told.new.progress.batch) lines c.feed.new.self
+    (g.F.Files.left c.take.new.self) b a z fed c.in_ok-take_told.ensures.takes in
     let piece : List ℕ = take c.in-Ok.taken c.take.new.buffer in
     let bound : c.in-Ok.taken ≤ length c.take.new.buffer = e.takes.bound in
     let not_none = c.if-taken-eq0.false in
     let some : 0 < length piece = omega (arith, length-take c.in-Ok.taken c.take.new.buffer, bound, not_none) in
     let none : c.in_ok-fed.fed.fault ≡ None = no_fault c.in_ok-fed.fed.fault c.if-is_some.ensures in
     record {
-      goes = subst (λ k. GoesOn work k c.take_told.new.at (lines_in c.take_told.new.batch) [] c.feed.new.self
-          (g.F.Files.left c.take_told.new.files) b z) (sym c.in_ok-count.ensures.count)
-          (subst (λ l. GoesOn work (c.loop-turn.count + length lines) c.take_told.new.at (lines_in c.take_told.new.batch)
-          [] c.feed.new.self l b z) (sym c.in_ok-count.ensures.left) told);
-      begun = c.in_ok-count.ensures.begun;
-      fed = fed_on c.loop-turn.reader c.feed.new.self c.loop-turn.count c.in_ok-count.count c.loop-turn._turn piece c.in_ok-fed.fed
-          c.loop-turn.invariant.fed c.in_ok-fed.ensures.text some none c.in_ok-count.ensures.count;
+      goes = subst (λ k. GoesOn work k c.take_told.new.at (lines_in c.take_told.new.progress.batch) [] c.feed.new.self
+          (g.F.Files.left c.take_told.new.files) b z) (sym c.in_ok-take_told.ensures.count)
+          (subst (λ l. GoesOn work (c.loop-turn.progress.count + length lines) c.take_told.new.at (lines_in c.take_told.new.progress.batch)
+          [] c.feed.new.self l b z) (sym c.in_ok-take_told.ensures.left) told);
+      begun = c.in_ok-take_told.ensures.begun;
+      fed = fed_on c.loop-turn.reader c.feed.new.self c.loop-turn.progress.count c.take_told.new.progress.count c.loop-turn._turn
+          piece c.in_ok-fed.fed
+          c.loop-turn.invariant.fed c.in_ok-fed.ensures.text some none c.in_ok-take_told.ensures.count;
     }
 
 pub unreachable-requires : goal.unreachable-requires
 unreachable-requires g c =
     let all = c.loop-turn-test.false in
-    absurd (omega (arith, all, fed_short c.loop-turn.reader c.loop-turn.count c.loop-turn._turn c.loop-turn.invariant.fed))
+    absurd (omega (arith, all, fed_short c.loop-turn.reader c.loop-turn.progress.count c.loop-turn._turn c.loop-turn.invariant.fed))

@@ -14,7 +14,7 @@ returns-in_err-status g c =
     let m : Moment = moment g.F.Files.contents g.F.Files.sound g.F.Files.faults g.K.Sink.taken g.K.Sink.faults c.batch_text.new.files
     c.batch_text.new.out in
     rw (p.1, p.2) (closing_memory c.args.at.now c.batch_text.new.at
-    (lines_in c.args.batch.now) c.in_ok-text.text c.args.count c.args.fault b m
+    (lines_in c.args.progress.now.batch) c.in_ok-text.text c.args.progress.now.count c.args.fault b m
     (subst (λ l. BatchGives c.args.at.now
     (lines_in l) c.batch_text.new.at c.in_ok-text.text b m) c.take.ensures.gives c.in_ok-text.ensures.gives))
 
@@ -27,7 +27,8 @@ returns g c =
     let a : Moment = moment g.F.Files.contents g.F.Files.sound g.F.Files.faults g.K.Sink.taken g.K.Sink.faults c.batch_text.new.files
     c.print_last.new.out in
     closing_written c.args.at.now c.batch_text.new.at
-    (lines_in c.args.batch.now) c.in_ok-text.text c.as_slice-2.result.now c.args.count c.args.fault c.in_ok-status.status
+    (lines_in c.args.progress.now.batch) c.in_ok-text.text c.as_slice-2.result.now c.args.progress.now.count c.args.fault
+    c.in_ok-status.status
     c.print_last.result b m a
     (subst (λ l. BatchGives c.args.at.now
     (lines_in l) c.batch_text.new.at c.in_ok-text.text b m) c.take.ensures.gives c.in_ok-text.ensures.gives)
