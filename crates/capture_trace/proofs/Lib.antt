@@ -5,5 +5,6 @@ mod LastLines
 mod Sound
 mod Forms
 mod ReadAgain
+mod FileOctets
 mod Numerals
 mod Fitting

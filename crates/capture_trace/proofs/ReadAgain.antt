@@ -1,7 +1,7 @@
 -- The lines of messages are read again as these messages.
-use Rattle.std.proofs.Common.{◌≡◌, ℕ, zero, suc, ◌+◌, ◌<◌, ◌≤◌, Bool, true, false, cond, List, [], ◌∷◌, ◌++◌, length, map, Option, Some}
-use Rattle.std.proofs.Common.{None, Result, Ok, Err, refl, sym, ◌∙◌, ap, subst, inl, inr, arith, IfOk}
-use Rattle.std.specs.Prelude.{◌==◌, ◌&&◌, not, nat_eq, nat_lt, nat_le, find, option_and_then}
+use Rattle.std.proofs.Common.{◌≡◌, ℕ, zero, suc, ◌+◌, Bool, true, false, cond, List, [], ◌∷◌, ◌++◌, length, map, Option, Some}
+use Rattle.std.proofs.Common.{None, Result, Ok, refl, sym, ◌∙◌, ap, subst, inl, inr, arith}
+use Rattle.std.specs.Prelude.{◌&&◌, not, nat_eq, nat_lt, nat_le, find, option_and_then}
 use Rattle.std.specs.List.{All, list_all, position, prefix_len}
 use Rattle.std.specs.Int.{w16, w32, to_be_bytes}
 use Rattle.std.specs.Cmp.Lexicographic.{pointwise, same_text}
@@ -10,14 +10,11 @@ use Rattle.std.proofs.lemmas.Bool.{eq-eqb, eqb-true, leb-true, and_parts}
 use Rattle.std.proofs.lemmas.List.Sums.{AllPass-from_list_all}
 use Rattle.hex.specs.Hex.{IsBytes}
 use Rattle.capture_file.specs.Packets.{Captured, Packet, Bad, Told}
-use Rattle.m3ua_trace.specs.Imported.{name_at, message_line}
 use Rattle.m3ua_trace.proofs.Messages.{line-again}
 use Rattle.m3ua_trace.proofs.Payloads.{carried_in}
 use Rattle.packet_layers.specs.Layers.{found_in, m2pa}
 use Rattle.packet_layers.specs.Places.{HasChunk, chunk_octets, header_octets, HasTransfer, IsIn}
 use Rattle.packet_layers.specs.Values.{Carried, Chunk, BadChunk, Signal, Bare, Unread, Other, DataChunk, Transferred, found_as}
-use Rattle.packet_layers.specs.declared.data.Data.{Data}
-use Rattle.packet_layers.specs.declared.transfer.Transfer.{Transfer}
 use Rattle.packet_layers.specs.declared.found.Found.{Found}
 use Rattle.packet_layers.specs.declared.found.Found.TheVariants as found
 use Rattle.packet_layers.proofs.InLinks.{answered, one_answered}
@@ -25,9 +22,8 @@ use Rattle.plan_model.specs.Network.{Network, IsPlan, has_name, has_point}
 use Rattle.plan_model.specs.declared.node.Node.{Node}
 use Rattle.sccp_base.proofs.Among.{Among, find-Some, same_of_pairs, same_bool}
 use Rattle.sccp_base.specs.Names.{IsName, is_name_octet, name_of}
-use Rattle.sccp_report.specs.Roles.{named}
 use Rattle.trace_text.specs.Forms.{line_of}
-use Rattle.capture_trace.specs.Forms.{IsMessage, IsReadAgain, IsReadLine, HasOctets}
+use Rattle.capture_trace.specs.Forms.{IsReadAgain, IsReadLine, HasOctets}
 use Rattle.capture_trace.specs.Traced.{lines_of}
 use Rattle.capture_trace.proofs.Sound.{SoundIn, IsKept, SoundPacket, All_map}
 use Rattle.capture_trace.proofs.Forms.{IsSound, IsLineOf, sound_forms}
@@ -109,7 +105,8 @@ found-again Other = refl
 
 all-again : (cs : List Carried) → map found_as (map as_found cs) ≡ cs
 all-again [] = refl
-all-again (c ∷ cs) = ap (λ (x : Carried). x ∷ map found_as (map as_found cs)) (found-again c) ∙ ap (λ (xs : List Carried). c ∷ xs) (all-again cs)
+all-again (c ∷ cs) = ap (λ (x : Carried). x ∷ map found_as (map as_found cs)) (found-again c)
+    ∙ ap (λ (xs : List Carried). c ∷ xs) (all-again cs)
 
 abbrev given : List Found → Result (List Found) ℕ
 given found = Ok found
@@ -172,7 +169,8 @@ record IsNamed (nodes : List Node) (pc : ℕ) (name : List ℕ) : Type 0 where
   called : node.name ≡ name
   is_name : IsName name
 
-named-node : (nodes : List Node) (pc : ℕ) (name : List ℕ) → option_and_then (λ node. name_of node.name) (find (has_point pc) nodes) ≡ Some name
+named-node : (nodes : List Node) (pc : ℕ) (name : List ℕ)
+    → option_and_then (λ node. name_of node.name) (find (has_point pc) nodes) ≡ Some name
     → IsNamed nodes pc name
 named-node nodes pc name e = by (find (has_point pc) nodes) refl e where
   by : (o : Option Node) → find (has_point pc) nodes ≡ o → option_and_then (λ node. name_of node.name) o ≡ Some name → IsNamed nodes pc name
@@ -192,7 +190,8 @@ same-node plan pc name is n x m =
     eq-eqb x.pc pc (ap (λ (y : Node). y.pc) same ∙ n.point))
     (λ e. let same : x ≡ n.node = same_of_pairs (λ a b. a.pc ≡ b.pc) x n.node plan.nodes (λ a b f. sym f) is.points m n.there
     (eqb-true x.pc pc e ∙ sym n.point) in
-    subst (λ (text : List ℕ). pointwise nat_eq x.name text ≡ true) (ap (λ (y : Node). y.name) same ∙ n.called) (nat_list_eq_equiv.refl x.name))
+    subst (λ (text : List ℕ). pointwise nat_eq x.name text ≡ true)
+    (ap (λ (y : Node). y.name) same ∙ n.called) (nat_list_eq_equiv.refl x.name))
 
 -- ---- a message
 

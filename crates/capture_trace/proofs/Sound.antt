@@ -1,6 +1,6 @@
 -- What holds of the octets of packets holds of the data of user messages.
-use Rattle.std.proofs.Common.{◌≡◌, ℕ, zero, suc, Bool, List, [], ◌∷◌, ◌++◌, length, Option, Some, None, Result, Ok, IfSome, ◌+◌}
-use Rattle.std.specs.Prelude.{◌&&◌, nat_lt, filter, find, drop, option_map, slice_get}
+use Rattle.std.proofs.Common.{◌≡◌, ℕ, zero, suc, Bool, List, [], ◌∷◌, ◌++◌, length, Option, Some, None, Ok, IfSome, ◌+◌}
+use Rattle.std.specs.Prelude.{◌&&◌, nat_lt, filter, find, drop, option_map}
 use Rattle.std.specs.List.{All, AllByRecursion}
 use Rattle.std.proofs.lemmas.Bool.{cond_both}
 use Rattle.std.proofs.lemmas.List.Elements.{All-nil, All-cons}
@@ -14,8 +14,8 @@ use Rattle.user_messages.specs.declared.given.Given.{Given}
 use Rattle.user_messages.specs.declared.given.Given.TheVariants.{Whole, Repeated, Waits}
 use Rattle.user_messages.specs.Chunks.{goes_on, key_of}
 use Rattle.user_messages.specs.UserMessages.{message_of}
-use Rattle.user_messages.specs.Gathering.{Received, Gathered, Outcome, chunks_of, has_key, follow, up_to, after, both_parts, run_of, giving}
-use Rattle.user_messages.specs.Gathering.{waits, joins, first_copy, is_repeat, keeping, noted, took}
+use Rattle.user_messages.specs.Gathering.{Received, Gathered, Outcome, chunks_of, follow, up_to, after, both_parts, run_of, giving}
+use Rattle.user_messages.specs.Gathering.{joins, first_copy, is_repeat, keeping, noted, took}
 
 -- what holds of everything holds of all of a list
 pub All_each : {X : Type 0} (P : X → Type 0) → ((x : X) → P x) → (xs : List X) → All P xs
