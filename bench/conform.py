@@ -1,11 +1,12 @@
 #!/usr/bin/env python3
 """Measures how fast the built program judges captured messages: messages a second, and the peak memory.
 
-Each text has DATA messages of M3UA with a UDT of 21 octets, as many as fit into a file that `conform` takes, and half and a quarter of
+Each text has DATA messages of M3UA with a UDT of 21 octets, as many as fit into a text that `conform` takes, and half and a quarter of
 them. In the first text each message for relay a is followed by what a sends because of it. In the others that is not so: nothing is
 sent, so all arrivals wait; the other relay of the plan got many messages before and sends nothing; no arrival has the data of what is
 sent; or all have the same data, and what is sent is none of theirs. The time for a message should not grow in the first text. In the
-others it may, with the number of arrivals that wait, of which there are at most 16,384. The last line is compared with what it has to be.
+others it may, with the number of arrivals that wait, of which there are at most 16,384. Last, messages as those of the first text are
+the packets of a capture, up to 200,000 of them. The last line is compared with what it has to be.
 
 Run it from anywhere: bench/conform.py [PROGRAM]. It builds nothing: run ./sccp --prove before.
 """
@@ -94,13 +95,24 @@ def alike(count):
     return [one for _ in range(count // 2) for one in (line(USER, A, TITLE, 1), line(A, ONE, OTHER, 1))], count // 2
 
 
-def measure(folder, lines, unexplained, runs=3):
+def capture(lines):
+    """A pcap file of MTP3 (link 141) with the message of each line."""
+    records = [struct.pack("<IHHIIII", 0xA1B2C3D4, 2, 4, 0, 0, 262_144, 141)]
+    for text in lines:
+        octets = bytes.fromhex(text)
+        length, origin, to = struct.unpack(">HII", octets[10:20])
+        packet = b"\x83" + struct.pack("<I", to | origin << 14) + octets[24:8 + length]
+        records.append(struct.pack("<IIII", 0, 0, len(packet), len(packet)) + packet)
+    return b"".join(records)
+
+
+def measure(folder, lines, unexplained, runs=3, form=lambda lines: "".join(lines).encode()):
     """Seconds of the processor and the peak in MB, of the run that used the processor least."""
-    with open(os.path.join(folder, "seen.txt"), "w") as made:
-        made.writelines(lines)
+    with open(os.path.join(folder, "seen"), "wb") as made:
+        made.write(form(lines))
     found = []
     for _ in range(runs):
-        words = [sys.executable, "-c", CHILD, PROGRAM, "conform", "plan.toml", "seen.txt"]
+        words = [sys.executable, "-c", CHILD, PROGRAM, "conform", "plan.toml", "seen"]
         done = subprocess.run(words, cwd=folder, capture_output=True, check=True)
         status, used, peak = done.stdout.split()
         with open(os.path.join(folder, "out")) as out:
@@ -109,6 +121,10 @@ def measure(folder, lines, unexplained, runs=3):
             sys.exit(f"status {int(status)}: {last}")
         found.append((float(used), float(peak)))
     return min(found)
+
+
+def show(what, size, used, peak):
+    print(f"{what}, {size:,} messages: processor {used:.2f} s, {1e6 * used / size:.0f} us a message, peak {peak:.1f} MB", flush=True)
 
 
 def main():
@@ -121,8 +137,9 @@ def main():
             made.write(PLAN)
         for what, maker, count, runs in texts:
             for size in (count // 4, count // 2, count):
-                used, peak = measure(folder, *maker(size), runs)
-                print(f"{what}, {size:,} messages: processor {used:.2f} s, {1e6 * used / size:.0f} us a message, peak {peak:.1f} MB", flush=True)
+                show(what, size, *measure(folder, *maker(size), runs))
+        for size in (50_000, 100_000, 200_000):
+            show("each is answered, in a capture", size, *measure(folder, *answered(size), 3, capture))
 
 
 if __name__ == "__main__":

@@ -397,8 +397,8 @@ def is_m3ua(one):
     return one.protocol == 3 or 2905 in (big(one.key[:2]), big(one.key[2:4]))
 
 
-def printed(nodes, octets):
-    lines, status = Lines(nodes), 0
+def printed(nodes, octets, kind=Lines):
+    lines, status = kind(nodes), 0
     try:
         for packet in packets(octets):
             lines.take(packet)

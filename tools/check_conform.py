@@ -6,12 +6,12 @@
 First the reference is held against itself: of messages of drawn plans, the ways that it finds for all markings at once have to be what a
 relay sends under each set of the marks that occur. Then the program is called with seven scenarios of one plan, with N drawn plans (100
 unless given), whose relays lose, repeat, change and misdirect some messages, with messages of all kinds over each of these plans, and
-with texts that have other lines. Last, N traces (30
+with texts that have other lines. Each scenario, and what is drawn for each plan, is a capture too. Last, N traces (30
 unless given) are replayed by the program over accepted plans; what the relays of a replay send has to be explained, line by line, by
 conditions that the marks which the replay held meet.
 
 The program is ./sccp of this repository if none is named. With --alone no program is called. With --write the scenarios are written into
-the folder, each as NAME.txt beside `relays.toml`, and nothing is compared. The last line counts. Each text with a difference is kept
+the folder, each as NAME.txt and NAME.pcap beside `relays.toml`, and nothing is compared. The last line counts. Each text with a difference is kept
 beside its name, and the status is then 1.
 """
 import argparse
@@ -480,8 +480,8 @@ def other_texts():
     yield "not a line", one.encode() + b"\n" + one.encode() + b"0\n"
     yield "a blank", one.encode() + b" \n"
     yield "a comment", b"# here\n"
-    yield "a capture", bytes.fromhex("D4C3B2A1020004000000000000000000FFFF000001000000")
-    yield "a capture in blocks", bytes.fromhex("0A0D0D0A1C0000004D3C2B1A01000000FFFFFFFFFFFFFFFF1C000000")
+    yield "the front of a capture", bytes.fromhex("D4C3B2")
+    yield "a packed file", bytes.fromhex("1F8B08000000000000")
     answered = text_of([event for _ in range(1023) for event in ((USER, A, unit(b"\1")), (A, B, answer(b"\1")))])
     first = text_of([(USER, A, unit(b"\0")), (A, B, answer(b"\0"))])
     yield "a message again after 1,023 answers", first + answered + text_of([(A, B, answer(b"\0"))])
@@ -489,6 +489,86 @@ def other_texts():
     yield "a message again after 1,024 answers", first + answered + last
     yield "a line that is too long", b"0" * 8194 + b"\n"
     yield "the longest line", b"0" * 8192 + b"\n"
+
+
+# ---- captures
+
+ETHERNET, MTP3, CHUNK_OF_M3UA = 1, 141, 3
+
+
+def sctp(tag, chunks):
+    """An SCTP packet with DATA chunks: their numbers, flags and user data."""
+    out = struct.pack(">HHII", 2905, 2905, tag, 0)
+    for number, flags, data in chunks:
+        out += struct.pack(">BBHIHHI", 0, flags, 16 + len(data), number, 0, number % 65_536, CHUNK_OF_M3UA) + data + bytes(-len(data) % 4)
+    return out
+
+
+def ethernet(packet):
+    ip = struct.pack(">BBHHHBBHII", 0x45, 0, 20 + len(packet), 0, 0, 64, 132, 0, 1, 2) + packet
+    return bytes(12) + b"\x08\x00" + ip
+
+
+def mtp3(origin, to, octets, service=3):
+    return bytes([0x80 + service]) + (to + origin * 2**14).to_bytes(4, "little") + octets
+
+
+def pcap(link, packets):
+    records = (struct.pack("<IIII", 0, 0, len(packet), len(packet)) + packet for packet in packets)
+    return struct.pack("<IHHIIII", 0xA1B2C3D4, 2, 4, 0, 0, 262_144, link) + b"".join(records)
+
+
+def block(kind, body):
+    body += bytes(-len(body) % 4)
+    return struct.pack("<II", kind, 12 + len(body)) + body + struct.pack("<I", 12 + len(body))
+
+
+def pcapng(link, packets):
+    head = block(0x0A0D0D0A, struct.pack("<IHHq", 0x1A2B3C4D, 1, 0, -1)) + block(1, struct.pack("<HHI", link, 0, 0))
+    return head + b"".join(block(6, struct.pack("<IIIII", 0, 0, 0, len(packet), len(packet)) + packet) for packet in packets)
+
+
+def capture_of(events):
+    """Each message in a packet of its own; an association for each pair of points."""
+    numbers, packets = collections.Counter(), []
+    for origin, to, octets in events:
+        numbers[origin, to] += 1
+        chunks = [(numbers[origin, to], 3, data_message(origin, to, octets))]
+        packets.append(ethernet(sctp(1 + origin * 16_384 + to, chunks)))
+    return pcap(ETHERNET, packets)
+
+
+def drawn_capture(draw, events):
+    """Messages of SCCP in packets of any kind: bundled, in two chunks, sent again, between others, and over MTP3; cut or damaged too."""
+    numbers, packets = collections.Counter(), []
+    if draw.random() < .3:
+        packets = [mtp3(origin, to, octets) for origin, to, octets in events]
+        for _ in range(draw.randrange(4)):
+            other = draw.choice([mtp3(USER, A, b"\1\2", 5), mtp3(USER, A, b""), mtp3(USER, A, bytes(4073)), b"\x83\0", b"\x83"])
+            packets.insert(draw.randrange(len(packets) + 1), other)
+        link = MTP3
+    else:
+        place, link = 0, ETHERNET
+        while place < len(events):
+            origin, to, _ = events[place]
+            chunks = []
+            while place < len(events) and events[place][:2] == (origin, to) and (not chunks or draw.random() < .5):
+                data = data_message(origin, to, events[place][2])
+                cut = draw.randrange(1, len(data)) if draw.random() < .2 else len(data)
+                for flags, part in ((3, data),) if cut == len(data) else ((2, data[:cut]), (1, data[cut:])):
+                    numbers[origin, to] += 1
+                    chunks.append((numbers[origin, to], flags, part))
+                place += 1
+            packets.append(ethernet(sctp(1 + origin * 16_384 + to, chunks)))
+            if draw.random() < .1:
+                packets.append(draw.choice([packets[-1], packets[-1][:-draw.randrange(1, 20)], b"", ethernet(b"")]))
+    octets = draw.choice([pcap, pcapng])(link, packets)
+    if draw.random() < .1:
+        octets = octets[:draw.randrange(4, len(octets))]
+    if draw.random() < .1:
+        at = draw.randrange(4, len(octets))
+        octets = octets[:at] + bytes([draw.randrange(256)]) + octets[at + 1:]
+    return octets
 
 
 # ---- replays
@@ -616,7 +696,8 @@ def main():
     given = words.parse_args()
     if given.write:
         os.makedirs(given.write, exist_ok=True)
-        for name, octets in [("relays.toml", PLAN.encode())] + [(name + ".txt", text_of(events)) for name, events in scenarios()]:
+        made = [(name + ending, make(events)) for name, events in scenarios() for ending, make in ((".txt", text_of), (".pcap", capture_of))]
+        for name, octets in [("relays.toml", PLAN.encode())] + made:
             with open(os.path.join(given.write, name), "wb") as file:
                 file.write(octets)
         return 0
@@ -626,6 +707,7 @@ def main():
         if not given.alone:
             for name, events in scenarios():
                 check.compare(f"the scenario {name}", PLAN, text_of(events))
+                check.compare(f"the scenario {name} as a capture", PLAN, capture_of(events))
             for name, text in other_texts():
                 check.compare(f"the text of {name}", PLAN, text)
         for number in range(given.plans):
@@ -639,6 +721,7 @@ def main():
             else:
                 check.compare(f"plan {number} of seed {given.seed}", plan, text_of(events))
                 check.compare(f"mixture {number} of seed {given.seed}", plan, text_of(draw_mixture(draw, nodes)))
+                check.compare(f"capture {number} of seed {given.seed}", plan, drawn_capture(draw, events))
         if not given.alone:
             for number in range(given.replays):
                 draw = random.Random(given.seed * 2_000_003 + number)

@@ -1,7 +1,9 @@
 #!/usr/bin/env python3
-"""What `conform` has to print of a text of DATA messages, from the definitions alone.
+"""What `conform` has to print of a text of DATA messages or of a capture, from the definitions alone.
 
-  tools/conform_reference.py PLAN FILE    the lines; FILE has one DATA message of M3UA a line, in hexadecimal digits
+  tools/conform_reference.py PLAN FILE    the lines; FILE has one DATA message of M3UA a line, in hexadecimal digits, or is a capture
+
+A capture is read by capture_reference.py.
 
 `sends` is what a relay sends under one marking, `ways` is the same for all markings at once, `explanations` are those ways that send
 one given message, and `Watch` judges a list of captured messages. tools/check_conform.py compares the program with it. The standard's
@@ -552,7 +554,8 @@ def called_reason(to, a, b):
 
 # ---- the judgement on captured messages ------------------------------------------------------------------------------------
 
-Event = namedtuple("Event", "number origin destination octets")
+# packet: the number of its packet, if it is of a capture
+Event = namedtuple("Event", "number origin destination octets packet", defaults=(None,))
 Arrival = namedtuple("Arrival", "number node origin message")
 
 
@@ -613,7 +616,8 @@ class Watch:
     def take(self, event):
         """The lines of an event."""
         self.events += 1
-        head = "%d from %s to %s " % (event.number, self.name(event.origin), self.name(event.destination))
+        packet = "" if event.packet is None else "packet %d " % event.packet
+        head = "%d %sfrom %s to %s " % (event.number, packet, self.name(event.origin), self.name(event.destination))
         source, target = self.at.get(event.origin), self.at.get(event.destination)
         try:
             m = decode(event.octets)
@@ -773,8 +777,32 @@ def judged(nodes, items):
     return lines + last, status, watch
 
 
+MAGICS = [bytes.fromhex(word) for word in ("A1B2C3D4", "D4C3B2A1", "A1B23C4D", "4D3CB2A1", "0A0D0D0A")]
+
+
+class CapturedEvents(capture_reference.Lines):
+    """What a capture gives: an Event for each message of SCCP between two points, and the line on whatever is not one."""
+
+    def take_signal(self, origin, destination, service, octets, number):
+        if service != USER_PART:
+            self.counts["others"] += 1
+        elif max(origin, destination) > 16383:
+            self.line("left", "point", number)
+        elif not octets:
+            self.line("left", "empty", number)
+        elif len(octets) > capture_reference.MOST_SCCP:
+            self.line("left", "long", number)
+        else:
+            self.counts["messages"] += 1
+            self.printed.append(Event(self.counts["messages"], origin, destination, octets, self.counts["packets"]))
+
+
 def printed(nodes, octets):
-    """The lines and the status of a text."""
+    """The lines and the status of a text or of a capture."""
+    if octets[:4] in MAGICS:
+        items, damaged = capture_reference.printed({}, octets, CapturedEvents)
+        lines, status, _ = judged(nodes, items)
+        return lines, damaged or status
     if len(octets) > MOST_OCTETS:
         return ["too long"], 68
     try:

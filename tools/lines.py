@@ -82,16 +82,16 @@ Fields in [] are only there if the line has them. A.B is the key B of the dict A
   connection_refused cause text                                   connect
   unanswered, unsettled, end_is_node                              connect
   trace_message      node origin octets                           import, capture
-  captured           line from to VERDICT                         conform: a message; from and to are relays, or points
+  captured           line [packet] from to VERDICT                conform: a message; from and to are relays, or points
   arrival_unanswered line node                                    conform
   line_skipped       line why [number]                            conform: a line without a message
   relay_counted      node arrived sent plain failing unexplained unanswered others markings, conform: how many
   target_counted     node row target taken                        conform: how many messages went to it
   judged             messages unexplained                         conform: how many
   skipped            why [number]                                 import
-  packet_skipped     packet [chunk] why [number] [layer] [octets] capture: a packet or a chunk that gives no message
-  capture_ended      octet why                                    capture: the file is cut off or damaged there
-  capture_counted    packets messages left repeated others faults capture
+  packet_skipped     packet [chunk] why [number] [layer] [octets] capture, conform: a packet or a chunk that gives no message
+  capture_ended      octet why                                    capture, conform: the file is cut off or damaged there
+  capture_counted    packets messages left repeated others faults capture, conform
   cut                count ok [WHY]                               cuts: ok is a bool
   message            type                                         show-hex, show, as all that follow but empty
   class              class options
@@ -390,7 +390,7 @@ TABLE = [
     ("end_is_node", ("connect", "end is a node")),
     ("trace_message", ("import capture", "msg {node} {origin} {octets}")),
     ("skipped", ("import", "# ({why=refused} {number}|{why=service} {number}|{why=point}|{why=unknown node}|{why=empty})")),
-    ("captured", ("conform", "{line} from {from:node} to {to:node} <VERDICT>")),
+    ("captured", ("conform", "{line} (|packet {packet} )from {from:node} to {to:node} <VERDICT>")),
     ("arrival_unanswered", ("conform", "{line} unanswered at {node}")),
     ("line_skipped", ("conform", "# line {line} ({why=refused} {number}|{why=point}|{why=empty})")),
     ("relay_counted",
@@ -398,12 +398,12 @@ TABLE = [
     ("target_counted", ("conform", "relay {node} target {row}/{target} taken {taken}")),
     ("judged", ("conform", "end {messages} unexplained {unexplained}")),
     ("packet_skipped",
-     ("capture", "# packet {packet} (|chunk {chunk} )(<LEFT_OUT>|<UNREAD>)"),
-     ("capture", "# packet {packet} ({why=sccp} {octets}|{why=link} {number}|{why=fragment}|{why=interface}|{why=length})"),
-     ("capture", "# packet {packet} chunk {chunk} ({why=short}|{why=bad}|{why=interleaved}|{why=alone})")),
-    ("capture_ended", ("capture", "# octet {octet} <ENDED>")),
-    ("capture_counted", ("capture", "# end packets {packets} messages {messages} left {left} repeated {repeated} others {others} "
-                                    "faults {faults}")),
+     ("capture conform", "# packet {packet} (|chunk {chunk} )(<LEFT_OUT>|<UNREAD>)"),
+     ("capture conform", "# packet {packet} ({why=sccp} {octets}|{why=link} {number}|{why=fragment}|{why=interface}|{why=length})"),
+     ("capture conform", "# packet {packet} chunk {chunk} ({why=short}|{why=bad}|{why=interleaved}|{why=alone})")),
+    ("capture_ended", ("capture conform", "# octet {octet} <ENDED>")),
+    ("capture_counted", ("capture conform", "# end packets {packets} messages {messages} left {left} repeated {repeated} others {others} "
+                                            "faults {faults}")),
     ("cut", ("cuts", "{count} ({ok:=true:ok}|{ok:=false:undecodable} <WHY>)")),
     ("message", (SHOWN, either("type", f"{CONNECTION_ORIENTED}, {CONNECTIONLESS}"))),
     ("class", (SHOWN, "class {class} options {options}")),

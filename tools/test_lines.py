@@ -204,6 +204,9 @@ TYPED = {
         ("1 from 1-0-1 to a UDT", captured(1, "1-0-1", "a", verdict="arrived", type="UDT")),
         ("1 from 1-0-1 to 2-0-1 LUDTS other", captured(1, "1-0-1", "2-0-1", verdict="other", type="LUDTS")),
         ("12 from a to b XUDT own 8", captured(12, "a", "b", verdict="own", type="XUDT", ssn=8)),
+        ("12 packet 40 from a to b XUDT own 8", captured(12, "a", "b", packet=40, verdict="own", type="XUDT", ssn=8)),
+        ("# packet 3 chunk 2 alone", record("packet_skipped", packet=3, chunk=2, why="alone")),
+        ("# octet 58 cut", record("capture_ended", octet=58, why="cut")),
         ("2 from a to b UDT explained by 1 target 0/12 held none free point:2-0-1,sccp:7-255-7",
          captured(2, "a", "b", verdict="explained", type="UDT", by=1, ways=[{"row": 0, "target": 12, "held": [], "free": [POINT, SCCP]}])),
         ("2 from a to b UDTS explained by 1 return 5 held point:2-0-1|sccp:7-255-7,subsystem:0-0-0/6 free none",
@@ -363,7 +366,7 @@ FAULTY = {
     ],
     "conform": [
         "1 from 1-0-1 to a", "1 from a UDT", "1 from a to b CR", "1 from a to b connection UDT", "1 from a to b UDT own",
-        "1 packet 2 from a to b UDT", "2 from a to b UDT explained by 1", "2 from a to b UDT explained by 1 held none free none",
+        "packet 2 from a to b UDT", "1 packet from a to b UDT", "2 from a to b UDT explained by 1", "2 from a to b UDT explained by 1 held none free none",
         "2 from a to b UDT explained by 1 target 0/0 held free none",
         "2 from a to b UDT explained by 1 target 0/0 held none free point:2-0-1|sccp:2-0-1",
         "2 from a to b UDT explained by 1 target 0 held none free none",
@@ -458,7 +461,7 @@ class Cases(unittest.TestCase):
 
 def may_be_absent(words, at):
     # `called point` is one reason, and `point` another; a message between other points has `other` after its type.
-    if words[at:at + 2] == ["called", "point"] or (words[1:2] == ["from"] and words[at:] == ["other"]):
+    if words[at:at + 2] == ["called", "point"] or (words[1:2] in (["from"], ["packet"]) and words[at:] == ["other"]):
         return True
     if words[at] == "national" or (words[at] in ("old", "new") and words[at + 1:at + 2] == ["at"]):
         return True

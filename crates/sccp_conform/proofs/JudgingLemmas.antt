@@ -1,7 +1,7 @@
 -- Items whose text is appended one after the other.
 use Rattle.std.proofs.Common.{◌≡◌, ℕ, suc, ◌+◌, ◌<◌, ◌≤◌, List, [], ◌∷◌, ◌++◌, length, drop, get_or, refl, sym, ◌∙◌, ap, subst}
 use Rattle.std.proofs.Common.{append_assoc}
-use Rattle.std.proofs.Common.{append-nil, arith, drop-cons, None, Result, Ok, Err}
+use Rattle.std.proofs.Common.{append-nil, arith, drop-cons, Option, Some, None, Result, Ok, Err}
 use Rattle.std.specs.Prelude.{IfOk, OnOk}
 use Rattle.std.proofs.Math.ListN.{drop_of_length-le}
 use Rattle.plan_model.specs.Network.{Network}
@@ -10,11 +10,11 @@ use Rattle.relay_watch.specs.Runs.{AreJudged}
 use Rattle.relay_watch.specs.Watching.{AreWatched}
 use Rattle.relay_watch.specs.declared.event.Event.{Event}
 use Rattle.relay_watch.specs.declared.line.Line.{Line}
-use Rattle.sccp_conform.specs.Items.{events_in}
+use Rattle.watch_items.specs.Items.{events_in}
 use Rattle.sccp_conform.specs.Reports.{refused_text, point_text, empty_text, text_of_items, status_for}
-use Rattle.sccp_conform.specs.Steps.{PutsItem, PutsItems, Reports}
-use Rattle.sccp_conform.specs.declared.item.Item.{Item}
-use Rattle.sccp_conform.specs.declared.item.Item.TheVariants.{Seen, Refused, OtherPoint, NoOctets, Nothing}
+use Rattle.sccp_conform.specs.Steps.{PutsEvent, PutsItem, PutsItems, Reports}
+use Rattle.watch_items.specs.declared.item.Item.{Item}
+use Rattle.watch_items.specs.declared.item.Item.TheVariants.{Seen, Refused, OtherPoint, NoOctets, Nothing, Captured, Note}
 use Rattle.sccp_work.specs.Judgement.{Judgement, IsJudgement}
 use Rattle.sccp_work.specs.declared.status.Status.{Status}
 use Rattle.watch_text.specs.Lines.{line_text}
@@ -43,15 +43,25 @@ noted plan all start before left now next text after note h same spelt = λ line
     (h lines new (subst (λ k. AreJudged plan k.waiting (events_in left) lines new.waiting) same judged)
     (subst (λ k. AreWatched plan k (events_in left) lines new) same watched))
 
+-- the same with the line of a message between
+judged : (plan : Network) (all : List Item) (start : Kept) (before : List ℕ) (packet : Option ℕ) (e : Event) (left : List Item)
+    (now next : Kept) (text after : List ℕ)
+    → ((lines : List Line) (line : Line) (new : Kept) → AreJudged plan now.waiting (e ∷ events_in left) (line ∷ lines) new.waiting
+    → AreWatched plan now (e ∷ events_in left) (line ∷ lines) new
+    → PutsItems plan all start new before (text ++ (line_text plan packet e line ++ text_of_items plan left lines)))
+    → PutsEvent plan packet e now next text after → GoesOn plan all start before left next after
+judged plan all start before packet e left now next text after h p = λ lines new judged watched.
+    let rest : List ℕ = text_of_items plan left lines in
+    let note : List ℕ = line_text plan packet e p.line in
+    subst (PutsItems plan all start new before) (sym (append_assoc text note rest) ∙ ap (λ t. t ++ rest) (sym p.text_is))
+    (h lines p.line new (next.waiting, p.judged, judged) (next, p.watched, watched))
+
 turn : (plan : Network) (all : List Item) (start : Kept) (before : List ℕ) (item : Item) (left : List Item) (now next : Kept)
     (text after : List ℕ) → GoesOn plan all start before (item ∷ left) now text → PutsItem plan item now next text after
     → GoesOn plan all start before left next after
 unfolding events_in text_of_items
-turn plan all start before (Seen e) left now next text after h p = λ lines new judged watched.
-    let rest : List ℕ = text_of_items plan left lines in
-    let note : List ℕ = line_text plan None e p.line in
-    subst (PutsItems plan all start new before) (sym (append_assoc text note rest) ∙ ap (λ t. t ++ rest) (sym p.text_is))
-    (h (p.line ∷ lines) new (next.waiting, p.judged, judged) (next, p.watched, watched))
+turn plan all start before (Seen e) left now next text after h p =
+    judged plan all start before None e left now next text after (λ lines line. h (line ∷ lines)) p
 turn plan all start before (Refused number fault) left now next text after h p =
     noted plan all start before left now next text after (refused_text number fault) h p.0 p.1
 turn plan all start before (OtherPoint number) left now next text after h p =
@@ -60,6 +70,10 @@ turn plan all start before (NoOctets number) left now next text after h p =
     noted plan all start before left now next text after (empty_text number) h p.0 p.1
 turn plan all start before Nothing left now next text after h p =
     noted plan all start before left now next text after [] h p.0 (p.1 ∙ sym (append-nil text))
+turn plan all start before (Captured packet e) left now next text after h p =
+    judged plan all start before (Some packet) e left now next text after (λ lines line. h (line ∷ lines)) p
+turn plan all start before (Note note) left now next text after h p =
+    noted plan all start before left now next text after note h p.0 p.1
 
 -- the same, as the code has it
 pub turned : (plan : Network) (xs : List Item) (start : Kept) (before : List ℕ) (i : ℕ) (x : Item) (now next : Kept) (text after : List ℕ)
@@ -89,7 +103,8 @@ Vouched = (plan : Network) (events : List Event) (j : Judgement) → AreJudged p
 
 -- the last lines are put after the text of all items
 pub reported : {F : Type 0} (r : Result Status F) (plan : Network) (items : List Item) (start left : Kept) (before text after : List ℕ)
-    → Vouched → start ≡ nothing_kept plan → PutsItems plan items start left before text → OnOk r (after ≡ text ++ summary_text plan (summary_of left))
+    → Vouched → start ≡ nothing_kept plan → PutsItems plan items start left before text
+    → OnOk r (after ≡ text ++ summary_text plan (summary_of left))
     → IfOk r (λ s. s ≡ status_for (summary_of left).unexplained) → IfOk r (λ s. Reports plan items before after s)
 reported (Err fault) plan items start left before text after vouch first h spelt is = tt
 reported (Ok status) plan items start left before text after vouch first h spelt is =

@@ -1,8 +1,9 @@
 -- The lemmas of this crate, one file a subject.
-pub mod ReadingLemmas
 pub mod JudgingLemmas
 pub mod PrintingLemmas
-pub mod MeaningLemmas
 pub mod DiffersLemmas
 pub mod UnansweredLemmas
 pub mod TrueLemmas
+mod AppendLemmas
+mod PartlyLemmas
+mod OnFileLemmas

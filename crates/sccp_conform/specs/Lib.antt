@@ -1,5 +1,4 @@
 -- The definitions of this crate, one file a subject.
-pub mod Items
 pub mod Meaning
 pub mod Reports
 pub mod Steps

@@ -12,8 +12,9 @@ use Rattle.relay_watch.specs.declared.verdict.Verdict.{Verdict}
 use Rattle.relay_watch.specs.declared.verdict.Verdict.TheVariants.{Explained}
 use Rattle.relay_ways.specs.Sends.{sends}
 use Rattle.relay_ways.specs.declared.explanation.Explanation.{Explanation}
-use Rattle.sccp_conform.specs.Items.{items_of, events_in}
-use Rattle.sccp_conform.specs.declared.item.Item.{Item}
+use Rattle.watch_items.specs.Captures.{Heard}
+use Rattle.watch_items.specs.Files.{heard_in}
+use Rattle.watch_items.specs.Items.{events_in}
 use Rattle.sccp_message.specs.declared.message.Message.{Message}
 use Rattle.sccp_message.specs.Reading.{reading}
 use Rattle.sccp_work.specs.Judgement.{Judgement, IsJudgement}
@@ -49,7 +50,7 @@ pub record AreTrue (plan : Network) (events : List Event) (j : Judgement) : Type
       → IsUnanswered plan events j.lines u
   pub unanswered : (i : ℕ) (u : Unanswered) → slice_get (summary_of j.left).unanswered i ≡ Some u → IsUnanswered plan events j.lines u
 
--- the text reads, and this holds of a judgement on its messages
+-- the file reads, and this holds of a judgement on its messages
 abbrev pub HasJudgement : Network → List ℕ → (Judgement → Type 0) → Type 0
 HasJudgement plan octets holds =
-    (items : List Item) × (items_of octets ≡ Ok items) × ((j : Judgement) × IsJudgement plan (events_in items) j × holds j)
+    (h : Heard) × (heard_in octets ≡ Ok h) × ((j : Judgement) × IsJudgement plan (events_in h.items) j × holds j)

@@ -1,23 +1,21 @@
-//! The judgement on a text.
+//! The judgement on items, and on a text.
 ghost use Rattle.std.specs.Prelude.{◌≡◌, ◌++◌, [], List, IfOk, OnOk};
 ghost use Rattle.plan_model.specs.Network.{Network};
 ghost use Rattle.relay_watch.specs.Kept.{nothing_kept, summary_of};
 ghost use Rattle.relay_watch.specs.Runs.{AreJudged};
 ghost use Rattle.relay_watch.specs.Watching.{AreWatched};
-ghost use Rattle.sccp_conform.specs.Items.{items_of};
-ghost use Rattle.sccp_conform.specs.Reports.{refused_text, point_text, empty_text, status_for, text_work};
+ghost use Rattle.sccp_conform.specs.Reports.{refused_text, point_text, empty_text, status_for, work_on};
 ghost use Rattle.sccp_conform.specs.Reports.{IsReport, IsAnswerTo};
-ghost use Rattle.sccp_conform.specs.Steps.{PutsItem, PutsItems, Reports};
-ghost use Rattle.sccp_conform.specs.declared.item.Item.TheVariants.{Seen};
+ghost use Rattle.sccp_conform.specs.Steps.{PutsEvent, PutsItem, PutsItems, Reports};
 ghost use Rattle.sccp_work.specs.Ending.{Works};
 ghost use Rattle.sccp_work.specs.Judgement.{Judgement, IsJudgement};
 ghost use Rattle.sccp_work.specs.LineFault.{bad_line};
 ghost use Rattle.sccp_work.specs.Moment.{Moment, with_sink};
 ghost use Rattle.sccp_work.specs.declared.status.Status.TheVariants.{BadTrace};
+ghost use Rattle.watch_items.specs.Files.{whole, if_read};
+ghost use Rattle.watch_items.specs.Items.{items_of};
 ghost use Rattle.watch_text.specs.Summaries.{summary_text};
 
-use crate::item::Item;
-use crate::reading::items_of;
 use crate::report::Report;
 use m3ua_trace::ImportError;
 use plan_model::Plan;
@@ -28,6 +26,7 @@ use sccp_report::Text;
 use sccp_work::{Status, Stop, bad_line, print_last};
 use std::alloc::Global;
 use trace_text::LineFault;
+use watch_items::{Item, items_of};
 use watch_text::{put_line, put_summary};
 
 /// Appends that a line is not a DATA message, with the number of the fault.
@@ -67,12 +66,13 @@ fn put_event(
     text: &mut Text,
     plan: &Plan,
     watch: &mut Watch,
+    packet: Option<u64>,
     event: &Event,
 ) -> Result<(), OutOfMemory>
-    ensures { OnOk result (PutsItem plan.now (Seen event.now) watch.old watch.new text.old text.new) }
+    ensures { OnOk result (PutsEvent plan.now packet event.now watch.old watch.new text.old text.new) }
 {
     let line = watch.judge(plan, event)?;
-    let put = put_line(text, plan, None, event, &line);
+    let put = put_line(text, plan, packet, event, &line);
     drop(line);
     put
 }
@@ -82,16 +82,18 @@ fn put_item(text: &mut Text, plan: &Plan, watch: &mut Watch, item: &Item) -> Res
     ensures { OnOk result (PutsItem plan.now item.now watch.old watch.new text.old text.new) }
 {
     match item {
-        Item::Seen(event) => put_event(text, plan, watch, event),
+        Item::Seen(event) => put_event(text, plan, watch, None, event),
         Item::Refused(number, fault) => put_refused(text, *number, *fault),
         Item::OtherPoint(number) => put_point(text, *number),
         Item::NoOctets(number) => put_empty(text, *number),
         Item::Nothing => Ok(()),
+        Item::Captured(packet, event) => put_event(text, plan, watch, Some(*packet), event),
+        Item::Note(note) => text.put(note.as_slice()),
     }
 }
 
 /// Appends the text of items in their order.
-fn put_items(
+pub fn put_items(
     text: &mut Text,
     plan: &Plan,
     watch: &mut Watch,
@@ -116,8 +118,8 @@ fn status_of(summary: &Summary) -> Status
     }
 }
 
-/// Appends what the relays did in all, and gives the answer.
-fn finish(text: &mut Text, plan: &Plan, watch: Watch) -> Result<Status, OutOfMemory>
+/// Appends what the relays did in all, and gives the answer on their messages.
+pub fn finish(text: &mut Text, plan: &Plan, watch: Watch) -> Result<Status, OutOfMemory>
     ensures text { OnOk result (text.new ≡ text.old ++ summary_text plan.now (summary_of watch)) }
     ensures status { IfOk result (λ status. status ≡ status_for (summary_of watch).unexplained) }
 {
@@ -131,7 +133,7 @@ fn finish(text: &mut Text, plan: &Plan, watch: Watch) -> Result<Status, OutOfMem
 
 /// What a watch says of all messages, from the first one on, is a judgement: its arrivals that nothing answered are such, and its counts
 /// are those of the lines. The call does nothing; its contract is the law.
-fn vouch()
+pub fn vouch()
     ensures { (plan : Network) (events : List Event) (j : Judgement) → AreJudged plan [] events j.lines j.left.waiting
         → AreWatched plan (nothing_kept plan) events j.lines j.left → IsJudgement plan events j }
 {
@@ -160,9 +162,9 @@ fn put_report(
     }
 }
 
-/// The report on items.
+/// The report on the items of a text.
 fn report(alloc: Global, plan: &Plan, items: &[Item]) -> Result<Report, OutOfMemory>
-    ensures { IfOk result (IsReport plan.now items.now) }
+    ensures { IfOk result (IsReport plan.now (whole items.now)) }
 {
     let mut text = Text::new(alloc);
     let status = put_report(alloc, &mut text, plan, items)?;
@@ -185,7 +187,7 @@ fn bad_report(alloc: Global, fault: LineFault) -> Result<Report, OutOfMemory>
 
 /// The report on a text.
 fn answer(alloc: Global, plan: &Plan, text: &[u8]) -> Result<Report, OutOfMemory>
-    ensures { IfOk result (IsAnswerTo plan.now (items_of text.now)) }
+    ensures { IfOk result (IsAnswerTo plan.now (if_read (items_of text.now))) }
 {
     match items_of(alloc, text) {
         Ok(items) => {
@@ -198,15 +200,14 @@ fn answer(alloc: Global, plan: &Plan, text: &[u8]) -> Result<Report, OutOfMemory
     }
 }
 
-/// Prints what is reported of a text under a plan. Nothing is printed before the whole text is read and judged. No file is read, so
-/// the clause holds whatever the files show.
+/// Prints what is reported of a text under a plan. No file is read, so the clause holds whatever the files show.
 pub fn print_report<K: Sink>(
     alloc: Global,
     plan: &Plan,
     text: &[u8],
     out: &mut K,
 ) -> Result<Status, Stop>
-    ensures { (any : Moment) → Works (text_work plan.now text.now) result
+    ensures { (any : Moment) → Works (work_on plan.now (if_read (items_of text.now))) result
         (with_sink any K.taken K.faults out.old) (with_sink any K.taken K.faults out.new) }
 {
     // The call ensures that the plan is sound, which the clause needs.

@@ -1,8 +1,8 @@
-//! What is reported of a text.
+//! What is reported of a file.
 use sccp_base::Octets;
 use sccp_work::Status;
 
-/// The answer on a text, and all that is printed.
+/// The answer on a file, and all that is printed.
 #[derive(Drop)]
 pub struct Report {
     pub status: Status,

@@ -62,7 +62,7 @@ mixture_answer old new s text (is_told same change lawful is spelt) = by change 
   where
     by : (c : Change) → IsLawfulChange old new c → s ≡ change_status c → MixtureEnds old new s
     by (changes.Kept bound spot turns) k e = goes same (bound, (k.0, k.1)) e
-    by (changes.Broken i j spot turns hops kind) k e = fails same (i, j, spot, turns, hops, kind, k) e
+    by (changes.Broken i j spot turns hops kind) k e = fails same (i, j, spot, turns, hops, kind, k.0) e
     by changes.TooWide k e = unsure same k e
 
 not_both : (p q : Network) → IsMixable p q → IsUnmixable p q → ⊥

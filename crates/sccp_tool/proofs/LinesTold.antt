@@ -1,5 +1,6 @@
 -- The bound of a plan, and the numbers in the text of a message.
-use Rattle.std.specs.Prelude.{◌≡◌, ◌<◌, ◌≤◌, ◌^◌, ℕ, ◌+◌, ◌-◌, List, [], ◌∷◌, ◌++◌, codes, decimal, drop, length, take, Option, Some, IsSomeAnd}
+use Rattle.std.specs.Prelude.{◌≡◌, ◌<◌, ◌≤◌, ◌^◌, ℕ, ◌+◌, ◌-◌, List, [], ◌∷◌, ◌++◌, codes, decimal, drop, length, take}
+use Rattle.std.specs.Prelude.{Option, Some, IsSomeAnd}
 use Rattle.std.specs.Prelude.{slice_get, refl}
 use Rattle.std.proofs.Common.{◌⊎◌, inl, inr, sym, ◌∙◌, ap, subst, arith, get_or, length-take-le}
 use Rattle.std.proofs.lemmas.Bool.{cases_lt}
@@ -44,7 +45,8 @@ at_most plan m n s ms some safe tight = by (cases_lt m n) where
       let g = sent_to (λ marking spot. step plan spot marking) s ms (m - 1) h.0 (ap (slice_get hops) place ∙ h.1) in
       let short : length (take m ms) ≡ m = length-take-le m ms (omega (arith, count, lt)) in
       let few : length (take m hops) ≡ m - 1 + 1 = length-take-le m hops (omega (arith, many, lt)) ∙ sym place in
-      let here : last (take m hops) ≡ Some g.0.step = last_at (take m hops) (m - 1) g.0 few (get_front hops m (m - 1) g.0 (omega (arith, some)) g.1) in
+      let here : last (take m hops) ≡ Some g.0.step =
+      last_at (take m hops) (m - 1) g.0 few (get_front hops m (m - 1) g.0 (omega (arith, some)) g.1) in
       let ends : IsSomeAnd (last (take m hops)) (MayEnd (IsAllowed plan s)) =
       subst (λ (hs : List Hop). IsSomeAnd (last hs) (MayEnd (IsAllowed plan s))) (cut_route (λ marking spot. step plan spot marking) s ms m)
       (safe s (take m ms) tight.covered short) in

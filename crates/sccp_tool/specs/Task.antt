@@ -39,5 +39,5 @@ pub data Task : Type 0 where
   Capture : PlanFile → List ℕ → Task
   -- gives an order in which relays can be given the second of the plans of these files, the old one and the new one
   Order : PlanFile → PlanFile → Task
-  -- judges the messages of the second file, DATA messages one a line, against the plan of the first one
+  -- judges the messages of the second file, a capture or DATA messages one a line, against the plan of the first one
   Conform : PlanFile → List ℕ → Task

@@ -1,15 +1,14 @@
 //! The command that judges captured messages against a plan.
 ghost use Rattle.std.specs.Prelude.{◌≡◌};
 ghost use Rattle.sccp_tool.specs.Commands.{texts};
-ghost use Rattle.sccp_tool.specs.Conform.{conform_words, conform_of, judged_work, conform_work};
+ghost use Rattle.sccp_tool.specs.Conform.{conform_words, conform_of, conform_work};
 ghost use Rattle.sccp_tool.specs.Parsed.{task_in};
 ghost use Rattle.sccp_work.specs.Ending.{Works};
 ghost use Rattle.sccp_work.specs.Moment.{moment};
 
 use crate::command::Command;
-use crate::whole_file::whole_file;
-use plan_model::{Limits, Plan};
-use sccp_conform::print_report;
+use plan_model::Limits;
+use sccp_conform::judge_file;
 use sccp_io::{Files, Sink};
 use sccp_work::{PlanPath, Status, Stop, with_plan};
 use std::alloc::Global;
@@ -41,7 +40,7 @@ fn conform_of<'a>(limits: Limits, plan: &'a str, file: &'a str) -> Option<Comman
     }
 }
 
-/// Judges the messages of a file of DATA messages against the plan of another file, which is read and not verified.
+/// Judges the messages of a capture, or of a text of DATA messages, against the plan of another file, which is read and not verified.
 pub fn conform<F: Files, K: Sink>(
     alloc: Global,
     plan: &PlanPath<'_>,
@@ -55,20 +54,4 @@ pub fn conform<F: Files, K: Sink>(
 {
     let plan = with_plan(alloc, plan, files, out)?;
     judge_file(alloc, &plan, file, files, out)
-}
-
-/// Judges the messages of a file against a plan.
-fn judge_file<F: Files, K: Sink>(
-    alloc: Global,
-    plan: &Plan,
-    file: &str,
-    files: &mut F,
-    out: &mut K,
-) -> Result<Status, Stop>
-    ensures { Works (judged_work plan.now file.now) result
-        (moment F.contents F.sound F.faults K.taken K.faults files.old out.old)
-        (moment F.contents F.sound F.faults K.taken K.faults files.new out.new) }
-{
-    let octets = whole_file(alloc, file, files, out)?;
-    print_report(alloc, plan, &octets, out)
 }

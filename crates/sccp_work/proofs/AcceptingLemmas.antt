@@ -28,7 +28,8 @@ refused_work word plan (verdicts.Accepted accepted) next is = absurd is
 refused_work word plan (verdicts.Refused same witness) next is = refl
 refused_work word plan (verdicts.TooWide same) next is = refl
 
-pub Works-refused : (word : List ℕ) (plan : Network) (verdict : Verdict) (next : Verified → Work) (result : Result Status Stop) (b a : Moment)
+pub Works-refused : (word : List ℕ) (plan : Network) (verdict : Verdict) (next : Verified → Work) (result : Result Status Stop)
+    (b a : Moment)
     → IsJudged plan verdict → IsOnRefusal (status_of verdict)
     → Writes (word ++ verdict_text plan verdict) result b.taken a.taken b.write_faults a.write_faults
     → IfOk result (λ s. s ≡ status_of verdict) → a.contents ≡ b.contents → a.sound ≡ b.sound → a.read_faults ≡ b.read_faults

@@ -1,8 +1,8 @@
 -- The exit status of the program under each answer.
 use Rattle.std.specs.Prelude.{ℕ}
 use Rattle.sccp_work.specs.declared.status.Status.{Status}
-use Rattle.sccp_work.specs.declared.status.Status.TheVariants.{Done, Refused, Usage, BadPlan, BadTrace, TooWide, TooLong, OtherNodes, BadCapture}
-use Rattle.sccp_work.specs.declared.status.Status.TheVariants.{NoMemory, ReadFault, WriteFault, Differs}
+use Rattle.sccp_work.specs.declared.status.Status.TheVariants.{Done, Refused, Usage, BadPlan, BadTrace, TooWide, TooLong}
+use Rattle.sccp_work.specs.declared.status.Status.TheVariants.{OtherNodes, BadCapture, NoMemory, ReadFault, WriteFault, Differs}
 
 abbrev pub number_of : Status → ℕ
 number_of Done = 0
