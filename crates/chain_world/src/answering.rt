@@ -1,5 +1,5 @@
 //! Puts what a relay sends on its links: all of it or nothing.
-ghost use Rattle.std.specs.Prelude.{◌≡◌, ◌≤◌, ◌<◌, ℕ, List, [], ◌∷◌, ◌++◌, length, map, IfOk, OnOk, OnErr};
+ghost use Rattle.std.specs.Prelude.{◌≡◌, ◌≤◌, ◌<◌, ℕ, List, [], ◌∷◌, length, map, IfOk, OnOk, OnErr};
 ghost use Rattle.sccp_manage.specs.declared.sent.Sent.{Sent};
 ghost use Rattle.sccp_couple.specs.Coupling.{coupled};
 ghost use Rattle.sccp_couple.specs.Sending.{written_sent, HasShortParts};

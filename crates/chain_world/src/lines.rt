@@ -1,10 +1,8 @@
 //! The line of a connection, made from the records of running relays and links.
 ghost use Rattle.std.specs.Prelude.{◌≡◌, ◌<◌, All, Some, length, map, option_map, IfOk, IfSome};
 ghost use Rattle.couple_chain.specs.Logged.{logged};
-ghost use Rattle.couple_chain.specs.World.{is_node};
 ghost use Rattle.sccp_scrc.specs.Arriving.{point_of};
-ghost use Rattle.chain_world.specs.Kept.{network_of};
-ghost use Rattle.chain_world.specs.Staged.{told_piece, told_line, passed_at, pieces_in, delivered_by, over, last_stage, stages_from};
+ghost use Rattle.chain_world.specs.Staged.{told_piece, told_line, passed_at, pieces_in, delivered_by, over};
 ghost use Rattle.chain_world.specs.Staged.{line_by};
 
 use crate::line::{Line, Piece};

@@ -4,26 +4,13 @@ ghost use Rattle.std.specs.List.{list_any};
 ghost use Rattle.couple_chain.specs.World.{names, name_of};
 ghost use Rattle.sccp_message.specs.Written.{IsMessage, Sound};
 ghost use Rattle.sccp_message.specs.Reading.{reading};
-ghost use Rattle.sccp_scrc.specs.Unitdata.{octets_of};
 ghost use Rattle.chain_world.specs.Offering.{if_read, read_again, offers_of};
 
 use couple_chain::Happening;
-use sccp_base::{Octets, OutOfMemory, PointCode, Reference};
-use sccp_message::{DecodeFault, EncodeFault, Message, decode, encode};
+use sccp_base::{OutOfMemory, PointCode, Reference};
+use sccp_message::{DecodeFault, Message, decode};
+use sccp_scrc::octets_of;
 use std::alloc::Global;
-
-/// The octets of a message, if it can be written.
-#[tactic(auto, using(sccp_scrc::proofs::Redirected::octets_written))]
-pub(crate) fn octets_of(alloc: Global, message: &Message) -> Result<Option<Octets>, OutOfMemory>
-    ensures { IfOk result (λ octets. octets ≡ octets_of message.now) }
-{
-    match encode(alloc, message) {
-        Ok(octets) => Ok(Some(octets)),
-        Err(EncodeFault::TooLong(_)) => Ok(None),
-        Err(EncodeFault::PointerTooFar(_)) => Ok(None),
-        Err(EncodeFault::OutOfMemory) => Err(OutOfMemory),
-    }
-}
 
 /// The message that octets read as, if they do.
 pub(crate) fn read(alloc: Global, octets: &[u8]) -> Result<Option<Message>, OutOfMemory>

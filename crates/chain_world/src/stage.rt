@@ -1,14 +1,14 @@
 //! The pairs that a connection goes through, as running relays find them: only by their sections.
 ghost use Rattle.std.specs.Prelude.{◌≡◌, ◌<◌, ◌≤◌, find, length, position, IfOk, IfSome};
 ghost use Rattle.std.specs.Option.{option_copied};
-ghost use Rattle.sccp_couple.specs.Sections.{is_that, is_near_of, section_at};
+ghost use Rattle.sccp_couple.specs.Sections.{is_near_of, is_that};
 ghost use Rattle.plan_model.specs.Network.{has_point};
 ghost use Rattle.chain_world.specs.Staged.{stage_of, sections_at, first_in, joined_to, next_in, is_open, stages_from};
 
 use couple_chain::Relay;
 use plan_model::Plan;
 use sccp_base::{List, OutOfMemory, PointCode, Reference};
-use sccp_couple::Section;
+use sccp_couple::{Section, section_at};
 use std::alloc::Global;
 
 /// A pair that a relay has: the place of the relay in the plan, and the two sections.
@@ -33,23 +33,6 @@ fn near_of(sections: &[Section], point: PointCode, remote: Reference) -> Option<
     ensures { result ≡ find (is_near_of point remote) sections.now }
 {
     match near_at(sections, point, remote) {
-        Some(section) => Some(*section),
-        None => None,
-    }
-}
-
-/// A reference to the section with an own reference, if there is one.
-fn found_at(sections: &[Section], own: Reference) -> Option<&Section>
-    ensures { option_copied result ≡ section_at sections.now own }
-{
-    sections.iter().find(|s| s.own == own)
-}
-
-/// A copy of the section with an own reference.
-fn section_at(sections: &[Section], own: Reference) -> Option<Section>
-    ensures { result ≡ section_at sections.now own }
-{
-    match found_at(sections, own) {
         Some(section) => Some(*section),
         None => None,
     }

@@ -1,10 +1,9 @@
 //! A running world: its relays, its links and its history, and all calls of the layer above.
-ghost use Rattle.std.specs.Prelude.{◌≡◌, ◌↔◌, ◌<◌, [], ◌∷◌, ◌++◌, ℕ, false, true, None, Some, List, All, map, length, position, ⊤, IfOk};
+ghost use Rattle.std.specs.Prelude.{◌≡◌, ◌↔◌, ◌<◌, [], ◌∷◌, ◌++◌, false, true, None, Some, List, All, map, length, position, ⊤, IfOk};
 ghost use Rattle.std.specs.Prelude.{IfErr, IfNone, IfSome, OnOk, OnErr, option_map};
 ghost use Rattle.std.specs.Bool.{MatchBool};
 ghost use Rattle.std.specs.List.{range_with_len};
 ghost use Rattle.sccp_base.specs.Answers.{Answers};
-ghost use Rattle.sccp_message.specs.declared.message.Message.{Message};
 ghost use Rattle.sccp_message.specs.Written.{message_octets, IsMessage, Sound};
 ghost use Rattle.plan_model.specs.Network.{has_point};
 ghost use Rattle.sccp_couple.specs.Sending.{HasShortParts};
@@ -24,13 +23,14 @@ use crate::asking::{are_fresh, are_idle, least, sections_in};
 use crate::line::Line;
 use crate::lines::line_along;
 use crate::link::{Link, oldest, pass, put};
-use crate::offering::{is_used, name_of, octets_of, read, read_again};
+use crate::offering::{is_used, name_of, read, read_again};
 use crate::stage::{first_stage, follow};
 use couple_chain::{Delivered, Happening, OfferFault, Relay};
 use plan_model::Plan;
 use sccp_base::{Octets, OutOfMemory, PointCode, Reference};
 use sccp_couple::{is_connection, vouch_short};
 use sccp_message::Message as Signal;
+use sccp_scrc::octets_of;
 use std::alloc::Global;
 use std::marker::Model;
 

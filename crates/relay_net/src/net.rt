@@ -1,6 +1,6 @@
 //! The states of all nodes of a plan, and what happens at one of them.
 ghost use Rattle.std.specs.Prelude.{◌≡◌, ◌<◌, length, IfOk, OnOk, OnErr};
-ghost use Rattle.std.specs.Prelude.{◌==◌, if◌then◌else◌, None, Some};
+ghost use Rattle.std.specs.Prelude.{◌==◌, None, Some};
 ghost use Rattle.std.specs.Option.{option_map};
 ghost use Rattle.plan_model.specs.Network.{Network};
 ghost use Rattle.sccp_message.specs.Reading.{reading};

@@ -12,7 +12,7 @@ use crate::holds_marking::HoldsMarking;
 use plan_model::{Hop, Plan};
 use sccp_base::{List, Marking, OutOfMemory, PointCode};
 use sccp_message::Message;
-use sccp_scrc::{Arrival, Passed, arrive_message, arrive_stepped, pass_on};
+use sccp_scrc::{Arrival, Here, Passed, arrive_message, arrive_stepped, pass_on};
 use std::alloc::Global;
 
 /// The way of a message from here on: the number of arrivals that are left at most, the first of them at this node, from this
@@ -137,9 +137,15 @@ fn stop<S: HoldsMarking>(
         ..
     } = rest;
     let marking = marking_at(states, node);
+    let here = Here {
+        plan,
+        node,
+        marking,
+        origin,
+    };
     match hop {
-        Some(hop) => arrive_stepped(alloc, plan, node, marking, origin, message, hop),
-        None => arrive_message(alloc, plan, node, marking, origin, message),
+        Some(hop) => arrive_stepped(alloc, &here, message, hop),
+        None => arrive_message(alloc, &here, message),
     }
 }
 

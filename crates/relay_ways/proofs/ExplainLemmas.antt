@@ -242,7 +242,7 @@ settled_conditions plan node origin b to sent those cs are shortest =
           (settled_possible those (recursion_from_All IsPossible (map (λ w. w.condition) those) are.possible));
     })
 
--- What is told of ways, one after the other.
+-- What is given of ways, one after the other.
 pub record AreTold (plan : Network) (node origin : ℕ) (b : List ℕ) (those : List Way) (found : List Explanation) : Type 0 where
   pub shortest : map (λ x. x.condition) found ≡ map (λ w. settled w.condition) those
   pub handled : All (IsHandled plan node origin b) found

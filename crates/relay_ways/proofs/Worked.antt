@@ -37,7 +37,7 @@ two : map (λ t. t.condition) (turns_by (network (node ∷ []) []) node spot
     ∷ []
 two = refl
 
--- the same relay twice: the second can't be taken
+-- the same relay twice: the second cannot be taken
 twice : map (λ t. is_possible t.condition) (turns_by (network (node ∷ []) []) node spot
     (Some (rule selector None (4 ∷ []) (Relay 2051 0 [] None None ∷ Relay 2051 1 [] None None ∷ []))))
     ≡ true ∷ false ∷ true ∷ true ∷ []

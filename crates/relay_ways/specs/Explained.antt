@@ -56,7 +56,7 @@ pub record Tells (plan : Network) (node origin : ℕ) (b : List ℕ) (w : Way) (
   pub shortest : x.condition ≡ settled w.condition
   pub handled : HasCondition w.condition (ways plan node origin b) → IsHandled plan node origin b x
 
--- what is told of a way is put at the end
+-- what is given of a way is put at the end
 pub record AddsTold (plan : Network) (node origin : ℕ) (b : List ℕ) (w : Way) (old new : List Explanation) : Type 0 where
   pub explanation : Explanation
   pub tells : Tells plan node origin b w explanation

@@ -41,7 +41,7 @@ rank reasons.Digits = 13
 rank reasons.CalledPoint = 14
 rank reasons.Closed = 15
 
--- the one of two that comes later, and of equal ones the first
+-- the later one of two, and of equal ones the first
 abbrev pub later : Reason → Reason → Reason
 later a b = if nat_lt (rank a) (rank b) then b else a
 

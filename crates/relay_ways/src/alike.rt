@@ -1,5 +1,5 @@
 //! Whether a message counts as the one that the plan has a relay send.
-ghost use Rattle.std.specs.Prelude.{◌≡◌, if◌then◌else◌, true, IsTrue, ◌↔◌, ◌==◌, ◌&&◌, not, IsSomeAnd};
+ghost use Rattle.std.specs.Prelude.{◌≡◌, if◌then◌else◌, true, IsTrue, ◌↔◌, ◌==◌, ◌&&◌, IsSomeAnd};
 ghost use Rattle.std.specs.Option.{option_copied};
 ghost use Rattle.sccp_message.specs.Unitdata.{called_of, hops_of, payload_of};
 ghost use Rattle.relay_ways.specs.Alike.{IsAlike, IsSameCalled, code_of, number_of, calling_of, params_of};
@@ -38,8 +38,8 @@ pub(crate) fn number(message: &Message) -> u8
     }
 }
 
-/// The calling address.
-pub(crate) fn calling(message: &Message) -> Option<&Address>
+/// The calling address of a connectionless message (Q.713 section 3.5). `None` for any other message.
+pub fn calling(message: &Message) -> Option<&Address>
     ensures { option_copied result ≡ calling_of message.now }
 {
     match message {

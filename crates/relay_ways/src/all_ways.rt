@@ -5,7 +5,7 @@ ghost use Rattle.sccp_base.specs.declared.mark.Mark.{Mark};
 ghost use Rattle.sccp_scrc.specs.Arriving.{point_of};
 ghost use Rattle.sccp_scrc.specs.declared.way.Way.TheVariants.{ByTitle};
 ghost use Rattle.relay_ways.specs.Conditions.{both, is_possible, IsPossible};
-ghost use Rattle.relay_ways.specs.Outcomes.{Outcome, cleared, cleared_way, cleared_service, Becomes};
+ghost use Rattle.relay_ways.specs.Outcomes.{Outcome, cleared, cleared_way, Becomes};
 ghost use Rattle.relay_ways.specs.Sends.{sending, forwarded};
 ghost use Rattle.relay_ways.specs.Ways.{way, reaches, forwarded_way, service_ways, ways_of, possible, possible_ways, ways};
 ghost use Rattle.relay_ways.specs.Ways.{AreWays, IsForwarded, AddsWays};

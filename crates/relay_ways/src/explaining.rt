@@ -90,7 +90,7 @@ fn kept_ways(
     Ok(kept)
 }
 
-/// What is told of a way.
+/// What is given of a way.
 fn told(alloc: Global, at: &Incoming<'_>, way: &Way) -> Result<Explanation, OutOfMemory>
     ensures { IfOk result (Tells at.now.plan.now at.now.node at.now.origin at.now.octets.now way.now) }
 {
@@ -102,7 +102,7 @@ fn told(alloc: Global, at: &Incoming<'_>, way: &Way) -> Result<Explanation, OutO
     })
 }
 
-/// Puts what is told of a way at the end.
+/// Puts what is given of a way at the end.
 fn add_told(
     alloc: Global,
     at: &Incoming<'_>,

@@ -9,14 +9,12 @@
 mod alike;
 mod all_ways;
 mod candidate;
-mod changing;
 mod condition;
 mod explaining;
 mod explanation;
 mod handling;
 mod incoming;
 mod laws;
-mod leading;
 mod markings;
 mod outcomes;
 mod own_service;
@@ -30,7 +28,7 @@ mod way;
 mod would_send;
 mod writing;
 
-pub use alike::is_alike;
+pub use alike::{calling, is_alike};
 pub use all_ways::ways;
 pub use candidate::Candidate;
 pub use condition::Condition;

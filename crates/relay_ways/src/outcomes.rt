@@ -1,9 +1,8 @@
 //! The conditions of what becomes of octets at a node.
-ghost use Rattle.std.specs.Prelude.{◌≡◌, ◌<◌, ◌==◌, ◌&&◌, ◌++◌, ◌∷◌, ℕ, [], not, length, IfOk, OnOk};
-ghost use Rattle.std.specs.List.{list_any};
+ghost use Rattle.std.specs.Prelude.{◌≡◌, ◌<◌, ◌∷◌, ℕ, [], length, IfOk};
 ghost use Rattle.sccp_message.specs.declared.message.Message.{Message};
 ghost use Rattle.sccp_message.specs.Unitdata.{called_of};
-ghost use Rattle.sccp_scrc.specs.Arriving.{is_last_hop, point_of};
+ghost use Rattle.sccp_scrc.specs.Arriving.{point_of};
 ghost use Rattle.sccp_scrc.specs.Rewriting.{spot_of};
 ghost use Rattle.relay_ways.specs.Outcomes.{titled, is_user, at_user, on_subsystem, by_address, outcomes, outcome_conditions};
 
@@ -13,7 +12,7 @@ use plan_model::Plan;
 use sccp_address::Address;
 use sccp_base::{List, Mark, OutOfMemory};
 use sccp_message::{DecodeFault, Message, decode};
-use sccp_scrc::spot;
+use sccp_scrc::{is_last_hop, spot};
 use std::alloc::Global;
 
 /// Whether a subsystem number is that of a subsystem of the node, and not SCCP management.
@@ -92,16 +91,6 @@ fn titled(
     }
 }
 
-/// Whether the hop counter is used up by one more translation.
-fn is_last_hop(hops: Option<u8>) -> bool
-    ensures { result ≡ is_last_hop hops }
-{
-    match hops {
-        Some(hops) => hops <= 1,
-        None => false,
-    }
-}
-
 /// The conditions of what becomes of a message.
 fn of_message(
     alloc: Global,
@@ -127,8 +116,8 @@ fn of_message(
     }
 }
 
-/// The conditions of what becomes of octets at the node at this place of the plan, in the order of the outcomes. From where
-/// the octets arrive does not matter.
+/// The conditions of what becomes of octets at the node at this place of the plan, in the order of the outcomes. The point
+/// from which the octets arrive does not matter.
 pub(crate) fn outcome_conditions(
     alloc: Global,
     plan: &Plan,

@@ -34,7 +34,7 @@ pub enum Reason {
     Title,
     /// Its title has other digits.
     Digits,
-    /// Its called address has a point code that is not where it goes.
+    /// Its called address has a point code that is not the point it goes to.
     CalledPoint,
     /// A target does all this, and under no marking it is the first open one.
     Closed,

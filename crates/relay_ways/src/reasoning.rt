@@ -13,16 +13,16 @@ use crate::alike::{
     same_number, same_point,
 };
 use crate::candidate::Candidate;
-use crate::changing::asks_for_return;
 use crate::incoming::Incoming;
 use crate::reason::Reason;
 use crate::would_send::candidates;
 use sccp_address::{Address, Title};
 use sccp_base::{OutOfMemory, PointCode};
 use sccp_message::{DecodeFault, Message, decode};
+use sccp_scrc::asks_for_return;
 use std::alloc::Global;
 
-/// The one of two that comes later, and of equal ones the first.
+/// The later one of two, and of equal ones the first.
 fn later(a: Reason, b: Reason) -> Reason
     ensures { result ≡ later a b }
 {
@@ -57,7 +57,7 @@ fn title_fault(a: &Title, b: &Title) -> Reason
     }
 }
 
-/// The fault of a title, or of what comes after it.
+/// The fault of a title, or of what is tested after it.
 fn by_title(to: PointCode, a: &Address, b: &Address) -> Reason
     ensures { result ≡ by_title to a.now b.now }
 {
@@ -204,7 +204,7 @@ fn keeps_params(message: &Message, sent: &Message) -> bool
     have_same_params(message, sent)
 }
 
-/// The first fault of the parameters and of what comes after them. The calling address is the right one.
+/// The first fault of the parameters and of what is tested after them. The calling address is the right one.
 fn by_contents(
     alloc: Global,
     message: &Message,

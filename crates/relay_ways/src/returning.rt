@@ -1,5 +1,5 @@
 //! What a node would send because it returns an arrival: the service message itself, or what goes on of it at the node.
-ghost use Rattle.std.specs.Prelude.{◌≡◌, ◌<◌, ◌++◌, [], length, List, OnOk, Some, Ok};
+ghost use Rattle.std.specs.Prelude.{◌≡◌, ◌<◌, ◌++◌, [], length, List, IfOk, OnOk, Some, Ok};
 ghost use Rattle.std.specs.List.{flat_map};
 ghost use Rattle.sccp_base.specs.declared.mark.Mark.{Mark};
 ghost use Rattle.sccp_message.specs.declared.message.Message.{Message};
@@ -7,7 +7,7 @@ ghost use Rattle.sccp_message.specs.Reading.{reading};
 ghost use Rattle.sccp_message.specs.Unitdata.{called_of};
 ghost use Rattle.plan_model.specs.Routes.{StaysIn};
 ghost use Rattle.sccp_scrc.specs.Arriving.{point_of};
-ghost use Rattle.sccp_scrc.specs.Returning.{returned};
+ghost use Rattle.sccp_scrc.specs.Returning.{returned, service_for};
 ghost use Rattle.sccp_scrc.specs.Rewriting.{spot_of};
 ghost use Rattle.sccp_scrc.specs.declared.arrival.Arrival.{Arrival};
 ghost use Rattle.relay_ways.specs.Candidates.{served, candidates_of, outcome_going_on, turn_steps, step_going_on};
@@ -17,12 +17,12 @@ use crate::candidate::Candidate;
 use crate::incoming::Incoming;
 use crate::own_service::OwnService;
 use crate::turn_steps::turn_steps;
-use crate::writing::{add, add_written, is_last_hop, onward, read, service_for};
+use crate::writing::{add, add_written, onward, read};
 use plan_model::{Plan, Spot, Step};
 use sccp_address::Address;
-use sccp_base::{List, OutOfMemory};
+use sccp_base::{List, Marking, OutOfMemory, PointCode};
 use sccp_message::{DecodeFault, Message, decode};
-use sccp_scrc::{Service, Way, spot};
+use sccp_scrc::{Service, Way, is_last_hop, service_for, spot};
 use std::alloc::Global;
 
 /// Adds what goes on if a step is made of a service message at the node itself.
@@ -184,6 +184,21 @@ fn add_served_if_any(
     }
 }
 
+/// The service message of a message while nothing is prohibited, if the sender asks for one and it can be written.
+fn unmarked_service(
+    alloc: Global,
+    origin: PointCode,
+    cause: u8,
+    message: Message,
+) -> Result<Option<Service>, OutOfMemory>
+    ensures { IfOk result (λ s. s ≡ service_for [] origin cause message) }
+{
+    let unmarked = Marking::new(alloc);
+    let service = service_for(alloc, &unmarked, origin, cause, message);
+    drop(unmarked);
+    service
+}
+
 /// Adds the service message if the message is returned for this cause.
 pub(crate) fn add_returned(
     alloc: Global,
@@ -195,6 +210,6 @@ pub(crate) fn add_returned(
         ++ candidates_of at.now.plan.now at.now.node (returned [] at.now.origin m cause marks)) }
 {
     let message = read(alloc, at.octets)?;
-    let service = service_for(alloc, at.origin, cause, message)?;
+    let service = unmarked_service(alloc, at.origin, cause, message)?;
     add_served_if_any(alloc, at.plan, at.node, cause, service, found)
 }

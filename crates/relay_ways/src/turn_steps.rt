@@ -5,26 +5,13 @@ ghost use Rattle.sccp_base.specs.declared.mark.Mark.{Mark};
 ghost use Rattle.plan_model.specs.Network.{Network, LeadsOn};
 ghost use Rattle.plan_model.specs.Routes.{StaysIn};
 ghost use Rattle.plan_model.specs.declared.hop.Step.{Step};
-ghost use Rattle.plan_model.specs.Steps.{cause_of};
 ghost use Rattle.relay_ways.specs.Candidates.{turn_steps, taken_steps, closed_step};
 ghost use Rattle.relay_ways.specs.Turns.{taken_turns, closed_row};
 
-use crate::leading::led;
-use plan_model::{ClosingMarks, Node, Plan, Spot, Step};
+use plan_model::{ClosingMarks, Node, Plan, Spot, Step, cause_of, led};
 use plan_rules::Target;
 use sccp_base::{List, Mark, OutOfMemory};
 use std::alloc::Global;
-
-/// The return cause that a closing mark gives.
-fn cause_of(mark: &Mark) -> u8
-    ensures { result ≡ cause_of mark.now }
-{
-    match mark {
-        Mark::PointCode(_) => 5,
-        Mark::Sccp(_) => 11,
-        Mark::Subsystem(_, _) => 3,
-    }
-}
 
 /// Adds a step that stays in the plan.
 fn add_step(found: &mut List<Step>, plan: &Plan, step: Step) -> Result<(), OutOfMemory>

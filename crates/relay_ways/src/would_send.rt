@@ -15,12 +15,12 @@ use crate::candidate::Candidate;
 use crate::incoming::Incoming;
 use crate::returning::add_returned;
 use crate::turn_steps::turn_steps;
-use crate::writing::{add, is_last_hop, onward, rewritten};
+use crate::writing::{add, onward, rewritten};
 use plan_model::{Plan, Spot, Step};
 use sccp_address::Address;
 use sccp_base::{List, OutOfMemory, PointCode};
 use sccp_message::{DecodeFault, Message, decode};
-use sccp_scrc::spot;
+use sccp_scrc::{is_last_hop, spot};
 use std::alloc::Global;
 
 /// Adds the message if it goes on to a point with this called address. If it cannot be written, it is returned for cause 9.

@@ -1,35 +1,19 @@
-//! The messages that a node makes of an arrival: with another called address, or the service message.
+//! The messages that a node makes of an arrival, with another called address.
 ghost use Rattle.std.specs.Prelude.{◌≡◌, ◌<◌, ◌++◌, ◌∷◌, [], length, IfOk, OnOk, Some, Ok, option_map};
-ghost use Rattle.std.specs.Option.{option_map_or};
 ghost use Rattle.sccp_message.specs.declared.message.Message.{Message};
 ghost use Rattle.sccp_message.specs.Reading.{reading};
-ghost use Rattle.sccp_message.specs.Unitdata.{called_of};
 ghost use Rattle.plan_model.specs.Routes.{StaysIn};
-ghost use Rattle.sccp_scrc.specs.Arriving.{is_last_hop};
-ghost use Rattle.sccp_scrc.specs.Returning.{service_by, service_for, way_back};
 ghost use Rattle.sccp_scrc.specs.Rewriting.{one_less, spot_of};
 ghost use Rattle.sccp_scrc.specs.Unitdata.{redirected, octets_of};
-ghost use Rattle.sccp_scrc.specs.declared.way.Way.TheVariants.{Direct};
 ghost use Rattle.relay_ways.specs.Candidates.{candidate, if_written, onward};
 
 use crate::candidate::Candidate;
-use crate::changing::{asks_for_return, octets_of, redirected, service_message};
 use plan_model::{Plan, Spot, Step};
 use sccp_address::Address;
 use sccp_base::{List, Octets, OutOfMemory, PointCode};
 use sccp_message::{Message, decode};
-use sccp_scrc::{Service, Way, onward_address, spot};
+use sccp_scrc::{octets_of, onward_address, rewrite};
 use std::alloc::Global;
-
-/// Whether the hop counter is used up by one more translation.
-pub(crate) fn is_last_hop(hops: Option<u8>) -> bool
-    ensures { result ≡ is_last_hop hops }
-{
-    match hops {
-        Some(hops) => hops <= 1,
-        None => false,
-    }
-}
 
 /// The message that octets are, which read.
 pub(crate) fn read(alloc: Global, octets: &[u8]) -> Result<Message, OutOfMemory>
@@ -41,65 +25,6 @@ pub(crate) fn read(alloc: Global, octets: &[u8]) -> Result<Message, OutOfMemory>
     }
 }
 
-/// The way of a service message to the calling address, if it is not shut.
-fn way_back(origin: PointCode, calling: &Address) -> Way
-    ensures { result ≡ way_back [] origin calling.now }
-{
-    if !calling.by_ssn && spot(0, calling).is_some() {
-        Way::ByTitle
-    } else {
-        Way::Direct(calling.pc.unwrap_or(origin))
-    }
-}
-
-/// The way of a service message, by its called address.
-fn way_of(origin: PointCode, message: &Message) -> Way
-    ensures { result ≡ option_map_or (way_back [] origin) (called_of message.now) (Direct origin) }
-{
-    match message.called() {
-        Some(address) => way_back(origin, address),
-        None => Way::Direct(origin),
-    }
-}
-
-/// The octets and the way of a service message, if it can be written.
-fn service_by(
-    alloc: Global,
-    origin: PointCode,
-    message: &Message,
-) -> Result<Option<Service>, OutOfMemory>
-    ensures { IfOk result (λ s. s ≡ service_by [] origin message.now) }
-{
-    let way = way_of(origin, message);
-    match octets_of(alloc, message)? {
-        Some(octets) => Ok(Some(Service { octets, way })),
-        None => Ok(None),
-    }
-}
-
-/// The service message of a message, if the sender asks for one and it can be written.
-pub(crate) fn service_for(
-    alloc: Global,
-    origin: PointCode,
-    cause: u8,
-    message: Message,
-) -> Result<Option<Service>, OutOfMemory>
-    ensures { IfOk result (λ s. s ≡ service_for [] origin cause message) }
-{
-    if !asks_for_return(&message) {
-        drop(message);
-        return Ok(None);
-    }
-    match service_message(cause, message) {
-        Some(service) => {
-            let by = service_by(alloc, origin, &service);
-            drop(service);
-            by
-        }
-        None => Ok(None),
-    }
-}
-
 /// The octets of a message to another called address, its hop counter one less, if they can be written.
 pub(crate) fn rewritten(
     alloc: Global,
@@ -108,7 +33,7 @@ pub(crate) fn rewritten(
 ) -> Result<Option<Octets>, OutOfMemory>
     ensures { (m : Message) → reading octets.now ≡ Ok m → IfOk result (λ new. new ≡ octets_of (redirected called one_less m)) }
 {
-    let new = redirected(read(alloc, octets)?, called);
+    let (new, _) = rewrite(read(alloc, octets)?, called);
     let written = octets_of(alloc, &new);
     drop(new);
     written

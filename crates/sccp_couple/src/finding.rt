@@ -16,7 +16,7 @@ fn found_at(sections: &[Section], own: Reference) -> Option<&Section>
 }
 
 /// A copy of the section with an own reference, if there is one.
-pub(crate) fn section_at(sections: &[Section], own: Reference) -> Option<Section>
+pub fn section_at(sections: &[Section], own: Reference) -> Option<Section>
     ensures { result ≡ section_at sections.now own }
 {
     match found_at(sections, own) {

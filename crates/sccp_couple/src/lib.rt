@@ -26,6 +26,7 @@ mod short;
 mod way;
 
 pub use exchange::Exchange;
+pub use finding::section_at;
 pub use laws::{
     all_is_sent, each_goes_to_one_section, each_is_of_one_pair, none_is_made_up, steps_keep,
 };

@@ -1,19 +1,15 @@
 -- a message that is not relayed
 use Rattle.std.specs.Prelude.{◌≡◌, ℕ, Bool, true, false, ◌==◌, not, List, [], ◌∷◌, Option, Some, None, is_none, if◌then◌else◌, refl}
 use Rattle.std.specs.List.{list_any}
-use Rattle.std.proofs.Common.{sym, ap, subst}
 use Rattle.sccp_base.specs.Marks.{holds}
 use Rattle.sccp_base.specs.declared.mark.Mark.{Mark}
 use Rattle.sccp_base.specs.declared.mark.Mark.TheVariants.{Subsystem}
-use Rattle.sccp_address.specs.declared.address.Address.{Address}
 use Rattle.sccp_layout.specs.declared.parts.JoinFault.{JoinFault}
 use Rattle.sccp_message.specs.declared.message.Message.{Message}
 use Rattle.sccp_message.specs.Written.{message_octets, Writable}
 use Rattle.plan_model.specs.Network.{Network}
-use Rattle.sccp_scrc.specs.declared.arrival.Arrival.{Arrival}
 use Rattle.sccp_scrc.specs.declared.arrival.Arrival.TheVariants.{Ended, Local, Management}
 use Rattle.sccp_scrc.specs.Unitdata.{write_fault, octets_of}
-use Rattle.sccp_scrc.specs.Rewriting.{rewritten}
 use Rattle.sccp_scrc.specs.Returning.{returned}
 use Rattle.sccp_scrc.specs.Arriving.{point_of, subsystems_of, at_subsystem, leaving}
 use Rattle.sccp_scrc.specs.Passing.{is_relayed}

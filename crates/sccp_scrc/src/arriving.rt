@@ -13,6 +13,7 @@ ghost use Rattle.sccp_scrc.specs.Passing.{IsStepped};
 ghost use Rattle.sccp_scrc.specs.Outcomes.{IsRelayed, IsEnded, IsLocal, IsReturned};
 
 use crate::arrival::Arrival;
+use crate::here::Here;
 use crate::leaving::{place, relay};
 use crate::returning::returned;
 use crate::rewriting::{address_after, spot_in};
@@ -41,29 +42,25 @@ fn one_mark(alloc: Global, mark: Mark) -> Result<List<Mark>, OutOfMemory>
 /// What becomes of a message that is routed on its subsystem number.
 fn at_subsystem(
     alloc: Global,
-    plan: &Plan,
-    node: u8,
-    marking: &Marking,
-    origin: PointCode,
+    here: &Here<'_>,
     message: Message,
     ssn: Option<u8>,
 ) -> Result<Arrival, OutOfMemory>
-    requires { node < length plan.now.nodes }
-    ensures { IfOk result (λ a. a ≡ at_subsystem plan.now node marking.now origin message ssn) }
+    ensures { IfOk result (λ a. a ≡ at_subsystem here.now.plan.now here.now.node here.now.marking.now here.now.origin message ssn) }
 {
     let Some(ssn) = ssn else {
-        return returned(alloc, marking, origin, message, 4, List::new(alloc));
+        return returned(alloc, here, message, 4, List::new(alloc));
     };
     if ssn == 1 {
         return Ok(Arrival::Management(message));
     }
-    if !is_own(plan, node, ssn) {
-        return returned(alloc, marking, origin, message, 4, List::new(alloc));
+    if !is_own(here.plan, here.node, ssn) {
+        return returned(alloc, here, message, 4, List::new(alloc));
     }
-    let own = plan.point_of(node);
-    if marking.holds(Mark::Subsystem(own, ssn)) {
+    let own = here.plan.point_of(here.node);
+    if here.marking.holds(Mark::Subsystem(own, ssn)) {
         return match one_mark(alloc, Mark::Subsystem(own, ssn)) {
-            Ok(marks) => returned(alloc, marking, origin, message, 3, marks),
+            Ok(marks) => returned(alloc, here, message, 3, marks),
             Err(fault) => {
                 drop(message);
                 Err(fault)
@@ -76,54 +73,34 @@ fn at_subsystem(
 /// What a step makes of the message, with the called address that it goes on with.
 fn after(
     alloc: Global,
-    plan: &Plan,
-    node: u8,
-    marking: &Marking,
-    origin: PointCode,
+    here: &Here<'_>,
     message: Message,
     to: Option<Address>,
     step: Step,
 ) -> Result<Arrival, OutOfMemory>
-    requires node { node < length plan.now.nodes }
     requires called { IsSome (called_of message) }
-    requires stays { StaysIn plan.now step }
+    requires stays { StaysIn here.now.plan.now step }
     requires to { IfNone to (next_place step ≡ false) }
     ensures { (address : Address) → called_of message ≡ Some address → to ≡ onward_address step address
-        → IfOk result (λ a. a ≡ after_step plan.now node marking.now origin message address step) }
+        → IfOk result (λ a. a ≡ after_step here.now.plan.now here.now.node here.now.marking.now here.now.origin message address step) }
 {
     match step {
         Step::Sent { next, .. } => match to {
-            Some(to) => relay(
-                alloc,
-                plan.point_of(next.node),
-                marking,
-                origin,
-                message,
-                to,
-            ),
+            Some(to) => relay(alloc, here, here.plan.point_of(next.node), message, to),
             None => unreachable!(),
         },
         Step::Ended { pc, ssn, .. } => match to {
-            Some(to) => place(
-                alloc,
-                plan.point_of(node),
-                pc,
-                ssn,
-                marking,
-                origin,
-                message,
-                to,
-            ),
+            Some(to) => place(alloc, here, pc, ssn, message, to),
             None => unreachable!(),
         },
-        Step::Blocked { cause, marks } => returned(alloc, marking, origin, message, cause, marks),
-        Step::NoRow { cause } => returned(alloc, marking, origin, message, cause, List::new(alloc)),
-        Step::Overgrown => returned(alloc, marking, origin, message, 9, List::new(alloc)),
+        Step::Blocked { cause, marks } => returned(alloc, here, message, cause, marks),
+        Step::NoRow { cause } => returned(alloc, here, message, cause, List::new(alloc)),
+        Step::Overgrown => returned(alloc, here, message, 9, List::new(alloc)),
     }
 }
 
-/// Whether the hop counter is used up by one more translation.
-pub(crate) fn is_last_hop(hops: Option<u8>) -> bool
+/// Whether the hop counter is used up by one more translation. A message without a counter goes on.
+pub fn is_last_hop(hops: Option<u8>) -> bool
     ensures { result ≡ is_last_hop hops }
 {
     match hops {
@@ -133,29 +110,21 @@ pub(crate) fn is_last_hop(hops: Option<u8>) -> bool
 }
 
 /// What becomes of a message that is routed on its global title: first the hop counter is tested.
-fn at_title(
-    alloc: Global,
-    plan: &Plan,
-    node: u8,
-    marking: &Marking,
-    origin: PointCode,
-    message: Message,
-) -> Result<Arrival, OutOfMemory>
-    requires node { node < length plan.now.nodes }
+fn at_title(alloc: Global, here: &Here<'_>, message: Message) -> Result<Arrival, OutOfMemory>
     requires called { IsSome (called_of message) }
     ensures { (address : Address) → called_of message ≡ Some address
-        → IfOk result (λ a. a ≡ at_title plan.now node marking.now origin message address) }
+        → IfOk result (λ a. a ≡ at_title here.now.plan.now here.now.node here.now.marking.now here.now.origin message address) }
 {
     if is_last_hop(message.hops()) {
-        return returned(alloc, marking, origin, message, 12, List::new(alloc));
+        return returned(alloc, here, message, 12, List::new(alloc));
     }
-    match spot_in(node, &message) {
-        None => returned(alloc, marking, origin, message, 0, List::new(alloc)),
+    match spot_in(here.node, &message) {
+        None => returned(alloc, here, message, 0, List::new(alloc)),
         Some(spot) => {
-            match step(alloc, plan, &spot, marking) {
+            match step(alloc, here.plan, &spot, here.marking) {
                 Ok(step) => {
                     let to = address_after(&message, &spot, &step);
-                    after(alloc, plan, node, marking, origin, message, to, step)
+                    after(alloc, here, message, to, step)
                 }
                 Err(fault) => {
                     drop(message);
@@ -176,26 +145,23 @@ pub(crate) fn routing(message: &Message) -> Option<(bool, Option<u8>)>
     }
 }
 
-/// What becomes of a message that arrives from the point `origin` (Q.714 section 2). It arrives at the node at this place of
-/// the plan, which holds the marking. `arrive` gives the same for its octets. The error is want of memory.
+/// What becomes of a message that arrives here (Q.714 section 2). `arrive` gives the same for its octets. The error is want of
+/// memory.
 pub fn arrive_message(
     alloc: Global,
-    plan: &Plan,
-    node: u8,
-    marking: &Marking,
-    origin: PointCode,
+    here: &Here<'_>,
     message: Message,
 ) -> Result<Arrival, OutOfMemory>
-    requires node { node < length plan.now.nodes }
-    ensures { IfOk result (λ a. a ≡ by_called plan.now node marking.now origin message (called_of message)) }
+    ensures { IfOk result (λ a. a ≡ by_called here.now.plan.now here.now.node here.now.marking.now here.now.origin message
+        (called_of message)) }
 {
     match routing(&message) {
         None => Ok(Arrival::Connection(message)),
         Some((by_ssn, ssn)) => {
             if by_ssn {
-                at_subsystem(alloc, plan, node, marking, origin, message, ssn)
+                at_subsystem(alloc, here, message, ssn)
             } else {
-                at_title(alloc, plan, node, marking, origin, message)
+                at_title(alloc, here, message)
             }
         }
     }
@@ -204,37 +170,26 @@ pub fn arrive_message(
 /// The same for a message that `pass_on` left as it is: the hop that was looked up is not looked up again.
 pub fn arrive_stepped(
     alloc: Global,
-    plan: &Plan,
-    node: u8,
-    marking: &Marking,
-    origin: PointCode,
+    here: &Here<'_>,
     message: Message,
     hop: Hop,
 ) -> Result<Arrival, OutOfMemory>
-    requires node { node < length plan.now.nodes }
-    requires stepped { IsStepped plan.now node marking.now
-        (λ from. by_called plan.now node marking.now from message (called_of message)) message hop }
-    ensures { IfOk result (λ a. a ≡ by_called plan.now node marking.now origin message (called_of message)) }
+    requires stepped { IsStepped here.now.plan.now here.now.node here.now.marking.now
+        (λ from. by_called here.now.plan.now here.now.node here.now.marking.now from message (called_of message)) message hop }
+    ensures { IfOk result (λ a. a ≡ by_called here.now.plan.now here.now.node here.now.marking.now here.now.origin message
+        (called_of message)) }
 {
     let Hop { spot, step } = hop;
     let to = address_after(&message, &spot, &step);
-    after(alloc, plan, node, marking, origin, message, to, step)
+    after(alloc, here, message, to, step)
 }
 
 /// What becomes of octets.
-fn of_octets(
-    alloc: Global,
-    plan: &Plan,
-    node: u8,
-    marking: &Marking,
-    origin: PointCode,
-    octets: &[u8],
-) -> Result<Arrival, OutOfMemory>
-    requires node { node < length plan.now.nodes }
-    ensures { IfOk result (λ a. a ≡ arrival plan.now node marking.now origin octets.now) }
+fn of_octets(alloc: Global, here: &Here<'_>, octets: &[u8]) -> Result<Arrival, OutOfMemory>
+    ensures { IfOk result (λ a. a ≡ arrival here.now.plan.now here.now.node here.now.marking.now here.now.origin octets.now) }
 {
     match decode(alloc, octets) {
-        Ok(message) => arrive_message(alloc, plan, node, marking, origin, message),
+        Ok(message) => arrive_message(alloc, here, message),
         Err(DecodeFault::OutOfMemory) => Err(OutOfMemory),
         Err(fault) => Ok(Arrival::Undecodable(fault)),
     }
@@ -267,5 +222,11 @@ pub fn arrive(
 {
     // The call ensures that the plan is sound, which the clauses need.
     let _nodes = plan.nodes();
-    of_octets(alloc, plan, node, marking, origin, octets)
+    let here = Here {
+        plan,
+        node,
+        marking,
+        origin,
+    };
+    of_octets(alloc, &here, octets)
 }

@@ -10,6 +10,7 @@
 mod arrival;
 mod arriving;
 mod fields;
+mod here;
 mod leaving;
 mod lengths;
 mod passed;
@@ -20,9 +21,12 @@ mod service;
 mod way;
 
 pub use arrival::Arrival;
-pub use arriving::{arrive, arrive_message, arrive_stepped};
+pub use arriving::{arrive, arrive_message, arrive_stepped, is_last_hop};
+pub use here::Here;
+pub use leaving::octets_of;
 pub use passed::Passed;
 pub use passing::pass_on;
-pub use rewriting::{one_less, onward_address, spot};
+pub use returning::{asks_for_return, service_for};
+pub use rewriting::{one_less, onward_address, rewrite, spot};
 pub use service::Service;
 pub use way::Way;

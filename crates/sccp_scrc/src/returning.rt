@@ -6,6 +6,7 @@ ghost use Rattle.sccp_message.specs.Unitdata.{called_of};
 ghost use Rattle.sccp_scrc.specs.Returning.{way_to, way_back, asks_for_return, service_message, service_for, service_by, returned};
 
 use crate::arrival::Arrival;
+use crate::here::Here;
 use crate::leaving::octets_of;
 use crate::rewriting::spot;
 use crate::service::Service;
@@ -39,8 +40,8 @@ fn way_back(marking: &Marking, origin: PointCode, calling: &Address) -> Way
     }
 }
 
-/// Whether the sender asks for the return of the message.
-fn asks_for_return(message: &Message) -> bool
+/// Whether the sender asks for the return of the message: the class of a UDT, XUDT or LUDT has return on error (Q.713 section 3.6).
+pub fn asks_for_return(message: &Message) -> bool
     ensures { result ≡ asks_for_return message.now }
 {
     match message {
@@ -69,7 +70,7 @@ macro_rules! by_type {
     };
 }
 
-/// The service message, with the two addresses exchanged.
+/// The service message of a UDT, XUDT or LUDT, with the two addresses exchanged. `None` for any other type.
 fn service_message(cause: u8, message: Message) -> Option<Message>
     ensures { result ≡ service_message cause message }
 {
@@ -105,8 +106,9 @@ fn service_by(
     }
 }
 
-/// The service message of a message, if the sender asks for one and it can be written.
-fn service_for(
+/// The octets of a message's service message for a return cause, and their way under the marking. `None` if the sender asks for
+/// none, or if it cannot be written.
+pub fn service_for(
     alloc: Global,
     marking: &Marking,
     origin: PointCode,
@@ -132,15 +134,14 @@ fn service_for(
 /// The message cannot be delivered, for this cause; the marks are those that close its targets.
 pub(crate) fn returned(
     alloc: Global,
-    marking: &Marking,
-    origin: PointCode,
+    here: &Here<'_>,
     message: Message,
     cause: u8,
     marks: List<Mark>,
 ) -> Result<Arrival, OutOfMemory>
-    ensures { IfOk result (λ a. a ≡ returned marking.now origin message cause marks) }
+    ensures { IfOk result (λ a. a ≡ returned here.now.marking.now here.now.origin message cause marks) }
 {
-    let service = service_for(alloc, marking, origin, cause, message)?;
+    let service = service_for(alloc, here.marking, here.origin, cause, message)?;
     Ok(Arrival::Returned {
         cause,
         marks,

@@ -1,5 +1,5 @@
 //! How a relay rewrites a message: the called address, and the hop counter (Q.714 section 2).
-ghost use Rattle.std.specs.Prelude.{◌≡◌, ◌<◌, ℕ, length, IfSome, IsSome, Some, unwrap_or, option_map};
+ghost use Rattle.std.specs.Prelude.{◌≡◌, ◌<◌, ℕ, IfSome, IsSome, Some, unwrap_or, option_map};
 ghost use Rattle.sccp_address.specs.declared.address.Address.{Address};
 ghost use Rattle.sccp_message.specs.declared.message.Message.{Message};
 ghost use Rattle.sccp_message.specs.Unitdata.{called_of, hops_of};
@@ -102,7 +102,7 @@ pub(crate) fn relay_address(message: &Message, next: Spot) -> Option<Address>
 }
 
 /// The message to another called address, its hop counter one less, and the called address that it had.
-pub(crate) fn rewrite(message: Message, called: Address) -> (Message, Option<Address>)
+pub fn rewrite(message: Message, called: Address) -> (Message, Option<Address>)
     ensures changed { result.0 ≡ redirected called one_less message }
     ensures old { result.1 ≡ called_of message }
 {

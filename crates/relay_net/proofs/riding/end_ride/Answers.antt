@@ -1,5 +1,5 @@
 use Rattle.std.specs.Prelude.{map}
-use Rattle.std.proofs.Common.{◌++◌, List, ℕ, sym, ap, ◌∙◌, arith}
+use Rattle.std.proofs.Common.{◌++◌, sym, ap, ◌∙◌, arith}
 use Rattle.sccp_message.specs.Written.{message_octets}
 use Rattle.relay_net.specs.Journeys.{Trip}
 use Rattle.relay_net.proofs.Passages.{last_here}

@@ -3,7 +3,7 @@ use Rattle.std.proofs.Common.{◌≡◌, ◌++◌, IfOk, List, ℕ, Option, ap, 
 use Rattle.sccp_scrc.specs.declared.arrival.Arrival.{Arrival}
 use Rattle.sccp_scrc.specs.Passing.{ReadsAgain}
 use Rattle.relay_net.specs.Journeys.{Trip}
-use Rattle.relay_net.proofs.Passages.{read_trip, unread_trip}
+use Rattle.relay_net.proofs.Passages.{read_trip}
 use Rattle.relay_net.proofs.travelling.follow.Goals as goal
 
 pub returns-in-Ok-clause-last : goal.returns-in-Ok-clause-last

@@ -2,7 +2,7 @@ use Rattle.std.proofs.Common.{◌≡◌, ◌<◌, ℕ, List, Option, Some, None,
 use Rattle.std.specs.Prelude.{option_map}
 use Rattle.plan_model.specs.Network as plans
 use Rattle.couple_chain.specs.Line as lines
-use Rattle.couple_chain.specs.Line.{line, IsFresh, IsSettled, IsInOrder, IsThrough}
+use Rattle.couple_chain.specs.Line.{line, IsInOrder, IsThrough}
 use Rattle.couple_chain.specs.Relays.{Relaying}
 use Rattle.couple_chain.specs.World.{is_node}
 use Rattle.couple_chain.proofs.Lines.{in_order, through}
