@@ -200,7 +200,7 @@ fn put_alone_lines(text: &mut Vec<u8>, waiting: &[Fragment]) -> Result<(), OutOf
     Ok(())
 }
 
-/// The counts at the end of a capture, of which so many chunks still wait.
+/// The counts at the end of a capture. Each chunk that still waits is one more fault.
 fn counts_at_end(
     counts: &Counts,
     fault: Option<FileFault>,

@@ -10,7 +10,7 @@ use Rattle.std.proofs.lemmas.Bool.{false≢true}
 use Rattle.std.proofs.lemmas.Cmp.{tied_itself}
 use Rattle.std.proofs.lemmas.Map.Lookups.{exact_unsigned}
 use Rattle.sccp_base.proofs.Prefix.{split-starts_with, starts_with-split}
-use Rattle.plan_classes.specs.Order.{selector_cmp}
+use Rattle.plan_rules.specs.Keys.{selector_cmp}
 use Rattle.plan_classes.proofs.Ordered.{selector_total, same_selector}
 use Rattle.plan_covers.specs.Keys.{key_cmp}
 use Rattle.plan_covers.specs.declared.cover_key.CoverKey.{CoverKey}

@@ -24,7 +24,7 @@ use Rattle.plan_change.specs.Holdings.{DoSame, LetsMore, FitsHop}
 use Rattle.plan_change.proofs.SafeMixtures.{safe_not_bad_under}
 use Rattle.plan_change.proofs.Verdicts.{settled}
 
--- what follows a step is the same if it is the same from each spot that comes next
+-- what follows a step is the same if it is the same from each next spot
 pub onward_same : (o : Option Spot) (f g : Spot → List Hop) → ((next : Spot) → o ≡ Some next → f next ≡ g next) → onward o f ≡ onward o g
 onward_same None f g h = refl
 onward_same (Some next) f g h = h next refl

@@ -1,8 +1,7 @@
 //! The titles of a class on their next hop.
 ghost use Rattle.std.specs.Prelude.{◌≡◌, ◌<◌, ◌⊎◌, IsTrue, false, length, IsSomeAnd, IfSome, IfOk, OnOk, Err, None, Some};
 ghost use Rattle.plan_classes.specs.declared.leads.Image.TheVariants.{Ends};
-ghost use Rattle.plan_model.specs.Network.{IsPlan};
-ghost use Rattle.plan_classes.specs.Titles.{IsClass, IsMember, IsLongest};
+ghost use Rattle.plan_classes.specs.Titles.{IsMember};
 ghost use Rattle.plan_classes.specs.Classes.{class_row, Reaches};
 ghost use Rattle.plan_classes.specs.Leading.{ImageIsExact, brought};
 ghost use Rattle.plan_mixed.specs.Pairs.{old_of, new_of};
@@ -19,7 +18,7 @@ use crate::plans::Plans;
 use crate::stop::Origin;
 use crate::way::{Way, one_turn};
 use plan_check::allows;
-use plan_classes::{Class, Image, class_row, image_by, opening, reaches_by, sample};
+use plan_classes::{Class, Image, class_row, image_by, longest, opening, reaches_by, sample};
 use plan_mixed::{Which, new_of, old_of};
 use plan_model::Plan;
 use plan_rules::Row;
@@ -224,11 +223,4 @@ fn bad_way(
     let Origin { which, target, .. } = origin;
     let marking = opening(alloc, plans.held(which), class, target)?;
     one_turn(alloc, class.spot_of(&digits), which, marking)
-}
-
-/// The longest title of a class that has only zeros after the known digits.
-fn longest(class: &Class) -> Digits
-    ensures { IsLongest class.now result }
-{
-    class.known().with_zeros(class.most())
 }

@@ -11,7 +11,7 @@ use Rattle.std.proofs.Common.{sym, ◌∙◌, ap, subst}
 use Rattle.std.proofs.lemmas.Map.Made.{AllPairs-from_IsDistinct}
 use Rattle.sccp_base.specs.Selector.{Numbers}
 use Rattle.plan_classes.specs.Titles.{Titles}
-use Rattle.plan_classes.specs.Order.{selector_cmp}
+use Rattle.plan_rules.specs.Keys.{selector_cmp}
 use Rattle.plan_classes.proofs.Ordered.{same_class}
 use Rattle.plan_check.specs.Ranking.{rank_in, class_cmp}
 use Rattle.plan_check.proofs.Orders.{own_class}

@@ -9,7 +9,8 @@ use Rattle.std.proofs.lemmas.Bool.{false≢true}
 use Rattle.std.proofs.lemmas.Map.Lookups.{exact_unsigned, exact_bytes}
 use Rattle.sccp_base.specs.Selector.{Numbers}
 use Rattle.plan_classes.specs.Titles.{Titles}
-use Rattle.plan_classes.specs.Order.{class_cmp, selector_cmp}
+use Rattle.plan_rules.specs.Keys.{selector_cmp}
+use Rattle.plan_classes.specs.Order.{class_cmp}
 
 pub selector_total : IsTotalOrder selector_cmp
 selector_total =

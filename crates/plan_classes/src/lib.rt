@@ -27,4 +27,4 @@ pub use leads::Image;
 pub use opens::opening;
 pub use reaching::{reaches, reaches_by};
 pub use splitting::parts;
-pub use starts::{sample, start};
+pub use starts::{longest, sample, start};

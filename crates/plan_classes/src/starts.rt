@@ -3,7 +3,7 @@ ghost use Rattle.std.specs.Prelude.{◌≡◌, ◌<◌, ◌≤◌, ◌↔◌, le
 ghost use Rattle.plan_model.specs.declared.spot.Spot.{Spot};
 ghost use Rattle.plan_model.specs.Network.{IsCover};
 ghost use Rattle.plan_model.specs.Covered.{Covers};
-ghost use Rattle.plan_classes.specs.Titles.{IsMember, HasTitle};
+ghost use Rattle.plan_classes.specs.Titles.{IsMember, IsLongest, HasTitle};
 ghost use Rattle.plan_classes.specs.Classes.{start_of, sample_of};
 
 use crate::class::Class;
@@ -60,4 +60,11 @@ pub fn sample(class: &Class) -> Digits
     ensures member { IsMember class.now result }
 {
     class.known().with_zeros(class.least())
+}
+
+/// The longest title of the class that has only zeros after the known digits.
+pub fn longest(class: &Class) -> Digits
+    ensures { IsLongest class.now result }
+{
+    class.known().with_zeros(class.most())
 }

@@ -6,7 +6,7 @@ use Rattle.std.specs.List.{All, Contains}
 use Rattle.std.specs.List.Sorted.{IsSorted}
 use Rattle.std.specs.declared.cmp.Ordering.{Ordering}
 use Rattle.plan_model.specs.declared.cover.Cover.{Cover}
-use Rattle.plan_classes.specs.Order.{selector_cmp}
+use Rattle.plan_rules.specs.Keys.{selector_cmp}
 use Rattle.plan_covers.specs.declared.cover_key.CoverKey.{CoverKey}
 use Rattle.plan_covers.specs.declared.cover_order.PlacedKey.{PlacedKey}
 

@@ -1,5 +1,5 @@
 //! Covers that add nothing to another cover.
-ghost use Rattle.std.specs.Prelude.{◌≡◌, ◌<◌, ◌≤◌, ◌↔◌, ℕ, IsTrue, IfOk, IfSome, None, Some, length, max, slice_get, Contains};
+ghost use Rattle.std.specs.Prelude.{◌≡◌, ◌<◌, ◌≤◌, ◌↔◌, ℕ, IsTrue, IfOk, IfSome, None, Some, length, max, Contains};
 ghost use Rattle.std.specs.List.{All};
 ghost use Rattle.plan_covers.specs.Keys.{key_of, IsOrder};
 ghost use Rattle.plan_covers.specs.Firsts.{IsFirstOf, earlier};

@@ -49,7 +49,7 @@ counts_row r plan set left c old new some decided =
     on_ok_map r (Counts plan set left (AtTargets c 0) (old + 1) new) (Counts plan set left (AtClass c) old new)
     (λ h. record { met = 1 + h.met; tree = ByRow some decided h.tree; sum = omega (arith, h.sum) })
 
--- What is counted of the parts before a place. Whatever is counted of the others comes to it.
+-- What is counted of the parts before a place. Whatever is counted of the others is added to it.
 pub record CountsBefore (plan : Network) (set : OutageSet) (left : ℕ) (parts : List Titles) (i old now : ℕ) : Type 0 where
   pub met : ℕ
   pub rest : (n : ℕ) → Ways plan set left (AtClasses (drop i parts)) n → Ways plan set left (AtClasses parts) (met + n)

@@ -14,7 +14,7 @@ use Rattle.plan_classes.specs.Leading.{OpensClass}
 use Rattle.plan_check.proofs.Soundness.{some_of}
 use Rattle.plan_margin.specs.Searching.{OfTarget, IsClosedAt, IsOpenAt}
 
--- the first open target is looked for behind those that are closed
+-- the first open target is looked for after those that are closed
 pub passed : (node : Node) (ssn : ℕ) (held : List Mark) (base : ℕ) (ts : List Target) (n : ℕ) → n ≤ length ts
     → ((k : ℕ) (t : Target) → k < n → slice_get ts k ≡ Some t → is_none (closing node ssn held t) ≡ false)
     → first_open node ssn held base ts ≡ first_open node ssn held (base + n) (drop n ts)
@@ -73,7 +73,7 @@ first_here node ssn held ts place t at closed here =
     ∙ (ap (first_open node ssn held place) (drop_at ts place t at)
     ∙ ap (λ (o : Option Mark). if is_none o then Some (place, t) else first_open node ssn held (place + 1) (drop (suc place) ts)) here))
 
--- an open target behind closed ones is the first open one
+-- an open target after closed ones is the first open one
 pub opens_here : (plan : Network) (c : Titles) (held : List Mark) (place : ℕ) → ((k : ℕ) → k < place → IsClosedAt plan c held k)
     → IsOpenAt plan c held place → OpensClass plan c place held
 opens_here plan c held place closed here =

@@ -18,12 +18,13 @@ use Rattle.plan_classes.specs.Titles.{Titles}
 use Rattle.plan_classes.specs.Classes.{class_targets}
 use Rattle.plan_classes.proofs.Openings.{own_mark}
 use Rattle.plan_check.proofs.Soundness.{some_of}
+use Rattle.plan_margin.specs.declared.choice.Choice.{Choice}
 use Rattle.plan_margin.specs.declared.loss_kinds.LossKinds.{LossKinds}
 use Rattle.plan_margin.specs.declared.outage_set.OutageSet.{OutageSet}
 use Rattle.plan_margin.specs.declared.turn.Turn.TheVariants.{Lost, Taken, Either}
 use Rattle.plan_margin.specs.Outages.{is_loss, IsLoss}
 use Rattle.plan_margin.specs.Searching.{IsIn, IsOutageSet, OfTarget, IsClosedAt, IsOpenAt, PassesOver, IsTurnBy, IsTurn, IsInWith}
-use Rattle.plan_margin.specs.Searching.{IsWithUp, IsWithLost, is_free}
+use Rattle.plan_margin.specs.Searching.{MayChoose, IsWithUp, IsWithLost, is_free}
 use Rattle.plan_margin.proofs.Closing.{lost_closes, taken_opens, either_closed}
 use Rattle.plan_margin.proofs.Counting.{one_more_held, at_most_one_more, held_of_all, all_from_held}
 
@@ -92,6 +93,12 @@ either_closes plan c place mark set marks turn held =
     of_target_map plan c place (λ node t. IsTurnBy plan (closing_marks node c.ssn t) set (Either mark))
     (λ node t. is_none (closing node c.ssn marks t) ≡ false)
     (λ node t h. either_closed plan set (closing_marks node c.ssn t) marks mark h.0 held) turn
+
+-- the same choice at another place of the row
+pub may_at : (plan : Network) (choice : Choice) (place : ℕ) → MayChoose plan choice
+    → MayChoose plan (record { class = choice.class; row = choice.row; place = place; left = choice.left })
+may_at plan choice place may =
+    record { some = may.some; few = may.few; may = may.may; class = may.class; decided = may.decided; row = may.row }
 
 -- one more target is passed over
 pub passes_more : (plan : Network) (c : Titles) (place : ℕ) (set more : OutageSet) → PassesOver plan c place set

@@ -40,7 +40,7 @@ IsPointMark (PointCode point) = Unit {0}
 IsPointMark (Sccp point) = ⊥
 IsPointMark (Subsystem point ssn) = ⊥
 
--- the relay at which the titles of the cover come in is not lost
+-- the entry relay, which the titles of the cover reach first, is not lost
 abbrev pub SparesEntry : Network → ℕ → List Mark → Type 0
 SparesEntry plan number marks =
     IsSomeAnd (slice_get plan.covers number) (λ cover. IsSomeAnd (slice_get plan.nodes cover.node)

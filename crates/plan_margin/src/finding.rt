@@ -24,7 +24,7 @@ use std::alloc::Global;
 
 /// How many losses of these kinds there can be before a title of this cover is stopped, up to `losses`. The search goes over all
 /// outages of no loss, of one, of two and so on. All relays hold an outage's losses prohibited (Q.714 section 5); the point of the
-/// relay at which the cover's titles come in is not among them.
+/// entry relay, which the cover's titles reach first, is not among them.
 pub fn find_margin(
     alloc: Global,
     plan: &Plan,

@@ -1,7 +1,8 @@
 //! Sets of outages that are followed together.
 ghost use Rattle.std.specs.Prelude.{◌≡◌, ◌||◌, IfOk};
 ghost use Rattle.sccp_base.specs.declared.mark.Mark.{Mark};
-ghost use Rattle.sccp_base.specs.Marks.{holds, same_mark, IsAscending};
+ghost use Rattle.sccp_base.specs.Marks.{holds, same_mark};
+ghost use Rattle.plan_margin.specs.Searching.{IsWithUp, IsWithLost};
 
 use crate::loss_kinds::LossKinds;
 use sccp_base::{Mark, Marking, OutOfMemory};
@@ -36,10 +37,7 @@ fn with_mark(alloc: Global, marks: &Marking, mark: Mark) -> Result<Marking, OutO
 impl OutageSet {
     /// The outages of the set in which this mark is not held.
     pub(crate) fn with_up(&self, alloc: Global, mark: Mark) -> Result<OutageSet, OutOfMemory>
-        ensures kinds { IfOk result (λ set. set.kinds ≡ self.now.kinds) }
-        ensures most { IfOk result (λ set. set.most ≡ self.now.most) }
-        ensures lost { IfOk result (λ set. set.lost ≡ self.now.lost) }
-        ensures up { IfOk result (λ set. (m : Mark) → holds set.up m ≡ (same_mark mark m || holds self.now.up m)) }
+        ensures { IfOk result (IsWithUp self.now mark) }
     {
         let lost = self.lost.try_clone(alloc)?;
         match with_mark(alloc, &self.up, mark) {
@@ -58,11 +56,7 @@ impl OutageSet {
 
     /// The outages of the set in which it is held.
     pub(crate) fn with_lost(&self, alloc: Global, mark: Mark) -> Result<OutageSet, OutOfMemory>
-        ensures kinds { IfOk result (λ set. set.kinds ≡ self.now.kinds) }
-        ensures most { IfOk result (λ set. set.most ≡ self.now.most) }
-        ensures lost { IfOk result (λ set. (m : Mark) → holds set.lost m ≡ (same_mark mark m || holds self.now.lost m)) }
-        ensures up { IfOk result (λ set. set.up ≡ self.now.up) }
-        ensures ascending { IfOk result (λ set. IsAscending set.lost) }
+        ensures { IfOk result (IsWithLost self.now mark) }
     {
         let up = self.up.try_clone(alloc)?;
         match with_mark(alloc, &self.lost, mark) {

@@ -1,8 +1,8 @@
 //! The search for a title that an outage stops.
 ghost use Rattle.std.specs.Prelude.{ℕ, ◌≡◌, ◌⊎◌, ◌+◌, ◌-◌, ◌≤◌, ◌<◌, false, true, length, IfOk, OnOk, Some};
-ghost use Rattle.plan_classes.specs.Titles.{Titles, IsClass, IsLongest, parts_of};
+ghost use Rattle.plan_classes.specs.Titles.{IsClass, parts_of};
 ghost use Rattle.plan_classes.specs.declared.leads.Image.TheVariants.{Next, Ends};
-ghost use Rattle.plan_classes.specs.Classes.{Decided, HasImage, class_row, class_targets};
+ghost use Rattle.plan_classes.specs.Classes.{Decided, HasImage, class_row};
 ghost use Rattle.plan_classes.specs.Leading.{ImageIsExact};
 ghost use Rattle.plan_margin.specs.declared.found.Found.TheVariants.{Stopped as StoppedFound};
 ghost use Rattle.plan_margin.specs.Searching.{MayExplore, MayChoose, IsOutageSet, IsFound, IsFoundIf, IsWithinLimit, most_ways};
@@ -17,7 +17,9 @@ use crate::found::{Found, joined};
 use crate::outage_set::OutageSet;
 use crate::turn::{Turn, turn_at};
 use plan_check::allows;
-use plan_classes::{Class, Image, carry_back, class_row, decided, image_by, parts, sample};
+use plan_classes::{
+    Class, Image, carry_back, class_row, decided, image_by, longest, parts, sample,
+};
 use plan_model::Plan;
 use sccp_base::{Digits, Mark, OutOfMemory, PointCode};
 use std::alloc::Global;
@@ -337,11 +339,4 @@ fn end_at(
     } else {
         stopped(alloc, set, sample(choice.class))
     }
-}
-
-/// The longest title of a class that has only zeros after the known digits.
-fn longest(class: &Class) -> Digits
-    ensures { IsLongest class.now result }
-{
-    class.known().with_zeros(class.most())
 }

@@ -1,5 +1,5 @@
 //! What a set of outages says of one target.
-ghost use Rattle.std.specs.Prelude.{◌≡◌, ◌<◌, ◌≤◌, length, Some, is_none};
+ghost use Rattle.std.specs.Prelude.{◌≡◌, ◌<◌, ◌≤◌, length, Some};
 ghost use Rattle.std.specs.List.{find};
 ghost use Rattle.sccp_base.specs.Marks.{holds};
 ghost use Rattle.plan_classes.specs.Classes.{class_row};

@@ -36,7 +36,7 @@ held_other : (old new : Network) (w : Which) → held new old w ≡ held old new
 held_other old new Old = refl
 held_other old new New = refl
 
--- where the plans have changed their places, each relay may hold no other plan than it may hold by the first list
+-- if the plans have changed their places, each relay may hold no other plan than it may hold by the first list
 abbrev pub IsMirror : Network → Network → List Holding → List Holding → Type 0
 IsMirror old new may back = (node : ℕ) (w : Which) → MayHold back node w → MayHold may node (other w) ⊎ DoSame old new node
 

@@ -40,7 +40,7 @@ pub record AreFirst (old new : Network) (count : ℕ) (differ : List ℕ) : Type
   pub ascending : AllPairs (λ a b. a < b) differ
   pub whole : (node : ℕ) → node < count → Differs old new node → IsTrue (is_in differ node)
 
--- what a change of the relays of a step comes to
+-- the outcome of a change of the relays of a step
 abbrev pub outcome_of : Change → Outcome
 outcome_of (Kept bound spot turns) = Safe bound
 outcome_of (Broken i j spot turns hops kind) = Refused

@@ -1,10 +1,10 @@
-//! What the walk of a step comes to.
+//! The outcome of a step.
 ghost use Rattle.std.specs.Prelude.{◌≡◌};
 ghost use Rattle.plan_order.specs.Searching.{outcome_of};
 
 use plan_change::Change;
 
-/// What a step comes to.
+/// What the walk of a step finds.
 #[derive(Clone, Copy)]
 pub(crate) enum Outcome {
     /// It is safe for this bound.

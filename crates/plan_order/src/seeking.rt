@@ -1,5 +1,5 @@
 //! The search for an order.
-ghost use Rattle.std.specs.Prelude.{◌≡◌, ◌↔◌, ◌∷◌, [], ◌++◌, ◌<◌, ◌⊎◌, false, IsTrue, IfOk, OnOk, length};
+ghost use Rattle.std.specs.Prelude.{◌≡◌, ◌↔◌, ◌∷◌, [], ◌++◌, ◌<◌, false, IsTrue, IfOk, OnOk, length};
 ghost use Rattle.std.specs.List.{All, Any};
 ghost use Rattle.plan_model.specs.SameNodes.{SameNodes};
 ghost use Rattle.plan_order.specs.declared.found.Found.TheVariants.{Steps as StepsFound};

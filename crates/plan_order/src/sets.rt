@@ -14,7 +14,7 @@ pub(crate) fn is_in(set: &[u8], node: u8) -> bool
     set.contains(&node)
 }
 
-/// Whether all relays of the set come before this one in the plan.
+/// Whether all relays of the set are before this one in the plan.
 pub(crate) fn are_before(set: &[u8], node: u8) -> bool
     ensures { IsTrue result ↔ All (λ own. own < node) set.now }
 {

@@ -1,8 +1,7 @@
-//! Where the steps end, if there is no order.
-ghost use Rattle.std.specs.Prelude.{ℕ, ◌≡◌, ◌∷◌, [], List, IfOk, IfNone, IfSome};
+//! The set at which no relay can be next, if there is no order.
+ghost use Rattle.std.specs.Prelude.{ℕ, ◌≡◌, ◌∷◌, [], List, IfOk};
 ghost use Rattle.std.specs.List.{All, concat};
 ghost use Rattle.plan_model.specs.SameNodes.{SameNodes};
-ghost use Rattle.plan_mixed.specs.Mixed.{MixedReachAtLeast};
 ghost use Rattle.plan_order.specs.Sets.{AreStepSets};
 ghost use Rattle.plan_order.specs.Steps.{IsSafeStep, AreSteps, sets_of};
 ghost use Rattle.plan_order.specs.Orders.{IsOrder, IsLawfulOrder};

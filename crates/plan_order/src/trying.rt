@@ -78,7 +78,7 @@ fn keep_route(
     }
 }
 
-/// What a step comes to. If it is refused, its bad route is kept.
+/// The outcome of a step. If it is refused, its bad route is kept.
 fn outcome(
     alloc: Global,
     plans: &Plans<'_>,

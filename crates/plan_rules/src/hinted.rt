@@ -1,15 +1,16 @@
 //! Rows, looked up from where the last look-up ended.
-ghost use Rattle.std.specs.Prelude.{◌≡◌, true, ◌<◌, ◌≤◌, length, All, Some, None, IfSome, IsTrue, ◌↔◌, slice_get};
+ghost use Rattle.std.specs.Prelude.{◌≡◌, ◌<◌, ◌≤◌, length, All, Some, None, IfSome, IsTrue, ◌↔◌, slice_get};
 ghost use Rattle.std.specs.List.{AllPairs, Any};
 ghost use Rattle.std.specs.Option.{option_and_then};
 ghost use Rattle.plan_rules.specs.Order.{titles, InOrder, IsOrder, IsCount, AreParents};
 ghost use Rattle.plan_rules.specs.Rows.{row, ExtendsFor};
 ghost use Rattle.plan_rules.specs.Tables.{IsTable};
 
+use crate::beginning::Beginning;
 use crate::hints::Hints;
 use crate::seeking::{Ordered, extends_from, look, row_at, unnumbered_row_at};
 use crate::steps::Steps;
-use sccp_base::{Digits, Selector};
+use sccp_base::Selector;
 use std::sync::ledger::Ledger;
 
 /// What a table has for some digits.
@@ -82,10 +83,8 @@ fn count_from<L: Ledger>(
 /// What the rows have for the digits.
 pub fn numbered_look_up<L: Ledger>(
     ordered: &Ordered,
-    selector: Selector,
     ssn: u8,
-    known: &Digits,
-    most: u8,
+    beginning: &Beginning<'_>,
     hints: &mut Hints,
     steps: &mut Steps<L>,
 ) -> LookUp
@@ -93,27 +92,28 @@ pub fn numbered_look_up<L: Ledger>(
     requires order { IsOrder ordered.now.rows.now ordered.now.order.now }
     requires parents { AreParents ordered.now.rows.now ordered.now.order.now ordered.now.parents.now }
     requires count { length ordered.now.parents.now ≡ length ordered.now.order.now }
-    ensures row { option_and_then (slice_get ordered.now.rows.now) result.row ≡ row ordered.now.rows.now selector ssn known.now }
+    ensures row { option_and_then (slice_get ordered.now.rows.now) result.row
+        ≡ row ordered.now.rows.now beginning.now.selector ssn beginning.now.known.now }
     ensures within { IfSome result.row (λ i. i < length ordered.now.rows.now) }
-    ensures extends { IsTrue result.extends ↔ Any (ExtendsFor selector ssn known.now most) ordered.now.rows.now }
+    ensures extends { IsTrue result.extends
+        ↔ Any (ExtendsFor beginning.now.selector ssn beginning.now.known.now beginning.now.most) ordered.now.rows.now }
 {
-    let digits = known.as_slice();
+    let selector = beginning.selector;
+    let digits = beginning.known.as_slice();
     let own = count_from(ordered, hints.own, selector, Some(ssn), digits, steps);
     let plain = count_from(ordered, hints.plain, selector, None, digits, steps);
     *hints = Hints { own, plain };
     let row = row_at(ordered, Hints { own, plain }, selector, ssn, digits, steps);
-    let extends = extends_from(ordered, own, selector, Some(ssn), known, most, steps)
-        || extends_from(ordered, plain, selector, None, known, most, steps);
+    let extends = extends_from(ordered, own, Some(ssn), beginning, steps)
+        || extends_from(ordered, plain, None, beginning, steps);
     LookUp { row, extends }
 }
 
 /// What the rows have for the digits, if no row names a subsystem number.
 pub fn unnumbered_look_up<L: Ledger>(
     ordered: &Ordered,
-    selector: Selector,
     ssn: u8,
-    known: &Digits,
-    most: u8,
+    beginning: &Beginning<'_>,
     hints: &mut Hints,
     steps: &mut Steps<L>,
 ) -> LookUp
@@ -122,14 +122,17 @@ pub fn unnumbered_look_up<L: Ledger>(
     requires parents { AreParents ordered.now.rows.now ordered.now.order.now ordered.now.parents.now }
     requires count { length ordered.now.parents.now ≡ length ordered.now.order.now }
     requires unnumbered { All (λ r. r.ssn ≡ None) ordered.now.rows.now }
-    ensures row { option_and_then (slice_get ordered.now.rows.now) result.row ≡ row ordered.now.rows.now selector ssn known.now }
+    ensures row { option_and_then (slice_get ordered.now.rows.now) result.row
+        ≡ row ordered.now.rows.now beginning.now.selector ssn beginning.now.known.now }
     ensures within { IfSome result.row (λ i. i < length ordered.now.rows.now) }
-    ensures extends { IsTrue result.extends ↔ Any (ExtendsFor selector ssn known.now most) ordered.now.rows.now }
+    ensures extends { IsTrue result.extends
+        ↔ Any (ExtendsFor beginning.now.selector ssn beginning.now.known.now beginning.now.most) ordered.now.rows.now }
 {
-    let digits = known.as_slice();
+    let selector = beginning.selector;
+    let digits = beginning.known.as_slice();
     let plain = count_from(ordered, hints.plain, selector, None, digits, steps);
     hints.plain = plain;
     let row = unnumbered_row_at(ordered, plain, selector, ssn, digits, steps);
-    let extends = extends_from(ordered, plain, selector, None, known, most, steps);
+    let extends = extends_from(ordered, plain, None, beginning, steps);
     LookUp { row, extends }
 }

@@ -1,5 +1,5 @@
 -- titles with bad or long routes, and how they are carried back
-use Rattle.std.specs.Prelude.{ℕ, ◌≡◌, ◌+◌, ◌<◌, ◌⊎◌, List, [], ◌∷◌, length, Option, Some, None, Result, Ok, Err, IfOk, IsSomeAnd, slice_get}
+use Rattle.std.specs.Prelude.{ℕ, ◌≡◌, ◌+◌, ◌<◌, ◌⊎◌, List, [], ◌∷◌, length, Option, Some, None, IsSomeAnd, slice_get}
 use Rattle.std.specs.Prelude.{refl, if◌then◌else◌}
 use Rattle.std.specs.List.{list_any}
 use Rattle.std.specs.Option.{option_and_then}
@@ -171,8 +171,3 @@ start_covered plan number cover digits is at m = (
 pub start_node : (plan : Network) (number : ℕ) (cover : Cover) → IsPlan plan → slice_get plan.covers number ≡ Some cover
     → cover.node < length plan.nodes
 start_node plan number cover is at = (cover_at plan number cover is at).node
-
--- what holds of what an Ok has
-pub ok_both : {T E : Type 0} (r : Result T E) (P Q R : T → Type 0) → ((t : T) → P t → Q t → R t) → IfOk r P → IfOk r Q → IfOk r R
-ok_both (Ok t) P Q R f p q = f t p q
-ok_both (Err e) P Q R f p q = p

@@ -1,5 +1,6 @@
 use Rattle.std.proofs.Common.{◌∙◌}
-use Rattle.plan_change.proofs.Onward.{bad_here, held_node, held_decided, ok_both}
+use Rattle.plan_check.proofs.Soundness.{ok_both}
+use Rattle.plan_change.proofs.Onward.{bad_here, held_node, held_decided}
 use Rattle.plan_change.proofs.following.bad_way.Goals as goal
 
 pub opening-requires-clause-node : goal.opening-requires-clause-node

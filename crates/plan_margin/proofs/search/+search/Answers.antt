@@ -16,7 +16,7 @@ use Rattle.plan_margin.specs.Searching.{IsFound, IsFoundIf, IsIn, IsInWith, IsTu
 use Rattle.plan_margin.specs.Searching.{IsWithUp, IsWithLost}
 use Rattle.plan_margin.specs.Ways.{AtClass, AtTargets, AtTarget}
 use Rattle.plan_margin.proofs.Passing.{opens_here}
-use Rattle.plan_margin.proofs.Sets.{lost_is_closed, taken_is_open, either_is_free, either_closes}
+use Rattle.plan_margin.proofs.Sets.{may_at, lost_is_closed, taken_is_open, either_is_free, either_closes}
 use Rattle.plan_margin.proofs.Sets.{passes_more, passes_same, of_target_within, lost_set, up_set, lost_inner, up_inner, too_many}
 use Rattle.plan_margin.proofs.Measures.{few_free, less_free}
 use Rattle.plan_margin.proofs.Following.{ok_is, no_row_stop, past_stop, target_stop, parts_more, parts_whole}
@@ -95,13 +95,7 @@ pub follow_lost-follow_row-found-requires : goal.follow_lost-follow_row-found-re
 follow_lost-follow_row-found-requires t c =
     let choice = c.args.choice.now in
     let more = c.in_ok-with_lost.with_lost in
-    let made : IsWithLost c.args.set.now c.args.mark.now more = record {
-      kinds = c.in_ok-with_lost.ensures.kinds;
-      most = c.in_ok-with_lost.ensures.most;
-      lost = c.in_ok-with_lost.ensures.lost;
-      up = c.in_ok-with_lost.ensures.up;
-      ascending = c.in_ok-with_lost.ensures.ascending;
-    } in
+    let made : IsWithLost c.args.set.now c.args.mark.now more = c.in_ok-with_lost.ensures in
     let inside : choice.place < length (class_targets c.args.plan.now choice.class.now) =
     of_target_within c.args.plan.now choice.class.now choice.place
     (λ node t. IsTurnBy c.args.plan.now (closing_marks node choice.class.now.ssn t) c.args.set.now
@@ -114,14 +108,7 @@ follow_lost-follow_row-found-requires t c =
         c.requires.short,
       ),
       (
-        record {
-          some = c.requires.may.some;
-          few = c.requires.may.few;
-          may = c.requires.may.may;
-          class = c.requires.may.class;
-          decided = c.requires.may.decided;
-          row = c.requires.may.row;
-        },
+        may_at c.args.plan.now choice (choice.place + 1) c.requires.may,
         (
           passes_more c.args.plan.now choice.class.now choice.place c.args.set.now more c.requires.passes
               (λ marks i. (lost_inner c.args.plan.now c.args.set.now more c.args.mark.now marks made i).inside)
@@ -141,13 +128,7 @@ pub follow_lost-returns-clause-found : goal.follow_lost-returns-clause-found
 follow_lost-returns-clause-found t c =
     let choice = c.args.choice.now in
     let more = c.in_ok-with_lost.with_lost in
-    let made : IsWithLost c.args.set.now c.args.mark.now more = record {
-      kinds = c.in_ok-with_lost.ensures.kinds;
-      most = c.in_ok-with_lost.ensures.most;
-      lost = c.in_ok-with_lost.ensures.lost;
-      up = c.in_ok-with_lost.ensures.up;
-      ascending = c.in_ok-with_lost.ensures.ascending;
-    } in
+    let made : IsWithLost c.args.set.now c.args.mark.now more = c.in_ok-with_lost.ensures in
     IfOk-weaker c.follow_row-found.result (λ f. IsFound c.args.plan.now choice.class.now choice.left more f)
     (λ f. IsFoundIf c.args.plan.now choice.class.now choice.left c.args.set.now.most
     (IsInWith c.args.plan.now c.args.set.now c.args.mark.now true) f)
@@ -170,14 +151,7 @@ follow_row-follow_row-requires t c =
         c.turn_at.ensures.few,
       ),
       (
-        record {
-          some = c.requires.may.some;
-          few = c.requires.may.few;
-          may = c.requires.may.may;
-          class = c.requires.may.class;
-          decided = c.requires.may.decided;
-          row = c.requires.may.row;
-        },
+        may_at c.args.plan.now choice (choice.place + 1) c.requires.may,
         (
           passes_more c.args.plan.now choice.class.now choice.place c.args.set.now c.args.set.now c.requires.passes
               (λ marks i. i)
@@ -244,12 +218,7 @@ pub follow_up-follow_row-found-requires : goal.follow_up-follow_row-found-requir
 follow_up-follow_row-found-requires t c =
     let choice = c.args.choice.now in
     let more = c.in_ok-with_up.with_up in
-    let made : IsWithUp c.args.set.now c.args.mark.now more = record {
-      kinds = c.in_ok-with_up.ensures.kinds;
-      most = c.in_ok-with_up.ensures.most;
-      lost = c.in_ok-with_up.ensures.lost;
-      up = c.in_ok-with_up.ensures.up;
-    } in (
+    let made : IsWithUp c.args.set.now c.args.mark.now more = c.in_ok-with_up.ensures in (
       omega (arith, less_free c.args.plan.now choice.class.now choice.place c.args.mark.now c.args.set.now more c.requires.turn made),
       (
         c.requires.may,
@@ -270,12 +239,7 @@ pub follow_up-returns-clause-found : goal.follow_up-returns-clause-found
 follow_up-returns-clause-found t c =
     let choice = c.args.choice.now in
     let more = c.in_ok-with_up.with_up in
-    let made : IsWithUp c.args.set.now c.args.mark.now more = record {
-      kinds = c.in_ok-with_up.ensures.kinds;
-      most = c.in_ok-with_up.ensures.most;
-      lost = c.in_ok-with_up.ensures.lost;
-      up = c.in_ok-with_up.ensures.up;
-    } in
+    let made : IsWithUp c.args.set.now c.args.mark.now more = c.in_ok-with_up.ensures in
     IfOk-weaker c.follow_row-found.result (λ f. IsFound c.args.plan.now choice.class.now choice.left more f)
     (λ f. IsFoundIf c.args.plan.now choice.class.now choice.left c.args.set.now.most
     (IsInWith c.args.plan.now c.args.set.now c.args.mark.now false) f)
@@ -370,12 +334,7 @@ pub follow_up-returns-clause-ways : goal.follow_up-returns-clause-ways
 follow_up-returns-clause-ways t c =
     let choice = c.args.choice.now in
     let more = c.in_ok-with_up.with_up in
-    let made : IsWithUp c.args.set.now c.args.mark.now more = record {
-      kinds = c.in_ok-with_up.ensures.kinds;
-      most = c.in_ok-with_up.ensures.most;
-      lost = c.in_ok-with_up.ensures.lost;
-      up = c.in_ok-with_up.ensures.up;
-    } in
+    let made : IsWithUp c.args.set.now c.args.mark.now more = c.in_ok-with_up.ensures in
     counts_if_up c.follow_row-found.result c.args.plan.now c.args.set.now more choice.left choice.class.now choice.place c.args.mark.now
     c.args.count.now c.follow_row-found.new.count made c.follow_row-found.ensures.ways
 
@@ -387,13 +346,7 @@ pub follow_lost-returns-clause-ways : goal.follow_lost-returns-clause-ways
 follow_lost-returns-clause-ways t c =
     let choice = c.args.choice.now in
     let more = c.in_ok-with_lost.with_lost in
-    let made : IsWithLost c.args.set.now c.args.mark.now more = record {
-      kinds = c.in_ok-with_lost.ensures.kinds;
-      most = c.in_ok-with_lost.ensures.most;
-      lost = c.in_ok-with_lost.ensures.lost;
-      up = c.in_ok-with_lost.ensures.up;
-      ascending = c.in_ok-with_lost.ensures.ascending;
-    } in
+    let made : IsWithLost c.args.set.now c.args.mark.now more = c.in_ok-with_lost.ensures in
     counts_if_lost c.follow_row-found.result c.args.plan.now c.args.set.now more choice.left choice.class.now choice.place c.args.mark.now
     c.args.count.now c.follow_row-found.new.count c.requires.set
     (λ e. c.if-marks-from.false (omega (arith, e, ap length c.marks.ensures.marks, c.from.ensures))) made c.follow_row-found.ensures.ways

@@ -1,6 +1,5 @@
 use Rattle.std.specs.Prelude.{List, length}
 use Rattle.std.proofs.Common.{sym, subst}
-use Rattle.plan_change.specs.declared.answer.Change.{Change}
 use Rattle.plan_change.specs.declared.mixed_hop.MixedHop.{MixedHop}
 use Rattle.plan_change.specs.Changes.{IsLawfulUnder}
 use Rattle.plan_order.specs.Steps.{during}

@@ -4,7 +4,8 @@ use Rattle.plan_classes.specs.Titles.{IsMember}
 use Rattle.plan_verify.specs.declared.trace.Trace.{Trace}
 use Rattle.plan_verify.specs.Traces.{IsWay}
 use Rattle.plan_verify.proofs.Ranking.{high_part, high_next}
-use Rattle.plan_verify.proofs.Tracing.{ok_both, way_one}
+use Rattle.plan_check.proofs.Soundness.{ok_both}
+use Rattle.plan_verify.proofs.Tracing.{way_one}
 use Rattle.plan_verify.proofs.descending.+descend.Goals as goal
 
 pub returns-then-hops-eq1 : goal.returns-then-hops-eq1

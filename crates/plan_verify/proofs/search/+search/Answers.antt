@@ -96,9 +96,9 @@ explore_parts-returns-clause-found t c = (
 
 pub explore_target-explore-requires : goal.explore_target-explore-requires
 explore_target-explore-requires t c =
-    let stays : (c.in-Next.next.node < length c.args.plan.now.nodes) × (c.in-Next.next.cover ≡ c.args.class.now.cover)
-    × (c.in-Next.next.most ≡ c.args.class.now.most) = c.in-Next.ensures.stays in
-    let nearer : c.args.depth < 14 = c.requires.depth in (
+    let stays : (c.in-Next.next.node < length c.args.plan.now.nodes) × (c.in-Next.next.cover ≡ c.args.stop.now.class.now.cover)
+    × (c.in-Next.next.most ≡ c.args.stop.now.class.now.most) = c.in-Next.ensures.stays in
+    let nearer : c.args.stop.now.depth < 14 = c.requires.depth in (
       search rules,
       (
         omega arith,
@@ -106,7 +106,7 @@ explore_target-explore-requires t c =
           record {
             node = stays.0;
             cover = omega (arith, stays.1, c.requires.may.cover);
-            reached = image_reached _ c.args.depth c.args.place c.args.class.now _ c.in-Next.ensures.image
+            reached = image_reached _ c.args.stop.now.depth c.args.place c.args.stop.now.class.now _ c.in-Next.ensures.image
                 (c.reaches_by.ensures.0 c.if-not-reaches_by.false) c.requires.decided c.requires.depth c.requires.may.reached;
           },
           c.requires.sound,
@@ -116,46 +116,50 @@ explore_target-explore-requires t c =
 
 pub explore_target-returns-then-not-reaches_by-clause-found : goal.explore_target-returns-then-not-reaches_by-clause-found
 explore_target-returns-then-not-reaches_by-clause-found t c = (
-  led_never c.args.plan.now c.args.ranks.now c.args.class.now c.args.place
+  led_never c.args.plan.now c.args.ranks.now c.args.stop.now.class.now c.args.place
       (λ r. false≢true (sym c.if-not-reaches_by.true ∙ c.reaches_by.ensures.1 r)),
   omega (arith, c.requires.depth),
 )
 
 pub explore_target-carry-requires-clause-next : goal.explore_target-carry-requires-clause-next
 explore_target-carry-requires-clause-next t c =
-    let trace : IsTrace c.args.plan.now c.in-Next.next (c.args.depth + 1) c.in-Bad.trace =
+    let trace : IsTrace c.args.plan.now c.in-Next.next (c.args.stop.now.depth + 1) c.in-Bad.trace =
     subst (λ (f : Found). IsFound c.args.plan.now c.in-Next.next
-    (c.args.depth + 1) c.explore.new.ranks f) c.in-Bad.is c.in_ok-other-in-Next.ensures.found in
+    (c.args.stop.now.depth + 1) c.explore.new.ranks f) c.in-Bad.is c.in_ok-other-in-Next.ensures.found in
     (c.in-Next.next, c.in-Next.ensures.image, trace.member)
 
 pub explore_target-returns-in-Rank-clause-found : goal.explore_target-returns-in-Rank-clause-found
 explore_target-returns-in-Rank-clause-found t c =
+    let stop = c.args.stop.now in
     let found = subst (λ (f : Found). IsFound c.args.plan.now c.in-Next.next
-    (c.args.depth + 1) c.explore.new.ranks f) c.in-Rank.is c.in_ok-other-in-Next.ensures.found in (
-      led_next_rank c.args.plan.now c.explore.new.ranks c.args.class.now c.in-Next.next c.args.place c.in-Rank.other c.in-Next.ensures.image
+    (stop.depth + 1) c.explore.new.ranks f) c.in-Rank.is c.in_ok-other-in-Next.ensures.found in (
+      led_next_rank c.args.plan.now c.explore.new.ranks stop.class.now c.in-Next.next c.args.place c.in-Rank.other c.in-Next.ensures.image
           (c.reaches_by.ensures.0 c.if-not-reaches_by.false) found.0,
       omega (arith, found.1),
     )
 
 pub explore_target-returns-in_ok-carry-in-Bad-clause-found : goal.explore_target-returns-in_ok-carry-in-Bad-clause-found
 explore_target-returns-in_ok-carry-in-Bad-clause-found t c =
-    let trace : IsTrace c.args.plan.now c.in-Next.next (c.args.depth + 1) c.in-Bad.trace =
+    let stop = c.args.stop.now in
+    let trace : IsTrace c.args.plan.now c.in-Next.next (stop.depth + 1) c.in-Bad.trace =
     subst (λ (f : Found). IsFound c.args.plan.now c.in-Next.next
-    (c.args.depth + 1) c.explore.new.ranks f) c.in-Bad.is c.in_ok-other-in-Next.ensures.found in
-    let cover : c.in-Next.next.cover ≡ c.args.class.now.cover = c.in-Next.ensures.stays.1 in
-    trace_before c.args.plan.now c.args.class.now c.in-Next.next c.args.place c.args.depth c.in-Bad.trace c.in_ok-carry-in-Bad.field-0
+    (stop.depth + 1) c.explore.new.ranks f) c.in-Bad.is c.in_ok-other-in-Next.ensures.found in
+    let cover : c.in-Next.next.cover ≡ stop.class.now.cover = c.in-Next.ensures.stays.1 in
+    trace_before c.args.plan.now stop.class.now c.in-Next.next c.args.place stop.depth c.in-Bad.trace c.in_ok-carry-in-Bad.field-0
     c.in-Next.ensures.image cover trace c.in_ok-carry-in-Bad.ensures
 
 pub explore_target-returns-in-Wide-clause-found : goal.explore_target-returns-in-Wide-clause-found
 explore_target-returns-in-Wide-clause-found t c = subst (λ (f : Found). IsFound c.args.plan.now c.in-Next.next
-    (c.args.depth + 1) c.explore.new.ranks f) c.in-Wide.is c.in_ok-other-in-Next.ensures.found
+    (c.args.stop.now.depth + 1) c.explore.new.ranks f) c.in-Wide.is c.in_ok-other-in-Next.ensures.found
 
 pub explore_target-returns-in_ok-bad_title-in-NotEquipped-clause-found : goal.explore_target-returns-in_ok-bad_title-in-NotEquipped-clause-found
 explore_target-returns-in_ok-bad_title-in-NotEquipped-clause-found t c =
-    c.in_ok-bad_title-in-NotEquipped.ensures c.args.depth c.requires.depth
+    c.in_ok-bad_title-in-NotEquipped.ensures c.args.stop.now.depth c.requires.depth
 
 pub explore_target-returns-in_ok-bad_title-in-TooLong-clause-found : goal.explore_target-returns-in_ok-bad_title-in-TooLong-clause-found
-explore_target-returns-in_ok-bad_title-in-TooLong-clause-found t c = c.in_ok-bad_title-in-TooLong.ensures c.args.depth c.requires.depth
+explore_target-returns-in_ok-bad_title-in-TooLong-clause-found t c =
+    let stop = c.args.stop.now in
+    c.in_ok-bad_title-in-TooLong.ensures stop.depth c.requires.depth
 
 pub explore_targets-returns-in_ok-least_title-in-None-clause-found : goal.explore_targets-returns-in_ok-least_title-in-None-clause-found
 explore_targets-returns-in_ok-least_title-in-None-clause-found t c =
@@ -165,7 +169,8 @@ explore_targets-returns-in_ok-least_title-in-None-clause-found t c =
 
 pub explore_row-loop-place-preserved : goal.explore_row-loop-place-preserved
 explore_row-loop-place-preserved t c =
-    let found = subst (λ (f : Found). IsLed c.args.plan.now c.args.class.now c.args.depth c.loop-place.place c.explore_target.new.ranks f)
+    let stop = c.args.stop.now in
+    let found = subst (λ (f : Found). IsLed c.args.plan.now stop.class.now stop.depth c.loop-place.place c.explore_target.new.ranks f)
     c.in-Rank.is c.in_ok-other.ensures.found in
     record {
       keeps = keeps_more _ _ _ c.loop-place.invariant.keeps c.explore_target.ensures.keeps;
@@ -173,10 +178,10 @@ explore_row-loop-place-preserved t c =
       low = omega (arith, c.max-rank.ensures, c.loop-place.invariant.low);
       few = omega (arith, c.max-rank.ensures, c.loop-place.invariant.few, found.1);
       leads = rw c.max-rank.ensures
-          (targets_led c.args.plan.now _ _ c.args.class.now c.loop-place.place c.loop-place.rank c.in-Rank.other
+          (targets_led c.args.plan.now _ _ stop.class.now c.loop-place.place c.loop-place.rank c.in-Rank.other
           c.explore_target.ensures.keeps found.0.well c.loop-place.invariant.leads);
       some = rw c.max-rank.ensures
-          (targets_high c.args.plan.now _ _ c.args.class.now c.loop-place.rank c.in-Rank.other c.explore_target.ensures.keeps found.0.high
+          (targets_high c.args.plan.now _ _ stop.class.now c.loop-place.rank c.in-Rank.other c.explore_target.ensures.keeps found.0.high
           c.loop-place.invariant.some);
     }
 
@@ -191,22 +196,24 @@ explore_row-returns-in-Wide-clause-keeps t c = keeps_more _ _ _ c.loop-place.inv
 
 pub explore_row-returns-in-Bad-clause-found : goal.explore_row-returns-in-Bad-clause-found
 explore_row-returns-in-Bad-clause-found t c =
-    subst (λ (f : Found). IsLed c.args.plan.now c.args.class.now c.args.depth c.loop-place.place c.explore_target.new.ranks f) c.in-Bad.is
+    let stop = c.args.stop.now in
+    subst (λ (f : Found). IsLed c.args.plan.now stop.class.now stop.depth c.loop-place.place c.explore_target.new.ranks f) c.in-Bad.is
     c.in_ok-other.ensures.found
 
 pub explore_row-returns-in-Wide-clause-found : goal.explore_row-returns-in-Wide-clause-found
 explore_row-returns-in-Wide-clause-found t c =
-    subst (λ (f : Found). IsLed c.args.plan.now c.args.class.now c.args.depth c.loop-place.place c.explore_target.new.ranks f) c.in-Wide.is
+    let stop = c.args.stop.now in
+    subst (λ (f : Found). IsLed c.args.plan.now stop.class.now stop.depth c.loop-place.place c.explore_target.new.ranks f) c.in-Wide.is
     c.in_ok-other.ensures.found
 
 pub explore_row-returns-clause-found : goal.explore_row-returns-clause-found
 explore_row-returns-clause-found t c = (
-  decided_borne _ _ c.args.class.now c.loop-place.rank c.loop-place.place c.requires.class c.requires.may.node c.requires.may.cover
+  decided_borne _ _ c.args.stop.now.class.now c.loop-place.rank c.loop-place.place c.requires.class c.requires.may.node c.requires.may.cover
       c.requires.decided
       (subst (λ (o : Option Rule). IsSome o) (sym c.requires.row) refl)
       (omega (
         arith,
-        ap length (row_targets c.args.plan.now c.args.class.now c.args.row.now c.requires.row),
+        ap length (row_targets c.args.plan.now c.args.stop.now.class.now c.args.stop.now.row.now c.requires.row),
         c.target_count-place-end.ensures,
         c.loop-place-test.false,
       ))

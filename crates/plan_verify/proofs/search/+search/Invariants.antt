@@ -33,10 +33,10 @@ abbrev pub decreases-explore_targets : goal.decreases-explore_targets
 decreases-explore_targets l = 5 * ((14 - l.depth) + l.class.now.most) + 2
 
 abbrev pub decreases-explore_row : goal.decreases-explore_row
-decreases-explore_row l = 5 * ((14 - l.depth) + l.class.now.most) + 1
+decreases-explore_row l = 5 * ((14 - l.stop.now.depth) + l.stop.now.class.now.most) + 1
 
 abbrev pub decreases-explore_target : goal.decreases-explore_target
-decreases-explore_target l = 5 * ((14 - l.depth) + l.class.now.most)
+decreases-explore_target l = 5 * ((14 - l.stop.now.depth) + l.stop.now.class.now.most)
 
 -- the targets so far lead well, and one of them leads to the greatest rank
 abbrev pub invariant-explore_row-loop-place : goal.invariant-explore_row-loop-place
@@ -44,8 +44,8 @@ invariant-explore_row-loop-place l = record {
   keeps : Keeps l.fn.ranks l.ranks;
   sound : IsSound l.plan l.ranks;
   low : 1 ≤ l.rank;
-  few : l.depth + l.rank ≤ 14;
-  leads : (place : ℕ) (image : Image) → place < l.place → Reaches l.plan l.class place → HasImage l.plan l.class place image
-      → LeadsWell l.plan (rank_in l.ranks) l.class.cover l.rank image;
-  some : 2 ≤ l.rank → LeadsHigh l.plan (rank_in l.ranks) l.class (l.rank - 1);
+  few : l.stop.depth + l.rank ≤ 14;
+  leads : (place : ℕ) (image : Image) → place < l.place → Reaches l.plan l.stop.class.now place
+      → HasImage l.plan l.stop.class.now place image → LeadsWell l.plan (rank_in l.ranks) l.stop.class.now.cover l.rank image;
+  some : 2 ≤ l.rank → LeadsHigh l.plan (rank_in l.ranks) l.stop.class.now (l.rank - 1);
 }

@@ -7,6 +7,7 @@ use Rattle.plan_rules.proofs.table.Table.extends_at.Goals as goal
 
 pub returns : goal.returns
 returns g c =
+    let beginning = c.args.beginning.now in
     let same : c.ordered.result.rows.now ≡ c.args.self.now = c.ordered.ensures.rows in
     subst (λ (rows : List Rule). IsTrue c.any_extends.result
-    ↔ Any (λ r. (r.ssn ≡ c.args.ssn) × Extends c.args.selector c.args.known.now c.args.most r) rows) same c.any_extends.ensures
+    ↔ Any (λ r. (r.ssn ≡ c.args.ssn) × Extends beginning.selector beginning.known.now beginning.most r) rows) same c.any_extends.ensures
