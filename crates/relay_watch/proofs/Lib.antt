@@ -1,7 +1,6 @@
 mod Worked
 mod Data
 mod DueLemmas
-mod Plain
 mod Reasoned
 mod Left
 mod Steps

@@ -1,20 +1,19 @@
 //! The arrivals that begin to wait.
-ghost use Rattle.std.specs.Prelude.{◌≡◌, ◌<◌, ◌==◌, [], length, Some, Ok, is_some, IfOk, IfSome};
-ghost use Rattle.std.specs.List.{list_any};
+ghost use Rattle.std.specs.Prelude.{◌≡◌, ◌<◌, [], length, Some, Ok, is_some, IfOk, IfSome};
 ghost use Rattle.sccp_message.specs.Reading.{reading};
+ghost use Rattle.sccp_scrc.specs.Arriving.{arrival, point_of};
 ghost use Rattle.sccp_scrc.specs.Passing.{ReadsAgain};
-ghost use Rattle.sccp_scrc.specs.Returning.{asks_for_return};
-ghost use Rattle.relay_ways.specs.Sends.{sends};
+ghost use Rattle.relay_ways.specs.Sends.{forwarded, service_sent, sent_of, sends};
 ghost use Rattle.relay_watch.specs.Arrivals.{target, data_of, is_management, may_be_answered, waits, begins_at, IsWaiting};
 
 use crate::event::Event;
 use crate::relays::relay_at;
 use crate::waiting::Waiting;
 use plan_model::Plan;
-use relay_ways::{Incoming, Way, ways};
 use sccp_address::Address;
-use sccp_base::{Octets, OutOfMemory};
-use sccp_message::{Message, wants_return};
+use sccp_base::{Marking, Octets, OutOfMemory, PointCode};
+use sccp_message::Message;
+use sccp_scrc::{Arrival, Service, Way, arrive, asks_for_return};
 use std::alloc::Global;
 
 /// Whether a message with this called address is for SCCP management.
@@ -24,17 +23,6 @@ pub(crate) fn is_management(address: &Address) -> bool
     match address.ssn {
         Some(ssn) => address.by_ssn && ssn == 1,
         None => false,
-    }
-}
-
-/// Whether the sender asks for the return of the message.
-fn asks_for_return(message: &Message) -> bool
-    ensures { result ≡ asks_for_return message.now }
-{
-    match message {
-        Message::Udt { class, .. } | Message::Xudt { class, .. } | Message::Ludt { class, .. } =>
-            wants_return(*class),
-        _ => false,
     }
 }
 
@@ -49,12 +37,99 @@ fn may_be_answered(message: &Message, address: &Address) -> bool
     }
 }
 
-/// Whether a way asks that nothing is held, beside what must be free.
-fn has_plain(ways: &[Way]) -> bool
-    ensures { result ≡ list_any (λ w. length w.condition.one_of == 0) ways.now }
+/// Whether an arrival goes on to another point.
+fn is_forwarded(arrival: &Arrival) -> bool
+    ensures { result ≡ is_some (forwarded arrival.now) }
 {
-    ways.iter()
-        .any(|way| way.condition.one_of.as_slice().is_empty())
+    matches!(arrival, Arrival::Relayed { .. } | Arrival::Ended { .. })
+}
+
+/// What becomes of octets that arrive at the relay.
+fn arrived(
+    alloc: Global,
+    plan: &Plan,
+    node: u8,
+    marking: &Marking,
+    origin: PointCode,
+    octets: &[u8],
+) -> Result<Arrival, OutOfMemory>
+    requires { node < length plan.now.nodes }
+    ensures { IfOk result (λ a. a ≡ arrival plan.now node marking.now origin octets.now) }
+{
+    arrive(alloc, plan, node, marking, origin, octets)
+}
+
+/// Whether octets that a relay makes itself go on to another point.
+fn goes_on(
+    alloc: Global,
+    plan: &Plan,
+    node: u8,
+    marking: &Marking,
+    octets: &[u8],
+) -> Result<bool, OutOfMemory>
+    requires { node < length plan.now.nodes }
+    ensures { IfOk result (λ sent. sent ≡ is_some (forwarded (arrival plan.now node marking.now (point_of plan.now node) octets.now))) }
+{
+    let again = arrived(alloc, plan, node, marking, plan.point_of(node), octets)?;
+    let sent = is_forwarded(&again);
+    drop(again);
+    Ok(sent)
+}
+
+/// Whether a service message goes to a point from the relay that makes it.
+fn is_service_sent(
+    alloc: Global,
+    plan: &Plan,
+    node: u8,
+    marking: &Marking,
+    service: &Service,
+) -> Result<bool, OutOfMemory>
+    requires { node < length plan.now.nodes }
+    ensures { IfOk result (λ sent. sent ≡ is_some (service_sent plan.now node marking.now service.now.octets service.now.way)) }
+{
+    match service.way {
+        Way::Direct(_) => Ok(true),
+        Way::Shut(_) => Ok(false),
+        Way::ByTitle => goes_on(alloc, plan, node, marking, service.octets.as_slice()),
+    }
+}
+
+/// Whether the relay sends something because of an arrival.
+fn is_sent(
+    alloc: Global,
+    plan: &Plan,
+    node: u8,
+    marking: &Marking,
+    arrival: &Arrival,
+) -> Result<bool, OutOfMemory>
+    requires { node < length plan.now.nodes }
+    ensures { IfOk result (λ sent. sent ≡ is_some (sent_of plan.now node marking.now arrival.now)) }
+{
+    match arrival {
+        Arrival::Returned {
+            service: Some(service),
+            ..
+        } => is_service_sent(alloc, plan, node, marking, service),
+        _ => Ok(is_forwarded(arrival)),
+    }
+}
+
+/// Whether the relay sends something because of the event under a marking.
+fn is_due_under(
+    alloc: Global,
+    plan: &Plan,
+    node: u8,
+    marking: &Marking,
+    event: &Event,
+) -> Result<bool, OutOfMemory>
+    requires { node < length plan.now.nodes }
+    ensures { IfOk result (λ due. due ≡ is_some (sends plan.now node marking.now event.now.origin event.now.octets)) }
+{
+    let octets = event.octets.as_slice();
+    let arrival = arrived(alloc, plan, node, marking, event.origin, octets)?;
+    let sent = is_sent(alloc, plan, node, marking, &arrival);
+    drop(arrival);
+    sent
 }
 
 /// Whether the relay sends something because of the event with nothing prohibited.
@@ -62,17 +137,10 @@ fn is_due(alloc: Global, plan: &Plan, node: u8, event: &Event) -> Result<bool, O
     requires { node < length plan.now.nodes }
     ensures { IfOk result (λ due. due ≡ is_some (sends plan.now node [] event.now.origin event.now.octets)) }
 {
-    let origin = event.origin;
-    let octets = event.octets.as_slice();
-    let at = Incoming {
-        plan,
-        node,
-        origin,
-        octets,
-    };
-    let found = ways(alloc, &at)?;
-    let listed = found.as_slice();
-    Ok(has_plain(listed))
+    let unmarked = Marking::new(alloc);
+    let due = is_due_under(alloc, plan, node, &unmarked, event);
+    drop(unmarked);
+    due
 }
 
 /// The data of a message, none if its type has no data.

@@ -1,7 +1,7 @@
 //! The verdict on a message, by what was found.
 ghost use Rattle.std.specs.Prelude.{◌≡◌, ◌<◌, false, length, IfOk, IfSome, unwrap_or};
 ghost use Rattle.std.specs.List.{All};
-ghost use Rattle.std.specs.Option.{option_and_then, option_copied};
+ghost use Rattle.std.specs.Option.{option_and_then};
 ghost use Rattle.relay_ways.specs.Alike.{calling_of};
 ghost use Rattle.relay_watch.specs.Arrivals.{source, target};
 ghost use Rattle.relay_watch.specs.Verdicts.{is_point, equipped, own_ssn, said_by, without_reason, of_unsent};
@@ -22,26 +22,12 @@ use crate::verdict::Verdict;
 use crate::waiting::Waiting;
 use crate::whys::why;
 use plan_model::Plan;
+use relay_ways::calling;
 use sccp_address::Address;
 use sccp_base::{OutOfMemory, PointCode};
 use sccp_manage::StatusMessage;
 use sccp_message::Message;
 use std::alloc::Global;
-
-/// The calling address of a connectionless message (Q.713 section 3.5).
-fn calling(message: &Message) -> Option<&Address>
-    ensures { option_copied result ≡ calling_of message.now }
-{
-    match message {
-        Message::Udt { calling, .. }
-        | Message::Udts { calling, .. }
-        | Message::Xudt { calling, .. }
-        | Message::Xudts { calling, .. }
-        | Message::Ludt { calling, .. }
-        | Message::Ludts { calling, .. } => Some(calling),
-        _ => None,
-    }
-}
 
 /// Whether an address has no point code, or this one.
 fn is_point(here: PointCode, pc: Option<PointCode>) -> bool
