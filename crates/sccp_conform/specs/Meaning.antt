@@ -45,7 +45,7 @@ pub record AreTrue (plan : Network) (events : List Event) (j : Judgement) : Type
       → slice_get events i ≡ Some e → source plan e ≡ Some node → reading e.octets ≡ Ok sent → k < i
       → slice_get events k ≡ Some a → target plan a ≡ Some node → IsUnnamed a.number j.lines i
       → NeverSends plan node a.origin a.octets e.destination sent
-  -- an arrival that is told unanswered, when it is given up or at the end, is so
+  -- an arrival that is reported unanswered, when it is given up or at the end, is so
   pub given_up : (i : ℕ) (line : Line) (u : Unanswered) → slice_get j.lines i ≡ Some line → line.unanswered ≡ Some u
       → IsUnanswered plan events j.lines u
   pub unanswered : (i : ℕ) (u : Unanswered) → slice_get (summary_of j.left).unanswered i ≡ Some u → IsUnanswered plan events j.lines u

@@ -303,7 +303,7 @@ joins_behind : (first : Network) (batch b c : List Numbered) (m : Numbered) → 
     → AllByRecursion (Joins first) c
 joins_behind first batch b c m joins e = (all_back (Joins first) b (m ∷ c) (subst (AllByRecursion (Joins first)) e joins)).1
 
--- where a line of the batch is among all lines
+-- the place of a line of the batch among all lines
 placed : (all done batch b c lines : List Numbered) (m l : Numbered) → all ≡ done ++ (batch ++ l ∷ lines) → batch ≡ b ++ m ∷ c
     → all ≡ (done ++ b) ++ m ∷ (c ++ l ∷ lines)
 placed all done batch b c lines m l e f = e ∙ ap (λ k. done ++ (k ++ l ∷ lines)) f

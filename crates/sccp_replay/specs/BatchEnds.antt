@@ -1,4 +1,4 @@
--- Where the batches of a trace end.
+-- The ends of the batches of a trace.
 use Rattle.std.specs.Prelude.{◌≡◌, List, [], ◌∷◌, ◌++◌, fold, if◌then◌else◌}
 use Rattle.plan_model.specs.Network.{Network}
 use Rattle.sccp_report.specs.Roles.{Role, alone, role_of}

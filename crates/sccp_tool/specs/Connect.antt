@@ -154,7 +154,7 @@ TellsReached plan spot most octets text = (names : List (List ℕ)) × (far : �
     × IsAllowed plan spot far ssn × (text ≡ open_text names far octets)
 
 -- Of a call from an end to the relay at this place, over a plan that is safe for a bound: it was answered. If the plan covers the title,
--- and allows no place at a relay for it, the connection is open over at most so many relays.
+-- and allows no place at a relay for it, the connection is open over at most that many relays.
 abbrev pub TellsCall : Network → ℕ → ℕ → Calling → List ℕ → Type 0
 TellsCall plan bound node calling text = TellsAnswered calling.octets text
     × (Covered plan (spot_called plan (call_of plan node calling)) → AllowsEnds plan (spot_called plan (call_of plan node calling))

@@ -108,7 +108,7 @@ GivesNext limits nodes number cover tally (Ok judging) first now =
 GivesNext limits nodes number cover tally (Err stop) first now =
     (covers : List Cover) → Works (covers_on limits nodes number (cover ∷ covers) tally) (Err stop) first now
 
--- Once all covers are judged, the work goes on with what they come to.
+-- Once all covers are judged, the work goes on with their tally.
 abbrev pub GivesTally : Network → Result Tally Stop → Moment → Moment → Type 0
 GivesTally plan (Ok tally) first now =
     (result : Result Status Stop) (after : Moment) → Works (answered (tally_status tally, tally_line tally)) result now after

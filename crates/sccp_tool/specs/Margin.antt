@@ -112,7 +112,7 @@ MarginTells contents file losses given taken taken' =
 
 -- ---- the causes
 
--- at most so many losses stop a title of a cover
+-- as many losses as were asked for, or fewer, stop a title of a cover
 abbrev pub HasStop : LossLimit → Network → Type 0
 HasStop losses plan =
     (number : ℕ) × (count : ℕ) × (stop : StoppedTitle) × (count ≤ losses.most) × IsStop plan losses.kinds number count stop
@@ -151,7 +151,7 @@ GivesNext plan losses number tally (Ok next) first now =
 GivesNext plan losses number tally (Err stop) first now =
     (more : ℕ) → Works (margins_on plan losses number (suc more) tally) (Err stop) first now
 
--- Once all margins are printed, the work goes on with what they come to.
+-- Once all margins are printed, the work goes on with their tally.
 abbrev pub GivesTally : Network → LossLimit → Result MarginTally Stop → Moment → Moment → Type 0
 GivesTally plan losses (Ok tally) first now =
     (result : Result Status Stop) (after : Moment) → Works (answered (margin_status tally, margin_line losses.most tally)) result now after

@@ -1,4 +1,4 @@
--- What the margins of the covers of a plan come to: the least number of points, numbers of covers, the answer and the last line.
+-- The tally of the margins of the covers of a plan: the least number of points, numbers of covers, the answer and the last line.
 use Rattle.std.specs.Prelude.{ℕ, ◌+◌, min, nat_lt, if◌then◌else◌, List, [], ◌∷◌, ◌++◌, Option, Some, None, codes}
 use Rattle.plan_margin.specs.declared.margin.Margin.{Margin}
 use Rattle.plan_margin.specs.declared.margin.Margin.TheVariants.{Stopped, Survives, SurvivesAny, TooWide}

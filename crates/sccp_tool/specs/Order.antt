@@ -57,7 +57,7 @@ OrderTells = BothTell TellsOrder
 -- ---- the causes
 
 -- Three facts on two plans, a definition each. Some sets of relays are an order; or no sets are; or the search was given up, which
--- comes only of many dead ends or of plans that reach too many classes together.
+-- is given only for many dead ends, or for plans that reach too many classes together.
 abbrev pub HasOrder : Network → Network → Type 0
 HasOrder old new = (steps : List (List ℕ)) × IsOrder old new steps
 

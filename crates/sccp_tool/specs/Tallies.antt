@@ -1,4 +1,4 @@
--- What the verdicts on the covers of a plan come to: numbers of verdicts, the answer and the last line.
+-- The tally of the verdicts on the covers of a plan: numbers of verdicts, the answer and the last line.
 use Rattle.std.specs.Prelude.{ℕ, ◌+◌, max, nat_lt, if◌then◌else◌, List, [], ◌∷◌, ◌++◌, codes}
 use Rattle.plan_verify.specs.declared.verdict.Verdict.{Verdict}
 use Rattle.plan_verify.specs.declared.verdict.Verdict.TheVariants as verdicts

@@ -21,9 +21,10 @@ use sccp_work::{PlanPath, Status, Stop, print_last, with_accepted};
 use std::alloc::Global;
 use trace_text::is_file_name;
 
-/// The words before what is printed of the old plan, and of the new one.
+/// The words before what is printed of the old plan.
 pub const OLD: &[u8] = b"old ";
 
+/// The words before what is printed of the new plan.
 pub const NEW: &[u8] = b"new ";
 
 const OTHER_NODES: &[u8] = b"other nodes\n";

@@ -39,7 +39,7 @@ pub fn covers_words<'a>(limits: Limits, words: &'a [String]) -> Option<Command<'
     }
 }
 
-/// Prints the verdict on each cover of the plan of a file by itself, and what they come to.
+/// Prints the verdict on each cover of the plan of a file by itself, and their tally.
 pub fn covers<F: Files, K: Sink>(
     alloc: Global,
     file: &PlanPath<'_>,
@@ -56,7 +56,7 @@ pub fn covers<F: Files, K: Sink>(
     print_last(out, line.as_slice(), tally.status())
 }
 
-/// The relays of a plan, and what the verdicts on its covers come to so far.
+/// The relays of a plan, and the tally of the verdicts on its covers so far.
 #[derive(Drop)]
 struct Judging {
     nodes: List<Node>,
@@ -119,7 +119,7 @@ fn judge_cover<K: Sink>(
     }
 }
 
-/// Prints the verdict on the plan with the cover of this number alone.
+/// Prints the verdict on the plan with only the cover of this number.
 fn print_verdict<K: Sink>(
     alloc: Global,
     number: u16,

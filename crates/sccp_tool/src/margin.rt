@@ -74,7 +74,7 @@ fn margin_with<'a>(
 }
 
 /// Prints for each cover of the plan of a file how many losses there can be before a title of the cover is stopped, and what these
-/// numbers come to. The plan has to be accepted.
+/// numbers add up to. The plan has to be accepted.
 pub fn margin<F: Files, K: Sink>(
     alloc: Global,
     file: &PlanPath<'_>,

@@ -1,4 +1,4 @@
-//! What the margins of the covers of a plan come to.
+//! The tally of the margins of the covers of a plan.
 ghost use Rattle.std.specs.Prelude.{◌≡◌, ◌+◌, ◌<◌, Some, IfOk};
 ghost use Rattle.sccp_tool.specs.MarginTallies.{none_yet, counted, total, margin_status, least_with, all_survive_line, least_line};
 ghost use Rattle.sccp_tool.specs.MarginTallies.{margin_line};

@@ -1,4 +1,4 @@
-//! What the verdicts on the covers of a plan come to.
+//! The tally of the verdicts on the covers of a plan.
 ghost use Rattle.std.specs.Prelude.{◌≡◌, ◌<◌, ◌≤◌, IfOk};
 ghost use Rattle.sccp_tool.specs.Tallies.{none_yet, counted, total, tally_status, all_accepted_line, counts_line, tally_line};
 
