@@ -38,6 +38,7 @@ import tempfile
 import tomllib
 
 TOP = os.path.dirname(os.path.dirname(os.path.abspath(__file__)))
+AT_A_TIME = 20_000
 sys.path.insert(0, os.path.join(TOP, "bench"))
 import reference  # noqa: E402
 import send_on  # noqa: E402
@@ -381,6 +382,14 @@ def capture_one(program, folder, seed):
     return collections.Counter({status: 1}), [(f"capture: {why}", path)] if why else []
 
 
+def turns_of(pool, kind, one, count):
+    """What each input gives, in turn. A pool keeps all that it is handed, so it is handed some at a time, and these are reported."""
+    for first in range(0, count, AT_A_TIME):
+        yield from pool.map(one, range(first, min(count, first + AT_A_TIME)))
+        if count > AT_A_TIME:
+            print(f"{kind}: {min(count, first + AT_A_TIME)} of {count}", file=sys.stderr, flush=True)
+
+
 def main():
     words = argparse.ArgumentParser(usage=__doc__)
     words.add_argument("--program", default=os.path.join(TOP, "crates/sccp/out/sccp"))
@@ -409,19 +418,12 @@ def main():
                 print("captures: left out, the program has no capture")
                 continue
             with concurrent.futures.ThreadPoolExecutor(given.jobs) as pool:
+                by_kind = {"plans": verify_one, "relays": relay_one, "captures": capture_one, "traces": replay_one}
+                count, one = given.count, lambda i: by_kind[kind](program, folder, first + i)
                 if kind == "messages":
-                    turns = pool.map(lambda i: show_batch(program, folder, first + i, min(batch, given.count - i * batch)),
-                                     range(-(-given.count // batch)))
-                elif kind == "plans":
-                    turns = pool.map(lambda i: verify_one(program, folder, first + i), range(given.count))
-                elif kind == "relays":
-                    turns = pool.map(lambda i: relay_one(program, folder, first + i), range(given.count))
-                elif kind == "captures":
-                    turns = pool.map(lambda i: capture_one(program, folder, first + i), range(given.count))
-                else:
-                    turns = pool.map(lambda i: replay_one(program, folder, first + i), range(given.count))
+                    count, one = -(-count // batch), lambda i: show_batch(program, folder, first + i, min(batch, given.count - i * batch))
                 told = collections.Counter()
-                for counts, found in turns:
+                for counts, found in turns_of(pool, kind, one, count):
                     told += counts
                     for why, *files in found:
                         faults.add(why, *files)

@@ -31,7 +31,7 @@ def blocks_of(text):
     """The printed text in pieces, each a line of the list of calls with the answer below it: (line, which of its kind, answer)."""
     found, count = [], {}
     for line in text.removesuffix("\n").split("\n"):
-        if re.match(r"[>?#+!]", line):
+        if re.match(r"[>?#+!*]", line):
             count[line] = count.get(line, 0) + 1
             found.append(((line, count[line]), []))
         elif found:

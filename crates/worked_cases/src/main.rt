@@ -6,12 +6,17 @@
 //!   at the end, spell an empty word. What `run` writes is printed after it, and then a line with its status.
 //! - A line that begins with `?` is a call in the same form, but of words that have no shape. If it writes what a call without
 //!   words writes, the usage line, `usage` is printed in its place, and `other` if not; then its status.
+//! - A line that begins with `*` has the words COUNT FIRST COMMAND PLAN FILE..: COMMAND is called COUNT times for each file, which is
+//!   changed at random by the number of the call, the first of which is FIRST. If each call ends with a status that the command documents
+//!   and prints lines of its form, `documented` is printed, and else the number of the first that does not.
 //! - A line that begins with `+` adds to a file that is made: it has a number, a blank, and a piece that is put at the end that
 //!   number of times. In a piece `|` is a line feed, `^` a carriage return, and `%` two digits that count from 00 on.
 //! - A line that begins with `!` has a blank and a name: the file that was made is written under it, and the next one begins.
 //! - Every other line says what the calls after it show.
 #![tactic(auto)]
 
+mod changed;
+mod changing;
 mod made;
 mod shapeless;
 mod words;
@@ -42,6 +47,9 @@ fn main(rt: HostRuntime) -> io::Result<()> {
             };
             println!(rt; "{text}")?;
             println!(rt; "= {}", refused.status.number())?;
+        }
+        if let Some(words) = words::after(alloc, '*', line)? {
+            println!(rt; "{}", changed::make_calls(&rt, alloc, &words)?)?;
         }
     }
     Ok(())

@@ -1,4 +1,4 @@
-//! A capture of which each call on its files fails in turn, and each call on its sink.
+//! A capture that is read or judged, of which each call on its files fails in turn, and each call on its sink.
 use super::calls::words_of;
 use sample_plans::BACKED;
 use sccp_io::{Files, InPieces, IoFault, MemoryFiles, MemorySink, Sink, SoundFiles, SoundSink};
@@ -56,10 +56,11 @@ fn files(alloc: Global) -> Result<Vec<(String, Vec<u8>)>, AllocError> {
 fn ends_at_reading<R: Threads + Wait + Sync>(
     rt: &R,
     alloc: Global,
+    command: &str,
     call: u8,
     lines: u8,
 ) -> Result<bool, Fail> {
-    let words = words_of(alloc, "capture f g")?;
+    let words = words_of(alloc, command)?;
     let failing = vec![in alloc; u64::from(call), u64::from(call) + 1]?;
     let mut files = InPieces::new(MemoryFiles::new(files(alloc)?, failing), PIECE);
     let mut out = SoundSink::new(alloc);
@@ -77,14 +78,18 @@ fn ends_at_reading<R: Threads + Wait + Sync>(
 /// end by a call each. The capture is begun, taken in two pieces, and found to be at its end.
 const READINGS: [(u8, u8); 7] = [(0, 0), (1, 0), (2, 0), (3, 0), (4, 0), (5, 16), (6, 20)];
 
+/// The same calls if the capture is judged: nothing is printed before all of it was read.
+const JUDGINGS: [(u8, u8); 7] = [(0, 0), (1, 0), (2, 0), (3, 0), (4, 0), (5, 0), (6, 0)];
+
 /// The first of these calls on the files whose failure does not end the command so.
 fn first_other_reading<R: Threads + Wait + Sync>(
     rt: &R,
     alloc: Global,
+    command: &str,
     calls: &[(u8, u8)],
 ) -> Result<Option<u8>, Fail> {
     for (call, lines) in calls {
-        if !ends_at_reading(rt, alloc, *call, *lines)? {
+        if !ends_at_reading(rt, alloc, command, *call, *lines)? {
             return Ok(Some(*call));
         }
     }
@@ -94,7 +99,20 @@ fn first_other_reading<R: Threads + Wait + Sync>(
 #[test]
 fn each_read_of_a_capture_may_fail(rt: HostRuntime) -> Result<(), Fail> {
     let alloc = rt.alloc();
-    assert_eq!(rt; first_other_reading(&rt, alloc, &READINGS)?, None);
+    assert_eq!(rt;
+        first_other_reading(&rt, alloc, "capture f g", &READINGS)?,
+        None
+    );
+    Ok(())
+}
+
+#[test]
+fn each_read_of_a_judged_capture_may_fail(rt: HostRuntime) -> Result<(), Fail> {
+    let alloc = rt.alloc();
+    assert_eq!(rt;
+        first_other_reading(&rt, alloc, "conform f g", &JUDGINGS)?,
+        None
+    );
     Ok(())
 }
 
@@ -150,9 +168,26 @@ fn makes_no_further_call<R: Threads + Wait + Sync>(rt: &R, alloc: Global) -> Res
     Ok(status == Status::Done && out.taken() == told.as_slice())
 }
 
+/// Whether all is done if call 7 on the files is to fail, and the capture is judged.
+fn judges_without_a_further_call<R: Threads + Wait + Sync>(
+    rt: &R,
+    alloc: Global,
+) -> Result<bool, Fail> {
+    let words = words_of(alloc, "conform f g")?;
+    let mut files = InPieces::new(MemoryFiles::new(files(alloc)?, vec![in alloc; 7]?), PIECE);
+    let mut out = SoundSink::new(alloc);
+    Ok(run(rt, alloc, &words, &mut files, &mut out) == Status::Done)
+}
+
 /// No call is left out above: if the next one is to fail, none does.
 #[test]
 fn no_further_call_of_a_capture_is_made(rt: HostRuntime) -> Result<(), Fail> {
     assert!(rt; makes_no_further_call(&rt, rt.alloc())?);
+    Ok(())
+}
+
+#[test]
+fn no_further_call_of_a_judged_capture_is_made(rt: HostRuntime) -> Result<(), Fail> {
+    assert!(rt; judges_without_a_further_call(&rt, rt.alloc())?);
     Ok(())
 }
