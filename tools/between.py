@@ -216,7 +216,7 @@ def find(words):
 
 
 def main():
-    parser = argparse.ArgumentParser(description="Proposes a plan between two plans.", usage="between.py [--wide] [--program FILE] OLD NEW -o BETWEEN")
+    parser = argparse.ArgumentParser(description=__doc__, formatter_class=argparse.RawDescriptionHelpFormatter)
     parser.add_argument("old")
     parser.add_argument("new")
     parser.add_argument("-o", "--output", required=True)

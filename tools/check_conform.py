@@ -11,8 +11,8 @@ unless given) are replayed by the program over accepted plans; what the relays o
 conditions that the marks which the replay held meet.
 
 The program is ./sccp of this repository if none is named. With --alone no program is called. With --write the scenarios are written into
-the folder, each as NAME.txt and NAME.pcap beside `relays.toml`, and nothing is compared. The last line counts. Each text with a difference is kept
-beside its name, and the status is then 1.
+the folder, each as NAME.txt and NAME.pcap beside `relays.toml`, and nothing is compared. The last line counts. Each text with a
+difference is kept beside its name, and the status is then 1.
 """
 import argparse
 import collections

@@ -9,8 +9,9 @@ shown. Of each of these the bad mixed route is followed hop by hop, and each of 
 
   tools/check_order.py [--pairs N] [--seed N] [--program FILE]
 
-40 pairs are drawn. Of every second one, titles of each first digit go over the relays in another order under each plan. The program is ./sccp of this repository if none is named. The last line
-counts the pairs by their answers. At the first answer that is not lawful the pair is printed, and the status is 1.
+40 pairs are drawn. Of every second one, titles of each first digit go over the relays in another order under each plan. The program is
+./sccp of this repository if none is named. The last line counts the pairs by their answers. At the first answer that is not lawful the
+pair is printed, and the status is 1.
 """
 import argparse
 import collections

@@ -3,10 +3,10 @@
 
   tools/where.py [--wide] PLAN [--line LINE]
 
-Without --line it calls ./sccp verify PLAN, and with --wide ./sccp wide verify PLAN. A fault of a plan text is `bad plan ..` with a place in numbers, such as node 17 row
-203 targets. For each place of the fault one line is printed, PLAN:LINE: or PLAN:LINE-LINE: and the program's own line, and below
-it the first three lines there and a note if one is needed. With --line no program is called: LINE is a line that has `bad plan`,
-of whatever command. PLAN has to be the file that the command read.
+Without --line it calls ./sccp verify PLAN, and with --wide ./sccp wide verify PLAN. A fault of a plan text is `bad plan ..` with a
+place in numbers, such as node 17 row 203 targets. For each place of the fault one line is printed, PLAN:LINE: or PLAN:LINE-LINE:
+and the program's own line, and below it the first three lines there and a note if one is needed. With --line no program is called:
+LINE is a line that has `bad plan`, of whatever command. PLAN has to be the file that the command read.
 
   a value                   the lines of the key and of its value
   a key that is missing     the lines of its table, without those of the rows of a node
