@@ -47,8 +47,8 @@ abbrev pub LoadCause : Status → Type 0
 LoadCause Done = Unit {0}
 LoadCause answer = ⊥
 
--- The sink took the counts of exactly these messages. Those that ended and those that were returned are all of them, and there are
--- one to six translations for each on the whole. They are what is counted of the replay of the number's trace over its plan.
+-- The sink took the counts of exactly these messages. Those that ended and those that were returned are all of them, and the
+-- translations are one to six times as many. They are what is counted of the replay of the number's trace over its plan.
 abbrev pub LoadTells : ℕ → ℕ → Status → Option (List ℕ) → Option (List ℕ) → Type 0
 LoadTells number size given taken taken' = given ≡ Done →
     (taken' ≡ append_known taken (counts_text (load_counts number size))) × AddUp size (load_counts number size)
