@@ -127,7 +127,7 @@ class Faults:
     """All faults of all tables, reported in the order of tables, lines and columns."""
 
     def __init__(self):
-        self.all = []
+        self.all, self.has_passed_limit = [], False
 
     def add(self, table, line, column, text):
         self.all.append((table.place, line, column, f"{table.path}:{line}: {text}"))
@@ -207,6 +207,7 @@ class Table:
         """The lines of the table as records, those with a wrong number of cells left out."""
         for count, (line, cells) in enumerate(self.records):
             if count == most:
+                self.faults.has_passed_limit = True
                 self.fault(line, f"expected at most {most} {what}, found {len(self.records)}")
             if len(cells) != len(self.head):
                 self.fault(line, f"expected {len(self.head)} cells as in the head line, found {len(cells)}")
@@ -513,9 +514,12 @@ def main(words):
     octets = plan_of(tables, faults, limits).encode("utf-8")
     if faults.all:
         sys.stderr.write(faults.text())
-        return 1
-    if len(octets) > limits.octets:
+    elif len(octets) > limits.octets:
         print(f"the plan has {len(octets)} octets: expected at most {limits.octets}, so write shorter comments", file=sys.stderr)
+        faults.has_passed_limit = True
+    if faults.has_passed_limit and limits is STANDARD:
+        print(f"with --wide a plan has up to {WIDE.relays} relays, {WIDE.rows} rows, {WIDE.covers} covers and {WIDE.octets} octets", file=sys.stderr)
+    if faults.all or faults.has_passed_limit:
         return 1
     sys.stdout.buffer.write(octets)
     return 0

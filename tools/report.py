@@ -176,6 +176,9 @@ def changeover(report):
     if answer["form"] in ("accepted", "text") and report.changed:
         answer = report.changed[-1]
     inner = [tag("p", "From ", code(words.plan), " to ", code(words.change), "."), verdict_line(answer)]
+    if answer["form"] == "change_refused":
+        asked = " ".join([*["wide"] * words.wide, "order", words.plan, words.change])
+        inner.append(tag("p", "To change the relays in steps that are safe, if there are such: ", code(asked), "."))
     route = next((route for route in picture.routes_in(report.changed)[::-1]), None)
     plans = {"old": report.plan, "new": report.new} if report.plan and report.new else {}
     if route:

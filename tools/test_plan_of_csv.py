@@ -29,6 +29,8 @@ COVERS = """relay,selector,ssn,prefix,least,most,allowed,comment
 a,4:0:1:4,6,49,12,12,2-0-1/6 1-0-2/8,
 b,4:0:1:3,0,-,0,32,4097/6,"A ""wide"" one"
 """
+WITH_WIDE = "with --wide a plan has up to 255 relays, 1048576 rows, 65535 covers and 268435456 octets\n"
+
 PLAN = """# Two relays.
 # They are mates.
 # Made by plan_of_csv.py from relays.csv, rows.csv and covers.csv: each comment below begins with a file and a line.
@@ -291,7 +293,7 @@ rows.csv:3: expected cells as in CSV: unexpected end of data
         self.reported("""relays.csv:66: expected at most 64 relays, found 66
 rows.csv:4098: expected at most 4096 rows, found 4098
 covers.csv:258: expected at most 256 covers, found 258
-""", relays=relays, rows=rows, covers=covers)
+""" + WITH_WIDE, relays=relays, rows=rows, covers=covers)
 
     def test_wide_limits(self):
         relays = "name,point\n" + "".join(f"n{i},{i}\n" for i in range(256))
@@ -312,7 +314,7 @@ covers.csv:65537: expected at most 65535 covers, found 65536
         length += 1048576 - len(self.made(covers=covers(length))[1])
         status, out, told = self.made(covers=covers(length))
         self.assertEqual((0, 1048576, ""), (status, len(out), told))
-        told = "the plan has 1048577 octets: expected at most 1048576, so write shorter comments\n"
+        told = "the plan has 1048577 octets: expected at most 1048576, so write shorter comments\n" + WITH_WIDE
         self.assertEqual((1, b"", told), self.made(covers=covers(length + 1)))
 
     def test_words_and_files(self):

@@ -240,6 +240,8 @@ class Cases(unittest.TestCase):
                 made = self.page_of(words_of(old, change=new), Answers({("verify", old): ["accepted bound 1"]}))
                 self.assertNotIn("another step", made)
                 self.assertIn("Changeover", made)
+                is_refused = any(line.startswith("change refused") for line in STORED["change", old, new])
+                self.assertEqual(is_refused, f"<code>order {old} {new}</code>" in made)
 
     def test_pages_of_all_replays(self):
         calls = [words for words in STORED if words[:1] == ("replay",) and len(words) == 4 and os.path.isfile(words[1]) and words[3].isdigit()]
