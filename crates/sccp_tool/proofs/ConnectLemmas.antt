@@ -11,7 +11,7 @@ use Rattle.sccp_work.specs.Plans.{HasPlan}
 use Rattle.sccp_replay.specs.ReplayEnds.{ReplayTells}
 use Rattle.sccp_tool.specs.Task.{Connect}
 use Rattle.sccp_work.specs.Verdict.{IsSafe, IsBad, IsWide, IsOnVerdict}
-use Rattle.sccp_tool.specs.Verify.{VerifyCause, VerifySure}
+use Rattle.sccp_plans.specs.Verify.{VerifyCause, VerifySure}
 use Rattle.sccp_work.specs.Work.{answered, Ends}
 use Rattle.sccp_work.specs.Writing.{Writes}
 use Rattle.sccp_tool.specs.declared.connect.Calling.{Calling}
@@ -24,7 +24,7 @@ use Rattle.sccp_tool.proofs.TaskWords.{IsCalled}
 use Rattle.sccp_work.proofs.AcceptingLemmas.{Judged, Ends-judged, judged_tells, accepted_files}
 use Rattle.sccp_work.proofs.PlanLemmas.{PlanEnds, long, bad, good, Ends-with_plan, if_long, if_bad, at_plan, plan_files}
 use Rattle.sccp_work.proofs.VerdictLemmas.{on_verdict}
-use Rattle.sccp_tool.proofs.VerifyLemmas.{cause_of}
+use Rattle.sccp_plans.proofs.VerifyLemmas.{cause_of}
 use Rattle.sccp_work.proofs.VerdictLemmas.{done_if_safe, refused_if_bad}
 use Rattle.sccp_work.proofs.WorkLemmas.{Works-answered}
 

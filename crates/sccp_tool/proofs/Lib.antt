@@ -1,21 +1,17 @@
 -- The lemmas of this crate, one file a subject.
 mod CaptureLemmas
 mod Causes
-mod ChangeLemmas
 mod ConformLemmas
 mod ConnectLemmas
 mod ConnectTold
-mod CoversLemmas
 mod CutsLemmas
 mod ImportLemmas
 mod LeavingLemmas
 mod LinesTold
 mod LoadLemmas
-mod MarginLemmas
-mod OrderLemmas
+mod PlanCauses
 mod ReadPlans
 mod ReplayLemmas
-mod RouteLemmas
 mod RunLemmas
 mod SegmentLemmas
 mod SendOnLemmas
@@ -24,6 +20,3 @@ mod ShowLemmas
 mod TaskWords
 mod TitleWords
 mod TracedLoads
-mod TwoPlansLemmas
-mod UnusedLemmas
-mod VerifyLemmas

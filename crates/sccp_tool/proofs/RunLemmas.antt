@@ -17,21 +17,15 @@ use Rattle.sccp_tool.proofs.Causes.{Causes}
 use Rattle.sccp_tool.proofs.CaptureLemmas.{capture_causes}
 use Rattle.sccp_tool.proofs.CutsLemmas.{cuts_causes}
 use Rattle.sccp_tool.proofs.ImportLemmas.{import_causes}
-use Rattle.sccp_tool.proofs.ChangeLemmas.{change_causes}
 use Rattle.sccp_tool.proofs.ConformLemmas.{conform_causes}
 use Rattle.sccp_tool.proofs.ConnectLemmas.{connect_causes}
-use Rattle.sccp_tool.proofs.CoversLemmas.{covers_causes}
 use Rattle.sccp_tool.proofs.LoadLemmas.{load_causes}
-use Rattle.sccp_tool.proofs.MarginLemmas.{margin_causes}
-use Rattle.sccp_tool.proofs.OrderLemmas.{order_causes}
+use Rattle.sccp_tool.proofs.PlanCauses.{change_right, covers_right, margin_right, order_right, route_right, unused_right, verify_right}
 use Rattle.sccp_tool.proofs.ReplayLemmas.{replay_causes}
-use Rattle.sccp_tool.proofs.RouteLemmas.{route_causes}
 use Rattle.sccp_tool.proofs.SendOnLemmas.{send_on_causes}
 use Rattle.sccp_tool.proofs.ShowHexLemmas.{show_hex_causes}
 use Rattle.sccp_tool.proofs.ShowLemmas.{show_causes}
 use Rattle.sccp_tool.proofs.TaskWords.{IsOfWords}
-use Rattle.sccp_tool.proofs.UnusedLemmas.{unused_causes}
-use Rattle.sccp_tool.proofs.VerifyLemmas.{verify_causes}
 
 -- ---- the causes of the answers, task by task
 
@@ -54,20 +48,20 @@ causes : (task : Option Task) → IsOfWords task → Causes task
 causes None words = usage_causes
 causes (Some (ShowHex octets)) words = show_hex_causes octets
 causes (Some (Show name)) words = show_causes name
-causes (Some (Verify file)) words = verify_causes file
-causes (Some (Route file start)) words = route_causes file start
+causes (Some (Verify file)) words = verify_right file
+causes (Some (Route file start)) words = route_right file start
 causes (Some (Replay plan trace workers)) words = replay_causes plan trace workers
 causes (Some (Load number size workers)) words = load_causes number size workers words
 causes (Some (Cuts octets)) words = cuts_causes octets
 causes (Some (Import plan file)) words = import_causes plan file
-causes (Some (Change old new)) words = change_causes old new
+causes (Some (Change old new)) words = change_right old new
 causes (Some (Connect file calling)) words = connect_causes file calling words
 causes (Some (SendOn file incoming)) words = send_on_causes file incoming words
-causes (Some (Covers file)) words = covers_causes file
-causes (Some (Unused file)) words = unused_causes file
-causes (Some (Margin file losses)) words = margin_causes file losses
+causes (Some (Covers file)) words = covers_right file
+causes (Some (Unused file)) words = unused_right file
+causes (Some (Margin file losses)) words = margin_right file losses
 causes (Some (Capture plan file)) words = capture_causes plan file
-causes (Some (Order old new)) words = order_causes old new
+causes (Some (Order old new)) words = order_right old new
 causes (Some (Conform plan file)) words = conform_causes plan file
 
 if_some : {C : Type 0} (o : Option C) (P : C → Type 0) → ((c : C) → o ≡ Some c → P c) → IfSome o P

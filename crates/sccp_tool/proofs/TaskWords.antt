@@ -29,21 +29,22 @@ use Rattle.sccp_tool.specs.Covers.{covers_words}
 use Rattle.sccp_tool.specs.Cuts.{cuts_words}
 use Rattle.sccp_tool.specs.Import.{import_words, import_of}
 use Rattle.sccp_tool.specs.Load.{load_words, load_of, number_to}
-use Rattle.sccp_tool.specs.Margin.{margin_words, margin_with, margin_of_kinds, limit_in}
+use Rattle.sccp_tool.specs.Margin.{margin_words, margin_with, margin_of_kinds}
+use Rattle.sccp_plans.specs.Margin.{limit_in}
 use Rattle.sccp_tool.specs.Order.{order_words, order_of}
 use Rattle.sccp_tool.specs.Replay.{replay_words, replay_of}
 use Rattle.sccp_tool.specs.Route.{route_words, route_of}
 use Rattle.sccp_tool.specs.SendOn.{send_on_words, send_on_of, incoming_of, size_of}
 use Rattle.sccp_tool.specs.Show.{show_words}
 use Rattle.sccp_tool.specs.ShowHex.{show_hex_words}
-use Rattle.sccp_tool.specs.Starts.{digits_word, ssn_of, start_of, title_digits}
+use Rattle.sccp_plans.specs.Starts.{digits_word, ssn_of, start_of, title_digits}
 use Rattle.sccp_tool.specs.Task.{Task, ShowHex, Show, Verify, Route, Replay, Load, Cuts, Import, Change, Connect, SendOn, Covers, Unused}
 use Rattle.sccp_tool.specs.Task.{Margin, Capture, Order, Conform}
 use Rattle.sccp_tool.specs.Unused.{unused_words}
 use Rattle.sccp_tool.specs.Verify.{verify_words}
 use Rattle.sccp_tool.specs.declared.connect.Calling.{Calling}
 use Rattle.sccp_tool.specs.declared.send_on.Incoming.{Incoming}
-use Rattle.sccp_tool.specs.declared.start.Start.{Start}
+use Rattle.sccp_plans.specs.declared.start.Start.{Start}
 use Rattle.sccp_work.specs.PlanFile.{plan_file}
 use Rattle.trace_text.specs.Forms.{file_name}
 use Rattle.trace_text.specs.Hex.{hex_word}

@@ -30,12 +30,12 @@ use Rattle.trace_text.specs.Hex.{hex_word}
 use Rattle.sccp_work.specs.Accepting.{if_accepted}
 use Rattle.sccp_work.specs.PlanFile.{PlanFile, plan_file}
 use Rattle.sccp_work.specs.Plans.{with_plan, HasPlan}
-use Rattle.sccp_tool.specs.Starts.{start_of}
+use Rattle.sccp_plans.specs.Starts.{start_of}
 use Rattle.sccp_tool.specs.Task.{Task, Connect}
-use Rattle.sccp_tool.specs.Texts.{unknown_node}
+use Rattle.sccp_plans.specs.Texts.{unknown_node}
 use Rattle.sccp_work.specs.Work.{Work, answered}
 use Rattle.sccp_tool.specs.declared.connect.Calling.{Calling}
-use Rattle.sccp_tool.specs.declared.start.Start.{Start}
+use Rattle.sccp_plans.specs.declared.start.Start.{Start}
 use Rattle.sccp_work.specs.declared.status.Status.{Status}
 use Rattle.sccp_work.specs.declared.status.Status.TheVariants.{Done}
 

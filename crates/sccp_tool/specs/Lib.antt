@@ -9,7 +9,6 @@ pub mod Import
 pub mod Load
 pub mod LoadTrace
 pub mod Margin
-pub mod MarginTallies
 pub mod Order
 pub mod Parsed
 pub mod Promise
@@ -20,11 +19,8 @@ pub mod SendOn
 pub mod Show
 pub mod ShowHex
 pub mod Cuts
-pub mod Starts
-pub mod Tallies
 pub mod Task
 pub mod Texts
 pub mod Told
-pub mod TwoPlans
 pub mod Unused
 pub mod Verify

@@ -4,21 +4,21 @@ use Rattle.std.specs.Io.KnownBytes.{append_known}
 use Rattle.sccp_io.specs.Files.{Contents}
 use Rattle.sccp_replay.specs.Account.{TellsReplay}
 use Rattle.sccp_tool.specs.Capture.{capture_work, CaptureCause, CaptureTells}
-use Rattle.sccp_tool.specs.Change.{change_work, ChangeCause, ChangeSure, ChangeTells}
+use Rattle.sccp_plans.specs.Change.{change_work, ChangeCause, ChangeSure, ChangeTells}
 use Rattle.sccp_tool.specs.Conform.{conform_work, ConformCause, ConformTells}
 use Rattle.sccp_tool.specs.Connect.{connect_work, ConnectTells}
-use Rattle.sccp_tool.specs.Covers.{covers_work, CoversCause, CoversSure, CoversTells}
+use Rattle.sccp_plans.specs.Covers.{covers_work, CoversCause, CoversSure, CoversTells}
 use Rattle.sccp_tool.specs.Cuts.{cuts_work, CutsCause}
 use Rattle.sccp_work.specs.Ending.{IsCut}
 use Rattle.sccp_tool.specs.Import.{import_work, ImportCause, ImportTells}
 use Rattle.sccp_work.specs.Limit.{IsThere}
 use Rattle.sccp_work.specs.Plans.{TextCause}
 use Rattle.sccp_tool.specs.Load.{load_work, LoadCause, LoadTells}
-use Rattle.sccp_tool.specs.Margin.{margin_work, MarginCause, MarginSure, MarginTells}
-use Rattle.sccp_tool.specs.Order.{order_work, OrderCause, OrderSure, OrderTells}
+use Rattle.sccp_plans.specs.Margin.{margin_work, MarginCause, MarginSure, MarginTells}
+use Rattle.sccp_plans.specs.Order.{order_work, OrderCause, OrderSure, OrderTells}
 use Rattle.sccp_replay.specs.Replay.{replay_work}
 use Rattle.sccp_replay.specs.ReplayEnds.{ReplayCause, ReplaySure, ReplayTells, LaterPlansThere}
-use Rattle.sccp_tool.specs.Route.{route_work}
+use Rattle.sccp_plans.specs.Route.{route_work}
 use Rattle.sccp_tool.specs.SendOn.{send_on_work, SendOnTells}
 use Rattle.sccp_tool.specs.Show.{show_work, ShowCause}
 use Rattle.sccp_tool.specs.ShowHex.{show_hex_work, ShowHexCause}
@@ -26,8 +26,8 @@ use Rattle.sccp_tool.specs.Task.{Task, ShowHex, Show, Verify, Route, Replay, Loa
 use Rattle.sccp_tool.specs.Task.{Margin, Capture, Order, Conform}
 use Rattle.sccp_tool.specs.Texts.{usage}
 use Rattle.sccp_replay.specs.Trace.{lines_in}
-use Rattle.sccp_tool.specs.Unused.{unused_work, UnusedCause, UnusedSure, UnusedTells}
-use Rattle.sccp_tool.specs.Verify.{verify_work, VerifyCause, VerifySure, VerifyTells}
+use Rattle.sccp_plans.specs.Unused.{unused_work, UnusedCause, UnusedSure, UnusedTells}
+use Rattle.sccp_plans.specs.Verify.{verify_work, VerifyCause, VerifySure, VerifyTells}
 use Rattle.sccp_work.specs.Work.{Work, answered}
 use Rattle.sccp_work.specs.declared.status.Status.{Status}
 use Rattle.sccp_work.specs.declared.status.Status.TheVariants.{Done, Refused, Usage, BadPlan, BadTrace, TooWide, TooLong, OtherNodes}

@@ -31,7 +31,7 @@ use Rattle.trace_text.specs.Hex.{hex_word}
 use Rattle.sccp_work.specs.PlanFile.{PlanFile, plan_file}
 use Rattle.sccp_work.specs.Plans.{with_plan, HasPlan}
 use Rattle.sccp_tool.specs.Task.{Task, SendOn}
-use Rattle.sccp_tool.specs.Texts.{unknown_node}
+use Rattle.sccp_plans.specs.Texts.{unknown_node}
 use Rattle.sccp_work.specs.Work.{Work, answered}
 use Rattle.sccp_tool.specs.declared.send_on.Incoming.{Incoming}
 use Rattle.sccp_work.specs.declared.status.Status.{Status}

@@ -2,9 +2,9 @@
 use Rattle.std.specs.Prelude.{ℕ, List}
 use Rattle.sccp_work.specs.PlanFile.{PlanFile}
 use Rattle.sccp_tool.specs.declared.connect.Calling.{Calling}
-use Rattle.sccp_tool.specs.declared.loss_limit.LossLimit.{LossLimit}
+use Rattle.sccp_plans.specs.declared.loss_limit.LossLimit.{LossLimit}
 use Rattle.sccp_tool.specs.declared.send_on.Incoming.{Incoming}
-use Rattle.sccp_tool.specs.declared.start.Start.{Start}
+use Rattle.sccp_plans.specs.declared.start.Start.{Start}
 
 pub data Task : Type 0 where
   -- shows the message of these octets

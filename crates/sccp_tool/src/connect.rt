@@ -1,5 +1,5 @@
 //! The command that makes one connection over the relays of a plan (Q.714 section 3).
-ghost use Rattle.std.specs.Prelude.{◌≡◌, ◌<◌, ◌++◌, IfOk, OnOk, codes, length};
+ghost use Rattle.std.specs.Prelude.{◌≡◌, ◌<◌, ◌++◌, IfOk, OnOk, length};
 ghost use Rattle.std.specs.List.{flat_map};
 ghost use Rattle.sccp_tool.specs.Commands.{texts};
 ghost use Rattle.sccp_tool.specs.Connect.{call_of, call_text, calling_of, connect_of, connect_text, connect_words, connect_work};
@@ -11,13 +11,12 @@ ghost use Rattle.sccp_tool.specs.Parsed.{task_in};
 ghost use Rattle.sccp_work.specs.Writing.{Writes};
 
 use crate::command::Command;
-use crate::route::UNKNOWN_NODE;
-use crate::start::{Start, StartWords, start_of};
 use chain_call::{Call, Outcome, Through};
 use plan_model::{Limits, Plan};
 use sccp_base::{Name, Octets, OutOfMemory, PointCode};
 use sccp_io::{Files, Sink};
 use sccp_message::CauseTable;
+use sccp_plans::{Start, StartWords, UNKNOWN_NODE, start_of};
 use sccp_report::{Text, put_cause, put_point_code};
 use sccp_work::{PlanPath, Status, Stop, if_accepted, print_last, with_plan};
 use std::alloc::Global;
@@ -156,7 +155,7 @@ fn connect_accepted<K: Sink>(
 }
 
 /// The outcome of the connection, or the line that no node has the name or that a node has the end's point.
-#[tactic(auto, unfolding(crate::specs::Texts::unknown_node, crate::specs::Connect::end_is_node))]
+#[tactic(auto, unfolding(sccp_plans::specs::Texts::unknown_node, crate::specs::Connect::end_is_node))]
 fn connect_text(alloc: Global, plan: Plan, calling: &Calling) -> Result<Octets, OutOfMemory>
     ensures { IfOk result (λ text. text ≡ connect_text plan calling.now) }
 {

@@ -17,7 +17,6 @@
 //! passes on the words.
 #![tactic(auto)]
 
-mod answer;
 mod capture;
 mod change;
 mod command;
@@ -28,10 +27,7 @@ mod cuts;
 mod import;
 mod laws;
 mod load;
-mod loss_limit;
-mod losses;
 mod margin;
-mod margin_tally;
 mod order;
 mod program;
 mod replay;
@@ -39,8 +35,6 @@ mod route;
 mod send_on;
 mod show;
 mod show_hex;
-mod start;
-mod tally;
 mod unused;
 mod verify;
 mod whole_file;

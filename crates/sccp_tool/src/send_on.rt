@@ -19,11 +19,11 @@ ghost use Rattle.sccp_tool.specs.SendOn.{IsOfOctets, arrival_lines, connection_l
 ghost use Rattle.sccp_tool.specs.SendOn.{send_on_text, send_on_words, send_on_work, size_of, to_line, type_line, uncut_lines};
 
 use crate::command::Command;
-use crate::route::UNKNOWN_NODE;
 use long_segments::LongFault;
 use plan_model::{Limits, Plan};
 use sccp_base::{Marking, Name, Octets, OutOfMemory, PointCode, Reference, cut, decimal};
 use sccp_io::{Files, Sink};
+use sccp_plans::UNKNOWN_NODE;
 use sccp_report::{Text, message_text, put_point_code};
 use sccp_scrc::{Arrival, arrive};
 use sccp_work::{PlanPath, Status, Stop, print_last, with_plan};
@@ -149,7 +149,7 @@ pub fn send_on<F: Files, K: Sink>(
 }
 
 /// What becomes of octets at a relay, or the line that no node has its name.
-#[tactic(auto, unfolding(crate::specs::Texts::unknown_node))]
+#[tactic(auto, unfolding(sccp_plans::specs::Texts::unknown_node))]
 fn send_on_text(alloc: Global, plan: &Plan, incoming: &Incoming) -> Result<Octets, OutOfMemory>
     requires { IsPlan plan.now }
     ensures { IfOk result (λ text. text ≡ send_on_text plan.now incoming.now) }
