@@ -12,7 +12,7 @@ use Rattle.couple_chain.specs.declared.delivered.Delivered.TheVariants.{Handled,
 use Rattle.couple_chain.specs.declared.happening.Happening.TheVariants.{Offers, Delivers}
 use Rattle.couple_chain.specs.declared.offer_fault.OfferFault.{OfferFault}
 use Rattle.couple_chain.specs.World as worlds
-use Rattle.couple_chain.specs.World.{Network, World, is_node, put, offered_if, offer_fault, delivery, delivery_of, happens, after, name_of}
+use Rattle.couple_chain.specs.World.{Network, World, is_node, put, offered_if, offer_fault, delivery_of, after, name_of}
 use Rattle.couple_chain.specs.World.{uses_again, fault_by, is_writable}
 use Rattle.chain_world.specs.Kept.{network_of}
 use Rattle.chain_world.proofs.Happens.{after_more}

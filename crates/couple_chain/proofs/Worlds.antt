@@ -13,7 +13,7 @@ use Rattle.sccp_couple.specs.Sections.{is_that, section_at}
 use Rattle.sccp_couple.specs.Events.{Event}
 use Rattle.sccp_couple.specs.Coupling.{coupled}
 use Rattle.sccp_couple.specs.Runs as coupling
-use Rattle.sccp_couple.specs.Runs.{Pair, Moment, made}
+use Rattle.sccp_couple.specs.Runs.{Pair, Moment}
 use Rattle.sccp_couple.proofs.Ledger.{kept_after}
 use Rattle.sccp_couple.proofs.Fairness.{IsFair, that_is}
 use Rattle.couple_chain.specs.World.{Network, is_node, Happening, Offers, Delivers, World, start, put_on, messages_to, event_at, handled}

@@ -1,14 +1,14 @@
 -- A message line that is printed is read again.
-use Rattle.std.proofs.Common.{◌≡◌, ℕ, ◌+◌, ◌*◌, ◌<◌, ◌≤◌, Bool, true, false, List, [], ◌∷◌, ◌++◌, length, Option, Some, None, Ok, refl, sym}
-use Rattle.std.proofs.Common.{◌∙◌, ap, length-append, arith}
-use Rattle.std.specs.Prelude.{codes, option_map, option_and_then}
+use Rattle.std.proofs.Common.{◌≡◌, ℕ, ◌+◌, ◌*◌, ◌<◌, ◌≤◌, List, [], ◌∷◌, ◌++◌, length, Some, Ok, refl, sym}
+use Rattle.std.proofs.Common.{ap, length-append, arith}
+use Rattle.std.specs.Prelude.{codes}
 use Rattle.std.specs.Result.{result_ok}
 use Rattle.std.proofs.lemmas.List.Sums.{list_all-from_AllPass}
 use Rattle.hex.specs.Hex.{encode_upper, upper_digits, decode_of, IsBytes}
 use Rattle.hex.proofs.HexLemmas.{decode_of-encode_upper, length-encode_with}
 use Rattle.sccp_base.proofs.NameTexts.{named}
 use Rattle.sccp_base.specs.Names.{IsName, is_name_octet, name_of}
-use Rattle.sccp_base.specs.Text.{cut_at, point_code_of}
+use Rattle.sccp_base.specs.Text.{cut_at}
 use Rattle.sccp_report.specs.Values.{point_code_text}
 use Rattle.trace_text.specs.Forms.{message, line_of_fields, line_of}
 use Rattle.trace_text.specs.Hex.{hex_word}

@@ -8,7 +8,7 @@ use Rattle.std.specs.Int.{w16, to_be_bytes}
 use Rattle.hex.specs.Hex.{IsBytes}
 use Rattle.m3ua_data.proofs.Found.{found}
 use Rattle.m3ua_data.specs.Carried.{Payload, payload_of, carried_of}
-use Rattle.m3ua_data.specs.DataIs.{own_length, spelled, Stands, StandFrom, DataIs}
+use Rattle.m3ua_data.specs.DataIs.{own_length, Stands, StandFrom, DataIs}
 use Rattle.m3ua_data.specs.Fields.{first, protocol_data}
 use Rattle.m3ua_data.specs.Numbers.{number_4, up_to_four}
 use Rattle.m3ua_data.specs.Reading.{reading}

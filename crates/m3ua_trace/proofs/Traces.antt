@@ -1,8 +1,8 @@
 -- The lines that are made of messages are a trace without a fault.
-use Rattle.std.proofs.Common.{◌≡◌, ℕ, ◌+◌, ◌-◌, ◌<◌, ◌≤◌, Bool, true, false, cond, ltb, eqb, not, ◌||◌, List, [], ◌∷◌, ◌++◌, length, take}
-use Rattle.std.proofs.Common.{get_or, Option, Some, None, Result, Ok, Err, IfSome, refl, sym, ◌∙◌, ap, subst, length-append, length-take}
+use Rattle.std.proofs.Common.{◌≡◌, ℕ, ◌+◌, ◌-◌, ◌<◌, ◌≤◌, Bool, true, false, cond, ltb, eqb, not, ◌||◌, List, [], ◌∷◌, length, take}
+use Rattle.std.proofs.Common.{get_or, Option, Some, None, Result, Ok, Err, IfSome, refl, ◌∙◌, ap, subst, length-append, length-take}
 use Rattle.std.proofs.Common.{arith}
-use Rattle.std.specs.Prelude.{codes, decimal, ◌==◌, find, option_and_then, nat_le, ◌&&◌}
+use Rattle.std.specs.Prelude.{codes, decimal, find, option_and_then, nat_le, ◌&&◌}
 use Rattle.std.specs.List.{AllByRecursion, list_all}
 use Rattle.std.specs.Result.{result_ok}
 use Rattle.std.proofs.Math.Dec.{eqb-suc-zero}
@@ -22,8 +22,8 @@ use Rattle.sccp_base.specs.Names.{IsName, is_name_octet, name_of}
 use Rattle.trace_text.proofs.LineLemmas.{lines_of-line}
 use Rattle.trace_text.specs.Forms.{line_of}
 use Rattle.trace_text.specs.Hex.{hex_word}
-use Rattle.trace_text.specs.Lines.{TextLine, text_line, lines_of, limit_of, held, content_of, without_return}
-use Rattle.trace_text.specs.Told.{told, told_lines, numbered, numbered_content, with_number, and_then, with_front, only}
+use Rattle.trace_text.specs.Lines.{TextLine, text_line, lines_of, held, content_of, without_return}
+use Rattle.trace_text.specs.Told.{told, told_lines, numbered, numbered_content, with_number, and_then, with_front}
 use Rattle.trace_text.specs.declared.line.Line.{Line}
 use Rattle.trace_text.specs.declared.line.Line.TheVariants.{Skip}
 use Rattle.trace_text.specs.declared.line_fault.LineFault.{LineFault}

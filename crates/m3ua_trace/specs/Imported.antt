@@ -1,6 +1,6 @@
 -- What becomes of a DATA message in a trace. It is a line with the message of SCCP that it carries, or a line that says why
 -- there is none.
-use Rattle.std.specs.Prelude.{ℕ, not, ◌||◌, ◌==◌, nat_lt, if◌then◌else◌, List, [], ◌++◌, length, codes, decimal, Option, Some, None, Result}
+use Rattle.std.specs.Prelude.{ℕ, not, ◌||◌, ◌==◌, nat_lt, if◌then◌else◌, List, ◌++◌, length, codes, decimal, Option, Some, None, Result}
 use Rattle.std.specs.Prelude.{Ok, Err, option_and_then}
 use Rattle.std.specs.List.{find}
 use Rattle.hex.specs.Hex.{encode_upper}
@@ -11,7 +11,6 @@ use Rattle.m3ua_data.specs.declared.payload.Carried.{Carried}
 use Rattle.m3ua_data.specs.declared.fault.DataFault.TheVariants.{Short, BadHeader, BadLength, BadParameter, NoData, BadField, OutOfMemory}
 use Rattle.m3ua_data.specs.declared.tagged.Tagged.{Tagged}
 use Rattle.plan_model.specs.Network.{Network, has_point}
-use Rattle.plan_model.specs.declared.node.Node.{Node}
 use Rattle.sccp_base.specs.Names.{name_of}
 use Rattle.sccp_report.specs.Values.{point_code_text}
 use Rattle.trace_text.specs.declared.line.Line.{Line}

@@ -5,7 +5,6 @@ use Rattle.plan_model.specs.Network.{Network}
 use Rattle.trace_text.specs.Hex.{hex_word}
 use Rattle.trace_text.specs.Lines.{TextLine, lines_of, content_of}
 use Rattle.trace_text.specs.Told.{told}
-use Rattle.trace_text.specs.declared.fed.Fed.{Fed}
 use Rattle.trace_text.specs.declared.line.Line.{Line}
 use Rattle.trace_text.specs.declared.line.Line.TheVariants.{Skip}
 use Rattle.trace_text.specs.declared.line.Numbered.{Numbered}

@@ -1,9 +1,9 @@
 -- What is read from octets is short: one octet holds the length of each parameter, and of the data of a type with short
 -- pointers.
 use Rattle.std.proofs.Common.{◌≡◌, ℕ, zero, suc, ◌+◌, ◌-◌, ◌<◌, ◌≤◌, Bool, true, false, cond, leb, eqb, ◌&&◌, List, [], ◌∷◌, ◌++◌, length}
-use Rattle.std.proofs.Common.{get_or, take, drop, Option, Some, None, refl, sym, ap, subst, ◌∙◌, arith, inl, inr}
-use Rattle.std.specs.Prelude.{IfSome, nat_le, slice_range, unwrap_or}
-use Rattle.std.specs.List.{AllByRecursion, flat_map, list_all}
+use Rattle.std.proofs.Common.{get_or, take, drop, Option, Some, None, refl, sym, ap, subst, arith, inl, inr}
+use Rattle.std.specs.Prelude.{slice_range, unwrap_or}
+use Rattle.std.specs.List.{AllByRecursion, flat_map}
 use Rattle.std.proofs.lemmas.Bool.{cases_lt, eqb-true, le-leb}
 use Rattle.std.proofs.lemmas.List.{length-take}
 use Rattle.std.proofs.lemmas.Option.{slice_get_past}
@@ -20,7 +20,6 @@ use Rattle.sccp_message.specs.declared.message.Message.{Message}
 use Rattle.sccp_message.specs.Messages.{without_address, with_called, with_both, of_code, message_of}
 use Rattle.sccp_message.specs.Reading.{part_of}
 use Rattle.sccp_message.specs.Reads.{Reads}
-use Rattle.sccp_message.specs.Written.{content}
 use Rattle.sccp_message.specs.Unitdata.{called_of}
 use Rattle.sccp_message.proofs.Made.{made, made_here}
 use Rattle.sccp_couple.specs.Sending.{HasShortParts}

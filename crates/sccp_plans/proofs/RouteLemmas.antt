@@ -1,5 +1,5 @@
 -- What following a title ends with.
-use Rattle.std.proofs.Common.{ℕ, List, Some}
+use Rattle.std.proofs.Common.{Some}
 use Rattle.sccp_plans.specs.Route.{route_text, route_work}
 use Rattle.sccp_work.specs.PlanFile.{PlanFile}
 use Rattle.sccp_work.specs.Work.{answered}

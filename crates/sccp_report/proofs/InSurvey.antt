@@ -1,15 +1,13 @@
 -- The titles that a survey shows are at nodes of its plan.
-use Rattle.std.specs.Prelude.{ℕ, ◌≡◌, ◌<◌, length, get_or}
+use Rattle.std.specs.Prelude.{ℕ, ◌<◌, length, get_or}
 use Rattle.std.proofs.Common.{subst}
 use Rattle.plan_model.specs.declared.hop.Hop.{Hop}
 use Rattle.plan_model.specs.declared.spot.Spot.{Spot}
 use Rattle.plan_model.specs.Network.{Network, IsPlan}
-use Rattle.plan_model.specs.Routes.{route}
 use Rattle.plan_unused.specs.Met.{IsMet}
 use Rattle.plan_unused.specs.Surveys.{IsLawfulSurvey}
 use Rattle.plan_unused.specs.declared.survey.Survey.{Survey}
 use Rattle.plan_unused.specs.declared.survey.Survey.TheVariants.{Unused, TooWide}
-use Rattle.sccp_report.specs.Hops.{IsHopIn}
 use Rattle.sccp_report.specs.Surveys.{HasGapsIn}
 use Rattle.sccp_report.proofs.InPlan.{route_in}
 use Rattle.sccp_report.proofs.InVerdict.{has_node}

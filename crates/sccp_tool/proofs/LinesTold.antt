@@ -1,11 +1,10 @@
 -- The bound of a plan, and the numbers in the text of a message.
-use Rattle.std.specs.Prelude.{◌≡◌, ◌<◌, ◌≤◌, ◌^◌, ℕ, ◌+◌, ◌-◌, List, [], ◌∷◌, ◌++◌, codes, decimal, drop, length, take}
+use Rattle.std.specs.Prelude.{◌≡◌, ◌<◌, ◌≤◌, ℕ, ◌+◌, ◌-◌, List, [], ◌∷◌, ◌++◌, codes, decimal, drop, length, take}
 use Rattle.std.specs.Prelude.{Option, Some, IsSomeAnd}
 use Rattle.std.specs.Prelude.{slice_get, refl}
 use Rattle.std.proofs.Common.{◌⊎◌, inl, inr, sym, ◌∙◌, ap, subst, arith, get_or, length-take-le}
 use Rattle.std.proofs.lemmas.Bool.{cases_lt}
 use Rattle.std.proofs.lemmas.Option.{slice_get-get_or}
-use Rattle.plan_check.specs.Verified.{Verified}
 use Rattle.plan_model.proofs.Cutting.{cut_route, get_front, last_at, sent_to}
 use Rattle.plan_model.proofs.Ways.{MayEnd-sent}
 use Rattle.plan_model.specs.Covered.{IsAllowed}
@@ -16,8 +15,6 @@ use Rattle.plan_model.specs.Verdicts.{MayEnd, Safe, Tight, last}
 use Rattle.plan_model.specs.declared.hop.Hop.{Hop}
 use Rattle.plan_model.specs.declared.hop.Step.{Step}
 use Rattle.plan_model.specs.declared.spot.Spot.{Spot}
-use Rattle.relay_net.specs.declared.outcome.Outcome.{Outcome}
-use Rattle.relay_net.specs.declared.travelled.Journey.{Journey}
 use Rattle.sccp_base.specs.declared.mark.Mark.{Mark}
 use Rattle.sccp_report.proofs.Parted.{no_blank, number_parted}
 use Rattle.sccp_report.specs.Served.{end_words, journey_line, path_text, sent_lines}

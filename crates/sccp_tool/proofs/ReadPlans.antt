@@ -2,7 +2,7 @@
 use Rattle.std.specs.Prelude.{◌≡◌, ◌≢◌, ◌<◌, ◌≤◌, ℕ, zero, suc, ℤ, pos, negsuc, ◌+◌, ◌==◌, ◌&&◌, nat_le, Bool, true, false, cond, codes}
 use Rattle.std.specs.Prelude.{List, [], ◌∷◌, length, take, Option, Some, None, Result, Ok, Err, IfSome, refl, option_map, option_and_then}
 use Rattle.std.specs.List.{All, AllByRecursion, AllPairs, list_any, position}
-use Rattle.std.specs.Option.{ok_or, option_or, option_to_list, option_map_or}
+use Rattle.std.specs.Option.{ok_or, option_or, option_to_list}
 use Rattle.std.specs.Result.{result_ok}
 use Rattle.std.proofs.Common.{sym, ◌∙◌, ap, subst, arith, get_or, zero-add, length-take-le}
 use Rattle.std.proofs.lemmas.Bool.{and_parts, eq-eqb, false≢true, leb-true}
@@ -21,17 +21,17 @@ use Rattle.plan_model.specs.declared.node.Node.{Node}
 use Rattle.plan_model.specs.declared.place.Place.{Place}
 use Rattle.plan_model.specs.declared.place.Place.TheVariants.{Node as AtNode, Row as AtRow, Cover as AtCover}
 use Rattle.plan_model.specs.declared.plan_fault.PlanFault.{PlanFault}
-use Rattle.plan_model.specs.declared.plan_fault.PlanFault.TheVariants.{NotToml, WrongShape, BadValue, Repeated, UnknownNode, RelayToSelf}
-use Rattle.plan_model.specs.declared.plan_fault.PlanFault.TheVariants.{Limit, BadCover, Rule as RowFault}
+use Rattle.plan_model.specs.declared.plan_fault.PlanFault.TheVariants.{WrongShape, BadValue, Repeated, UnknownNode, RelayToSelf}
+use Rattle.plan_model.specs.declared.plan_fault.PlanFault.TheVariants.{Limit, BadCover}
 use Rattle.plan_rules.proofs.FirstOf.{first_of-None, map-None, option_or-None}
 use Rattle.plan_rules.proofs.NewKinds.{kinds_from_even}
 use Rattle.plan_rules.proofs.Repeats.{same_titles-own}
 use Rattle.plan_rules.specs.FirstOf.{first_of}
-use Rattle.plan_rules.specs.Rule.{IsShort, Rule, rule}
+use Rattle.plan_rules.specs.Rule.{Rule, rule}
 use Rattle.plan_rules.specs.Tables.{AreDistinct, IsRule, IsTable, first_repeat, makes_odd, repeat_at, rule_fault, same_titles}
 use Rattle.plan_rules.specs.Tables.{strips_too_long}
 use Rattle.plan_rules.specs.Tables.{tabled}
-use Rattle.plan_rules.specs.Target.{IsTarget, put_of, selector_of as given_to, ssn_of}
+use Rattle.plan_rules.specs.Target.{IsTarget, ssn_of}
 use Rattle.plan_rules.specs.declared.rule_fault.RuleFault.{RuleFault}
 use Rattle.plan_rules.specs.declared.rule_fault.RuleFault.TheVariants.{Twice, StripTooLong, KindTwo}
 use Rattle.plan_rules.specs.declared.target.Target.{Target}
@@ -54,7 +54,7 @@ use Rattle.plan_text.specs.Tests.{first_repeated_draft, first_to_self, first_unk
 use Rattle.plan_text.specs.Words.{digits_up_to, within}
 use Rattle.plan_text.specs.declared.version.Version.{Version}
 use Rattle.sccp_base.proofs.AllOk.{bind_ok}
-use Rattle.sccp_base.proofs.Among.{Among, Among-get_or, list_any-none, position-None}
+use Rattle.sccp_base.proofs.Among.{Among-get_or, list_any-none, position-None}
 use Rattle.sccp_base.specs.Answers.{◌>>=◌, unless}
 use Rattle.sccp_base.specs.DigitText.{digits_of}
 use Rattle.sccp_base.specs.Names.{name_of}

@@ -1,7 +1,7 @@
 use Rattle.std.proofs.Common.{◌≡◌, ◌+◌, ◌++◌, ◌∷◌, [], length, arith, sym, ◌∙◌, ap}
 use Rattle.std.proofs.lemmas.Bool.{eqb-true}
 use Rattle.trace_text.specs.Lines.{lines_of, text_line}
-use Rattle.m3ua_trace.specs.Traces.{octets_of_lines, text_of_octets, trace_if_read, trace_of}
+use Rattle.m3ua_trace.specs.Traces.{octets_of_lines, text_of_octets, trace_if_read}
 use Rattle.m3ua_trace.proofs.Loop.{behind, one_more, at_end, is_traced}
 use Rattle.m3ua_trace.proofs.lines.import.Goals as goal
 

@@ -1,4 +1,4 @@
-use Rattle.std.proofs.Common.{List, ℕ, ◌≡◌, sym, ◌∙◌, refl, ap, subst, Err}
+use Rattle.std.proofs.Common.{List, ℕ, ◌∙◌, refl, ap, subst, Err}
 use Rattle.std.proofs.lemmas.Result.{err_from_is_err_and}
 use Rattle.sccp_report.specs.Limits.{too_long_line}
 use Rattle.sccp_work.specs.Ending.{Works, early}
