@@ -1,5 +1,5 @@
 -- a table of ranks after one more class
-use Rattle.std.specs.Prelude.{ℕ, ◌≡◌, ◌-◌, ◌≤◌, ◌<◌, ◌⊎◌, true, false, if◌then◌else◌, List, Option, Some, None, IsSomeAnd, refl}
+use Rattle.std.specs.Prelude.{ℕ, ◌≡◌, ◌-◌, ◌≤◌, ◌<◌, true, false, if◌then◌else◌, List, Option, Some, None, IsSomeAnd, refl}
 use Rattle.std.specs.Ordering.{is_eq}
 use Rattle.std.proofs.Common.{sym, ◌∙◌, subst, inl, inr, ⊎_elim}
 use Rattle.std.proofs.lemmas.List.Elements.{All-weaker}

@@ -1,4 +1,5 @@
 -- The lemmas of this crate, one file a subject.
+pub mod BelowLimit
 pub mod Cuts
 pub mod FromStarts
 pub mod Keeping

@@ -29,6 +29,12 @@ IsLawful plan (Accepted accepted) =
 IsLawful plan (Refused same witness) = IsWitness plan witness
 IsLawful plan (TooWide same) = ReachesAtLeast plan plan.limits.classes
 
+-- a plan that is accepted reaches fewer classes of titles than its limit
+abbrev pub AcceptsBelowLimit : Network → Verdict → Type 0
+AcceptsBelowLimit plan (Accepted accepted) = ReachesAtLeast plan plan.limits.classes → ⊥
+AcceptsBelowLimit plan (Refused same witness) = Unit {0}
+AcceptsBelowLimit plan (TooWide same) = Unit {0}
+
 abbrev pub IsAccepted : Verdict → Type 0
 IsAccepted (Accepted accepted) = Unit {0}
 IsAccepted (Refused plan witness) = ⊥

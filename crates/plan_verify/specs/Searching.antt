@@ -24,6 +24,10 @@ pub record IsSound (plan : Network) (ranks : List (Titles × ℕ)) : Type 0 wher
   pub attained : IsAttained plan (rank_in ranks)
   pub reached : (c : Titles) (r : ℕ) → rank_in ranks c ≡ Some r → (depth : ℕ) × Reachable plan depth c
 
+-- fewer classes have ranks than the number at which the search gives up, or none has one
+abbrev pub IsBelowLimit : Network → List (Titles × ℕ) → Type 0
+IsBelowLimit plan ranks = length ranks ≤ plan.limits.classes - 1
+
 -- a class that may be explored at a depth
 pub record MayExplore (plan : Network) (c : Titles) (depth : ℕ) : Type 0 where
   -- it is at a node of the plan
@@ -35,7 +39,7 @@ pub record MayExplore (plan : Network) (c : Titles) (depth : ℕ) : Type 0 where
 
 -- what is found of a class at a depth: its rank in the table, a title of it with a bad route, or too many classes
 abbrev pub IsFound : Network → Titles → ℕ → List (Titles × ℕ) → Found → Type 0
-IsFound plan c depth ranks (Rank r) = (rank_in ranks c ≡ Some r) × (depth + r ≤ 14)
+IsFound plan c depth ranks (Rank r) = (rank_in ranks c ≡ Some r) × (depth + r ≤ 14) × IsBelowLimit plan ranks
 IsFound plan c depth ranks (Bad trace) = IsTrace plan c depth trace
 IsFound plan c depth ranks Wide = ReachesAtLeast plan plan.limits.classes
 
@@ -46,7 +50,7 @@ pub record IsBorneOut (plan : Network) (rank : Titles → Option ℕ) (c : Title
 
 -- what is found of a class's parts, or of what its targets make of it
 abbrev pub IsFollowed : Network → Titles → ℕ → List (Titles × ℕ) → Found → Type 0
-IsFollowed plan c depth ranks (Rank r) = IsBorneOut plan (rank_in ranks) c r × (depth + r ≤ 14)
+IsFollowed plan c depth ranks (Rank r) = IsBorneOut plan (rank_in ranks) c r × (depth + r ≤ 14) × IsBelowLimit plan ranks
 IsFollowed plan c depth ranks (Bad trace) = IsTrace plan c depth trace
 IsFollowed plan c depth ranks Wide = ReachesAtLeast plan plan.limits.classes
 
@@ -58,7 +62,7 @@ pub record IsLedTo (plan : Network) (rank : Titles → Option ℕ) (c : Titles) 
 
 -- what is found of what one target makes of a class
 abbrev pub IsLed : Network → Titles → ℕ → ℕ → List (Titles × ℕ) → Found → Type 0
-IsLed plan c depth place ranks (Rank r) = IsLedTo plan (rank_in ranks) c place r × (depth + r ≤ 14)
+IsLed plan c depth place ranks (Rank r) = IsLedTo plan (rank_in ranks) c place r × (depth + r ≤ 14) × IsBelowLimit plan ranks
 IsLed plan c depth place ranks (Bad trace) = IsTrace plan c depth trace
 IsLed plan c depth place ranks Wide = ReachesAtLeast plan plan.limits.classes
 
@@ -70,6 +74,7 @@ HasStart plan ranks greatest = IsSomeAnd (slice_get plan.covers greatest.cover) 
 -- what is found of all starts: ranks, of which this one is the greatest, a bad route from a cover's start, or too many classes
 abbrev pub IsOutcome : Network → List (Titles × ℕ) → Outcome → Type 0
 IsOutcome plan ranks (Ranked greatest) = StartsBelow plan (rank_in ranks) greatest.rank × HasStart plan ranks greatest
+    × IsBelowLimit plan ranks
 IsOutcome plan ranks (Refuted number trace) = IsSomeAnd (slice_get plan.covers number)
     (λ cover. IsTrace plan (start_of number cover) 0 trace)
 IsOutcome plan ranks TooMany = ReachesAtLeast plan plan.limits.classes

@@ -8,13 +8,16 @@ ghost use Rattle.plan_model.specs.Verdicts.{Safe, Tight};
 ghost use Rattle.plan_classes.specs.Classes.{ReachesAtLeast};
 ghost use Rattle.plan_verify.specs.declared.verdict.Verdict.{Verdict};
 ghost use Rattle.plan_verify.specs.Covers.{AreVerdictsOn, IsRefused, greatest_bound};
-ghost use Rattle.plan_verify.specs.Lawful.{IsLawful, IsAccepted, IsSafeFor};
+ghost use Rattle.plan_verify.specs.Lawful.{IsLawful, AcceptsBelowLimit, IsAccepted, IsSafeFor};
 
 /// If fewer classes are reached than the limit of the plan, the lawful verdict is `Accepted` exactly if the plan is safe for some
-/// bound from 1 to 14. Otherwise it is `Refused`.
+/// bound from 1 to 14. Otherwise it is `Refused`. Whatever is reached, a verdict of `verify` is `Accepted` exactly if the plan is
+/// safe for some such bound and fewer classes are reached than its limit.
 pub fn verdicts_are_exact()
-    ensures { (plan : Network) (verdict : Verdict) → IsLawful plan verdict → (ReachesAtLeast plan plan.limits.classes → ⊥)
+    ensures below { (plan : Network) (verdict : Verdict) → IsLawful plan verdict → (ReachesAtLeast plan plan.limits.classes → ⊥)
         → (IsAccepted verdict ↔ (bound : ℕ) × IsSafeFor plan bound) }
+    ensures accepted { (plan : Network) (verdict : Verdict) → IsLawful plan verdict → AcceptsBelowLimit plan verdict
+        → (IsAccepted verdict ↔ ((bound : ℕ) × IsSafeFor plan bound) × (ReachesAtLeast plan plan.limits.classes → ⊥)) }
 {}
 
 /// Lawful verdicts on the covers of a plan, each by itself, decide on the plan. If all are accepted, it is safe for the greatest

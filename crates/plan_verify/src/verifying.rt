@@ -5,8 +5,8 @@ ghost use Rattle.plan_model.specs.Verdicts.{Tight};
 ghost use Rattle.plan_classes.specs.Classes.{start_of};
 ghost use Rattle.plan_check.specs.Ranking.{rank_in};
 ghost use Rattle.plan_check.specs.Ranked.{StartsBelow};
-ghost use Rattle.plan_verify.specs.Lawful.{IsLawful, plan_of};
-ghost use Rattle.plan_verify.specs.Searching.{IsSound, IsOutcome, HasStart};
+ghost use Rattle.plan_verify.specs.Lawful.{IsLawful, AcceptsBelowLimit, plan_of};
+ghost use Rattle.plan_verify.specs.Searching.{IsSound, IsBelowLimit, IsOutcome, HasStart};
 ghost use Rattle.plan_verify.specs.Traces.{IsTrace};
 ghost use Rattle.plan_verify.specs.Witnesses.{IsWitness};
 
@@ -24,10 +24,12 @@ use std::alloc::Global;
 
 /// The verdict on a plan. It is `Accepted` if each covered title is blocked or has an allowed end within fourteen hops,
 /// whatever the relays on its route have prohibited. It is `Refused` if some covered title has a bad route. It is `TooWide`
-/// if the search gave up, which happens only if the plan reaches at least as many classes of titles as its limit says.
+/// if the search gave up, which happens only if the plan reaches at least as many classes of titles as its limit says. A plan
+/// that reaches as many is never `Accepted`.
 pub fn verify(alloc: Global, plan: Plan) -> Result<Verdict, OutOfMemory>
     ensures same { IfOk result (λ verdict. plan_of verdict ≡ plan) }
     ensures lawful { IfOk result (IsLawful plan) }
+    ensures below { IfOk result (AcceptsBelowLimit plan) }
 {
     let mut ranks = RankTable::new(alloc);
     match explore_starts(alloc, &plan, &mut ranks) {
@@ -52,6 +54,7 @@ fn judge(
     requires outcome { IsOutcome plan ranks outcome }
     ensures same { IfOk result (λ verdict. plan_of verdict ≡ plan) }
     ensures lawful { IfOk result (IsLawful plan) }
+    ensures below { IfOk result (AcceptsBelowLimit plan) }
 {
     let verdict = match outcome {
         Outcome::Ranked(greatest) => accept_ranked(alloc, plan, &ranks, greatest),
@@ -68,6 +71,7 @@ fn refuse(alloc: Global, plan: Plan, number: u32, trace: Trace) -> Result<Verdic
     requires trace { IsSomeAnd (slice_get plan.covers number) (λ cover. IsTrace plan (start_of number cover) 0 trace) }
     ensures same { IfOk result (λ verdict. plan_of verdict ≡ plan) }
     ensures lawful { IfOk result (IsLawful plan) }
+    ensures below { IfOk result (AcceptsBelowLimit plan) }
 {
     match refute(alloc, &plan, number, trace) {
         Ok(witness) => Ok(Verdict::Refused(plan, witness)),
@@ -100,8 +104,10 @@ fn accept_ranked(
     requires sound { IsSound plan ranks.now }
     requires starts { StartsBelow plan (rank_in ranks.now) greatest.rank }
     requires start { HasStart plan ranks.now greatest }
+    requires room { IsBelowLimit plan ranks.now }
     ensures same { IfOk result (λ verdict. plan_of verdict ≡ plan) }
     ensures lawful { IfOk result (IsLawful plan) }
+    ensures below { IfOk result (AcceptsBelowLimit plan) }
 {
     match longest(alloc, &plan, ranks, greatest) {
         Ok(longest) => Ok(Verdict::Accepted(accept(plan, greatest.rank, longest))),

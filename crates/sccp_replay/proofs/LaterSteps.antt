@@ -1,5 +1,5 @@
 -- What a later plan gives, whatever the replay goes on with.
-use Rattle.std.proofs.Common.{◌≡◌, ℕ, ◌+◌, List, [], ◌∷◌, ◌++◌, true, false, cond, Result, Ok, Err, sym, ◌∙◌, ap, subst}
+use Rattle.std.proofs.Common.{◌≡◌, ℕ, ◌+◌, List, [], ◌∷◌, ◌++◌, true, false, cond, Result, Ok, Err, IfOk, OnOk, sym, ◌∙◌, ap, subst}
 use Rattle.plan_check.specs.Verified.{Verified}
 use Rattle.plan_model.specs.Network.{Network}
 use Rattle.plan_model.specs.SameNodes.{same_nodes}
@@ -45,6 +45,15 @@ accepted_judges at line name plan a at' s judged same is told = λ next now resu
     Works-ask (verdict_on plan) (λ v. judged_later at line name plan v next) (Accepted a) result now after judged
     (subst (λ p. Works (next (record at { later = at.later ++ p ∷ [] }) text) result now after) same
     (subst (λ t. Works (next t text) result now after) is (subst (λ t. Works (next at' t) result now after) told h)))
+
+-- so is the line, unless memory is lacking
+pub accepted_settles : {E : Type 0} (r : Result code.Settled.Settled E) (at : Standing) (line : ℕ) (name : List ℕ) (plan : Network)
+    (a : Verified) (at' : Standing) → IsJudged plan (Accepted a) → a.plan ≡ plan
+    → OnOk r (at' ≡ record at { later = at.later ++ a.plan ∷ [] })
+    → IfOk r (λ s. settled_in s ≡ prints (accepted_plan_line line (accepted at + 1) name a.bound))
+    → IfOk r (λ s. JudgesLine at line name plan at' (settled_in s))
+accepted_settles (Ok s) at line name plan a at' judged same is told = accepted_judges at line name plan a at' (settled_in s) judged same is told
+accepted_settles (Err fault) at line name plan a at' judged same is told = told
 
 pub refused_judges : (at : Standing) (line : ℕ) (name : List ℕ) (plan p : Network) (w : Witness) (s : Settled) → IsJudged plan (Refused p w)
     → p ≡ plan

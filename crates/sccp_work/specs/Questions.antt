@@ -11,7 +11,7 @@ use Rattle.plan_order.specs.Orders.{IsLawfulOrder}
 use Rattle.plan_order.specs.declared.answer.Order.{Order}
 use Rattle.plan_unused.specs.Surveys.{IsLawfulSurvey}
 use Rattle.plan_unused.specs.declared.survey.Survey.{Survey}
-use Rattle.plan_verify.specs.Lawful.{IsLawful}
+use Rattle.plan_verify.specs.Lawful.{IsLawful, AcceptsBelowLimit}
 use Rattle.plan_verify.specs.declared.verdict.Verdict.{Verdict}
 use Rattle.relay_watch.specs.declared.event.Event.{Event}
 use Rattle.sccp_work.specs.Judgement.{Judgement, IsHeard}
@@ -38,9 +38,9 @@ Reply (margin_of plan kinds number losses) = Margin
 Reply (order_of old new) = Order
 Reply (judgement_of plan events) = Judgement
 
--- a plan, and a verdict that is true of it
+-- a plan, and a verdict that is true of it and accepts it only below its limit of classes
 abbrev pub IsJudged : Network → Verdict → Type 0
-IsJudged plan verdict = IsPlan plan × IsLawful plan verdict
+IsJudged plan verdict = IsPlan plan × IsLawful plan verdict × AcceptsBelowLimit plan verdict
 
 -- two plans of the same nodes, and an answer that is true of their mixture
 abbrev pub IsCompared : Network → Network → Change → Type 0

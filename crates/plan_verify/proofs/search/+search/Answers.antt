@@ -40,7 +40,7 @@ explore_parts-explore-requires t c =
             reached = part_reached _ _ c.args.class.now _ _ c.loop-part.part-index _ c.in_ok-parts.ensures.value
                 c.as_slice-part-items.ensures c.loop-part-test.true c.part-item.is c.requires.may.reached c.requires.undecided;
           },
-          c.loop-part.invariant.sound,
+          (c.loop-part.invariant.sound, c.loop-part.invariant.room),
         ),
       ),
     )
@@ -52,6 +52,7 @@ explore_parts-loop-part-preserved t c =
     record {
       keeps = keeps_more _ _ _ c.loop-part.invariant.keeps c.explore.ensures.keeps;
       sound = c.explore.ensures.sound;
+      room = found.2;
       low = omega (arith, c.max-rank.ensures, c.loop-part.invariant.low);
       few = omega (arith, c.max-rank.ensures, c.loop-part.invariant.few, found.1);
       below = rw c.max-rank.ensures
@@ -92,6 +93,7 @@ explore_parts-returns-clause-found t c = (
       c.requires.undecided c.requires.more c.loop-part.invariant.low
       (omega (arith, c.loop-part.invariant.few)) c.loop-part.invariant.below c.loop-part.invariant.some,
   c.loop-part.invariant.few,
+  c.loop-part.invariant.room,
 )
 
 pub explore_target-explore-requires : goal.explore_target-explore-requires
@@ -109,7 +111,7 @@ explore_target-explore-requires t c =
             reached = image_reached _ c.args.stop.now.depth c.args.place c.args.stop.now.class.now _ c.in-Next.ensures.image
                 (c.reaches_by.ensures.0 c.if-not-reaches_by.false) c.requires.decided c.requires.depth c.requires.may.reached;
           },
-          c.requires.sound,
+          (c.requires.sound, c.requires.room),
         ),
       ),
     )
@@ -119,6 +121,7 @@ explore_target-returns-then-not-reaches_by-clause-found t c = (
   led_never c.args.plan.now c.args.ranks.now c.args.stop.now.class.now c.args.place
       (λ r. false≢true (sym c.if-not-reaches_by.true ∙ c.reaches_by.ensures.1 r)),
   omega (arith, c.requires.depth),
+  c.requires.room,
 )
 
 pub explore_target-carry-requires-clause-next : goal.explore_target-carry-requires-clause-next
@@ -136,6 +139,7 @@ explore_target-returns-in-Rank-clause-found t c =
       led_next_rank c.args.plan.now c.explore.new.ranks stop.class.now c.in-Next.next c.args.place c.in-Rank.other c.in-Next.ensures.image
           (c.reaches_by.ensures.0 c.if-not-reaches_by.false) found.0,
       omega (arith, found.1),
+      found.2,
     )
 
 pub explore_target-returns-in_ok-carry-in-Bad-clause-found : goal.explore_target-returns-in_ok-carry-in-Bad-clause-found
@@ -151,6 +155,10 @@ explore_target-returns-in_ok-carry-in-Bad-clause-found t c =
 pub explore_target-returns-in-Wide-clause-found : goal.explore_target-returns-in-Wide-clause-found
 explore_target-returns-in-Wide-clause-found t c = subst (λ (f : Found). IsFound c.args.plan.now c.in-Next.next
     (c.args.stop.now.depth + 1) c.explore.new.ranks f) c.in-Wide.is c.in_ok-other-in-Next.ensures.found
+
+pub explore_target-returns-in-Ends-clause-found : goal.explore_target-returns-in-Ends-clause-found
+explore_target-returns-in-Ends-clause-found t c =
+    c.end_at.ensures c.args.stop.now.depth c.args.ranks.now c.requires.depth c.requires.room
 
 pub explore_target-returns-in_ok-bad_title-in-NotEquipped-clause-found : goal.explore_target-returns-in_ok-bad_title-in-NotEquipped-clause-found
 explore_target-returns-in_ok-bad_title-in-NotEquipped-clause-found t c =
@@ -175,6 +183,7 @@ explore_row-loop-place-preserved t c =
     record {
       keeps = keeps_more _ _ _ c.loop-place.invariant.keeps c.explore_target.ensures.keeps;
       sound = c.explore_target.ensures.sound;
+      room = found.2;
       low = omega (arith, c.max-rank.ensures, c.loop-place.invariant.low);
       few = omega (arith, c.max-rank.ensures, c.loop-place.invariant.few, found.1);
       leads = rw c.max-rank.ensures
@@ -219,4 +228,5 @@ explore_row-returns-clause-found t c = (
       ))
       c.loop-place.invariant.low (omega (arith, c.loop-place.invariant.few)) c.loop-place.invariant.leads c.loop-place.invariant.some,
   c.loop-place.invariant.few,
+  c.loop-place.invariant.room,
 )

@@ -5,7 +5,7 @@ use Rattle.plan_check.specs.Ranked.{RanksUpTo, LeadsWell}
 use Rattle.plan_classes.specs.declared.leads.Image.{Image}
 use Rattle.plan_classes.specs.Classes.{Reaches, HasImage}
 use Rattle.plan_verify.specs.Attained.{RanksFrom, LeadsHigh}
-use Rattle.plan_verify.specs.Searching.{Keeps, IsSound}
+use Rattle.plan_verify.specs.Searching.{Keeps, IsSound, IsBelowLimit}
 use Rattle.plan_verify.proofs.search.+search.Given as goal
 
 -- a part has fewer open digits; a next class has the same number of them, and one rewriting more is done
@@ -23,6 +23,7 @@ abbrev pub invariant-explore_parts-loop-part : goal.invariant-explore_parts-loop
 invariant-explore_parts-loop-part l = record {
   keeps : Keeps l.fn.ranks l.ranks;
   sound : IsSound l.plan l.ranks;
+  room : IsBelowLimit l.plan l.ranks;
   low : 1 ≤ l.rank;
   few : l.depth + l.rank ≤ 14;
   below : All (RanksUpTo (rank_in l.ranks) l.rank) (take l.part-index l.part-items);
@@ -43,6 +44,7 @@ abbrev pub invariant-explore_row-loop-place : goal.invariant-explore_row-loop-pl
 invariant-explore_row-loop-place l = record {
   keeps : Keeps l.fn.ranks l.ranks;
   sound : IsSound l.plan l.ranks;
+  room : IsBelowLimit l.plan l.ranks;
   low : 1 ≤ l.rank;
   few : l.stop.depth + l.rank ≤ 14;
   leads : (place : ℕ) (image : Image) → place < l.place → Reaches l.plan l.stop.class.now place

@@ -13,6 +13,7 @@ loop-number-preserved c =
     c.in_ok-rank.ensures.found in
     record {
       sound = c.explore.ensures.sound;
+      room = found.2;
       below = starts_next c.args.plan.now c.loop-number.ranks c.explore.new.ranks c.loop-number.number c.loop-number.greatest.rank
           c.greater-greatest.result.rank c.in-Rank.rank c.start.result c.explore.ensures.keeps c.start.ensures.value found.0
           c.greater-greatest.ensures.least c.greater-greatest.ensures.above c.loop-number.invariant.below;
@@ -27,4 +28,4 @@ returns-clause-outcome c =
     omega (arith, c.loop-number-test.false, ap length (c.as_slice.ensures ∙ c.covers.ensures.value)) in
     let whole = starts_end c.args.plan.now c.loop-number.ranks c.loop-number.number c.loop-number.greatest.rank c.covers.ensures.sound
     c.loop-number.invariant.sound all c.loop-number.invariant.below in
-    (whole.0, c.loop-number.invariant.some whole.1)
+    (whole.0, c.loop-number.invariant.some whole.1, c.loop-number.invariant.room)

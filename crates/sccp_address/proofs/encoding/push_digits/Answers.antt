@@ -1,4 +1,4 @@
-use Rattle.std.proofs.Common.{◌≡◌, ◌<◌, ◌+◌, ◌*◌, ◌++◌, ◌∷◌, [], List, ℕ, length, take, ap, ◌∙◌, append_assoc, arith}
+use Rattle.std.proofs.Common.{◌<◌, ◌*◌, ◌++◌, List, ℕ, length, take, ap, ◌∙◌, append_assoc, arith}
 use Rattle.sccp_base.specs.Bcd.{packed}
 use Rattle.sccp_base.proofs.Halves.{packed_more}
 use Rattle.sccp_address.proofs.encoding.push_digits.Goals as goal

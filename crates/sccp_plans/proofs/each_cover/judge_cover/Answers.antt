@@ -1,7 +1,7 @@
 use Rattle.std.proofs.Common.{◌≡◌, ◌+◌, [], ◌∷◌, ◌∙◌, ap, subst, refl}
 use Rattle.std.proofs.lemmas.Result.{err_from_is_err_and}
 use Rattle.plan_model.specs.Network.{Network, network_within}
-use Rattle.plan_verify.specs.Lawful.{IsLawful, plan_of}
+use Rattle.plan_verify.specs.Lawful.{IsLawful, AcceptsBelowLimit, plan_of}
 use Rattle.sccp_report.specs.Covers.{cover_text}
 use Rattle.sccp_plans.specs.Covers.{covers_on}
 use Rattle.sccp_work.specs.Ending.{Works}
@@ -31,7 +31,11 @@ returns-in-Ok-clause-gives g c =
     c.in-Ok.is
     (verdict_told c.args.limits c.args.judging.nodes c.args.number c.args.cover covers c.args.judging.tally v
     (cover_text c.args.number (plan_of v) v)
-    c.print_verdict.result b m (c.requires.plan, subst (λ plan. IsLawful plan v) c.in_ok-plan.ensures e.lawful)
+    c.print_verdict.result b m (
+      c.requires.plan,
+      subst (λ plan. IsLawful plan v) c.in_ok-plan.ensures e.lawful,
+      subst (λ plan. AcceptsBelowLimit plan v) c.in_ok-plan.ensures e.below,
+    )
     (ap (λ plan. cover_text c.args.number plan v) same) c.print_verdict.ensures
     (record { contents = refl; sound = refl; read_faults = refl })) result after
     (subst (λ tally. Works (covers_on c.args.limits c.args.judging.nodes

@@ -36,4 +36,4 @@ returns g c =
     let told = c.tell_verdict-told.ensures in
     given.plan judged_work c.tell_verdict-told.result a
     (Works-verdict c.in_ok-plan.plan v (status_of v) (verdict_text (plan_of v) v) c.tell_verdict-told.result m a
-    (given.sound, e.lawful) refl (ap (λ p. verdict_text p v) e.same) told.text told.answer refl refl refl)
+    (given.sound, e.lawful, e.below) refl (ap (λ p. verdict_text p v) e.same) told.text told.answer refl refl refl)
