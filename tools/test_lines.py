@@ -531,7 +531,7 @@ class Agreement(unittest.TestCase):
         self.assertEqual(sorted(keys), sorted(lines.TYPES["key_word"].pattern[3:-1].split("|")))
 
     def test_the_commands_are_those_of_the_usage_line(self):
-        line = re.search(r'b"(usage: .*?)\\n"', self.source("sccp_tool", "src", "program.rt"))[1]
+        line = re.search(r'b"(usage: .*?)\\n"', re.sub(r"\\\n\s*", "", self.source("sccp_tool", "src", "program.rt")))[1]
         self.assertEqual(lines.COMMANDS, {shape.split(" ")[0] for shape in lines.read_line(line)["shapes"]})
         self.assertLessEqual({one for _, one in PRINTED if one.startswith("usage")}, {line})
 

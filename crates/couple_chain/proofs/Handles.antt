@@ -680,7 +680,8 @@ module _ (network : Network) (put arrived toward put_then arrived_then : ℕ →
       × ((0 < number (has_near p.near) m.pairs) × (0 < number (has_far p.far) m.pairs)) × StandsFor network put arrived m p →
       StandsFor network put_then arrived_then (happens m event) (carried m.sections event p)
   carried_stands turned p known =
-      elim p.stands as (λ b. p.stands ≡ b → StandsFor network put_then arrived_then (happens m event) (cond b (grown m.sections event p) p)) [
+      elim p.stands as (λ b. p.stands ≡ b
+      → StandsFor network put_then arrived_then (happens m event) (cond b (grown m.sections event p) p)) [
         | true ↦ λ stands s t joined s_at t_at.
             let j = known.0.joined stands in
             let parts = and_parts (is_half p.far true (section_at m.sections p.near))

@@ -44,7 +44,8 @@ pub count_short : (params : List Parameter) → are_short params ≡ true → ar
 count_short [] short = refl
 count_short (p ∷ params) short =
     let parts = and_parts (nat_le (length p.octets) 255) (are_short params) short in
-    elim (p.name == names.hops) as (λ b. are_short (cond b (parameter p.name (counted p.octets) ∷ params) (p ∷ count_first params)) ≡ true) [
+    elim (p.name == names.hops) as (λ b.
+    are_short (cond b (parameter p.name (counted p.octets) ∷ params) (p ∷ count_first params)) ≡ true) [
       | true ↦ parts.1
       | false ↦ and_from (nat_le (length p.octets) 255) (are_short (count_first params)) parts.0 (count_short params parts.1)
     ]

@@ -8,8 +8,8 @@ use Rattle.plan_change.specs.declared.answer.Change.TheVariants as changes
 use Rattle.plan_change.proofs.SafeMixtures.{safe_not_bad}
 use Rattle.sccp_io.specs.Files.{Contents}
 use Rattle.sccp_report.specs.Changes.{change_text}
-use Rattle.sccp_plans.specs.Change.{change_status, mixed_work, IsAnswered, IsMixable, IsUnmixable, IsWideMixture, change_work, ChangeCause, ChangeSure, ChangeTells}
-use Rattle.sccp_plans.specs.Change.{TellsMixture, is_other, is_told}
+use Rattle.sccp_plans.specs.Change.{change_status, mixed_work, IsAnswered, IsMixable, IsUnmixable, IsWideMixture, change_work}
+use Rattle.sccp_plans.specs.Change.{ChangeCause, ChangeSure, ChangeTells, TellsMixture, is_other, is_told}
 use Rattle.sccp_plans.specs.Texts.{other_nodes}
 use Rattle.sccp_work.specs.Ending.{IsCut, Works}
 use Rattle.sccp_work.specs.Moment.{Moment}

@@ -15,8 +15,8 @@ use Rattle.plan_model.specs.Network.{Network}
 use Rattle.sccp_io.specs.Files.{Contents}
 use Rattle.sccp_report.proofs.InMargin.{lost_points}
 use Rattle.sccp_report.specs.Margins.{margin_text, points_lost}
-use Rattle.sccp_plans.specs.Margin.{margins_on, each_margin, margin_work, AreMargins, margins_text, AllSurviveBelow, TellsMargins, MarginCause, MarginSure, MarginTells}
-use Rattle.sccp_plans.specs.Margin.{HasStop, HasWideMargin, MarginCause, MarginSure, GivesNext}
+use Rattle.sccp_plans.specs.Margin.{margins_on, each_margin, margin_work, AreMargins, margins_text, AllSurviveBelow, TellsMargins}
+use Rattle.sccp_plans.specs.Margin.{MarginCause, MarginSure, MarginTells, HasStop, HasWideMargin, GivesNext}
 use Rattle.sccp_plans.specs.MarginTallies.{none_yet, least_with, counted, tallied, total, margin_status, margin_line}
 use Rattle.sccp_plans.specs.declared.loss_limit.LossLimit.{LossLimit}
 use Rattle.sccp_plans.specs.declared.margin_tally.MarginTally.{MarginTally}

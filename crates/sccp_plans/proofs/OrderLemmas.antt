@@ -8,8 +8,8 @@ use Rattle.plan_order.specs.declared.answer.Order.{Order}
 use Rattle.plan_order.specs.declared.answer.Order.TheVariants.{Steps, NoOrder, Undecided}
 use Rattle.sccp_io.specs.Files.{Contents}
 use Rattle.order_report.specs.Orders.{order_text}
-use Rattle.sccp_plans.specs.Order.{order_status, ordered_work, IsOrderGiven, HasOrder, HasNoOrder, IsUndecided, order_work, OrderCause, OrderSure, OrderTells}
-use Rattle.sccp_plans.specs.Order.{TellsOrder, has_others, has_order}
+use Rattle.sccp_plans.specs.Order.{order_status, ordered_work, IsOrderGiven, HasOrder, HasNoOrder, IsUndecided, order_work}
+use Rattle.sccp_plans.specs.Order.{OrderCause, OrderSure, OrderTells, TellsOrder, has_others, has_order}
 use Rattle.sccp_plans.specs.Texts.{other_nodes}
 use Rattle.sccp_work.specs.Ending.{IsCut, Works}
 use Rattle.sccp_work.specs.Moment.{Moment}

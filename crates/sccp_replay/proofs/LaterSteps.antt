@@ -52,7 +52,8 @@ pub accepted_settles : {E : Type 0} (r : Result code.Settled.Settled E) (at : St
     → OnOk r (at' ≡ record at { later = at.later ++ a.plan ∷ [] })
     → IfOk r (λ s. settled_in s ≡ prints (accepted_plan_line line (accepted at + 1) name a.bound))
     → IfOk r (λ s. JudgesLine at line name plan at' (settled_in s))
-accepted_settles (Ok s) at line name plan a at' judged same is told = accepted_judges at line name plan a at' (settled_in s) judged same is told
+accepted_settles (Ok s) at line name plan a at' judged same is told =
+    accepted_judges at line name plan a at' (settled_in s) judged same is told
 accepted_settles (Err fault) at line name plan a at' judged same is told = told
 
 pub refused_judges : (at : Standing) (line : ℕ) (name : List ℕ) (plan p : Network) (w : Witness) (s : Settled) → IsJudged plan (Refused p w)

@@ -80,7 +80,11 @@ fn refuse_later(
 }
 
 /// The verdict on a later plan of the same relays.
-#[tactic(auto, using(crate::proofs::LaterSteps::accepted_judges, crate::proofs::LaterSteps::refused_judges, crate::proofs::LaterSteps::wide_judges, crate::proofs::ReplayerLemmas::none_more))]
+#[tactic(auto, using(
+// each verdict
+crate::proofs::LaterSteps::accepted_judges, crate::proofs::LaterSteps::refused_judges, crate::proofs::LaterSteps::wide_judges,
+// no plan is added
+crate::proofs::ReplayerLemmas::none_more))]
 fn judge_later(
     alloc: Global,
     at: &Replayer,
@@ -107,7 +111,11 @@ fn judge_later(
 
 /// What a plan line is settled to if its file has this text. It is refused first if it is no plan, next for other relays, and
 /// then by its verdict.
-#[tactic(auto, using(crate::proofs::LaterSteps::same_reads, crate::proofs::LaterSteps::other_reads, crate::proofs::LaterSteps::bad_reads, crate::proofs::ReplayerLemmas::none_more))]
+#[tactic(auto, using(
+// the same relays, others, or no plan
+crate::proofs::LaterSteps::same_reads, crate::proofs::LaterSteps::other_reads, crate::proofs::LaterSteps::bad_reads,
+// no plan is added
+crate::proofs::ReplayerLemmas::none_more))]
 fn read_later(
     alloc: Global,
     at: &Replayer,
@@ -208,7 +216,11 @@ fn settle_named<F: Files, K: Sink>(
 }
 
 /// What a line of a batch is settled to.
-#[tactic(auto, using(crate::proofs::LaterSteps::routed_gives, crate::proofs::LaterSteps::named_gives, crate::proofs::LaterSteps::aside_gives, crate::proofs::TakeSteps::works_memory, crate::proofs::ReplayerLemmas::none_more))]
+#[tactic(auto, using(
+// each kind of line
+crate::proofs::LaterSteps::routed_gives, crate::proofs::LaterSteps::named_gives, crate::proofs::LaterSteps::aside_gives,
+// memory ran out; no plan is added
+crate::proofs::TakeSteps::works_memory, crate::proofs::ReplayerLemmas::none_more))]
 fn settle_line<F: Files, K: Sink>(
     at: &Replayer,
     coming: &mut List<Accepted>,

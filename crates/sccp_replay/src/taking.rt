@@ -46,7 +46,11 @@ fn write_full<R: Threads + Wait + Sync, G: Gate + Sync, F: Files, K: Sink>(
 }
 
 /// Adds a line to the batch that has begun. The batch is done if it is full then.
-#[tactic(auto, using(crate::proofs::TakeSteps::gathers_full, crate::proofs::TakeSteps::gathers_more, crate::proofs::TakeSteps::works_memory, crate::proofs::Gathering::more_joined, crate::proofs::Gathering::more_begun, crate::proofs::Gathering::full_begun))]
+#[tactic(auto, using(
+// the batch is full, or not yet, or memory ran out
+crate::proofs::TakeSteps::gathers_full, crate::proofs::TakeSteps::gathers_more, crate::proofs::TakeSteps::works_memory,
+// what it holds then
+crate::proofs::Gathering::more_joined, crate::proofs::Gathering::more_begun, crate::proofs::Gathering::full_begun))]
 fn gather<R: Threads + Wait + Sync, G: Gate + Sync, F: Files, K: Sink>(
     host: &Host<'_, R, G>,
     at: &mut Replayer,
@@ -93,7 +97,11 @@ fn alone_text(
 }
 
 /// Takes a line that ends a batch: the batch before it is done, then what the line asks for, and both texts are written.
-#[tactic(auto, using(crate::proofs::TakeSteps::batch_stopped, crate::proofs::TakeSteps::batch_memory, crate::proofs::TakeSteps::alone_written))]
+#[tactic(auto, using(
+// the batch before the line ends the replay
+crate::proofs::TakeSteps::batch_stopped, crate::proofs::TakeSteps::batch_memory,
+// or both texts are written
+crate::proofs::TakeSteps::alone_written))]
 fn stand_alone<R: Threads + Wait + Sync, G: Gate + Sync, F: Files, K: Sink>(
     host: &Host<'_, R, G>,
     at: &mut Replayer,
@@ -153,7 +161,11 @@ fn place_of(alloc: Global, at: &Replayer, line: &Numbered) -> Result<Place, OutO
 }
 
 /// Takes one more line of a trace, which is not skipped.
-#[tactic(auto, using(crate::proofs::TakeSteps::takes_gathered, crate::proofs::TakeSteps::takes_alone, crate::proofs::TakeSteps::works_memory, crate::proofs::Gathering::may_be_done, crate::proofs::Gathering::alone_begun))]
+#[tactic(auto, using(
+// the line joins a batch, or ends one, or memory ran out
+crate::proofs::TakeSteps::takes_gathered, crate::proofs::TakeSteps::takes_alone, crate::proofs::TakeSteps::works_memory,
+// what is gathered then
+crate::proofs::Gathering::may_be_done, crate::proofs::Gathering::alone_begun))]
 fn take_kept<R: Threads + Wait + Sync, G: Gate + Sync, F: Files, K: Sink>(
     host: &Host<'_, R, G>,
     at: &mut Replayer,

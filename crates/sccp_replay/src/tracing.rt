@@ -62,7 +62,11 @@ fn put_closing(
 }
 
 /// Does the last batch, and writes its text with the last line.
-#[tactic(auto, using(crate::proofs::TakeSteps::closing_stopped, crate::proofs::TakeSteps::closing_memory, crate::proofs::TakeSteps::closing_written))]
+#[tactic(auto, using(
+// the last batch ends the replay
+crate::proofs::TakeSteps::closing_stopped, crate::proofs::TakeSteps::closing_memory,
+// or its text is written
+crate::proofs::TakeSteps::closing_written))]
 fn write_last<R: Threads + Wait + Sync, G: Gate + Sync, F: Files, K: Sink>(
     host: &Host<'_, R, G>,
     at: &mut Replayer,

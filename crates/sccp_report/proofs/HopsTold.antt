@@ -151,8 +151,9 @@ line_more plan hop marking r =
     ∙ append_assoc spot (codes " held ") (marks ++ (does ++ 10 ∷ r))
 
 -- two lines that are the same have the same title and marks, and go on alike
-pub line_parts : (plan : Network) (hop other : Hop) (m n : List Mark) (r s : List ℕ) → IsPlan plan → All (λ node. IsName node.name) plan.nodes
-    → IsSpotOf plan hop.spot → IsSpotOf plan other.spot → All IsMark m → All IsMark n → StaysIn plan hop.step → StaysIn plan other.step
+pub line_parts : (plan : Network) (hop other : Hop) (m n : List Mark) (r s : List ℕ) → IsPlan plan
+    → All (λ node. IsName node.name) plan.nodes → IsSpotOf plan hop.spot → IsSpotOf plan other.spot
+    → All IsMark m → All IsMark n → StaysIn plan hop.step → StaysIn plan other.step
     → hop_line plan hop m ++ r ≡ hop_line plan other n ++ s → (hop.spot ≡ other.spot) × (m ≡ n) × (r ≡ s)
 line_parts plan hop other m n r s is names at there marked also stays goes e =
     let a = step_begins plan hop.step names stays in

@@ -64,7 +64,8 @@ mixed_at old new s (turn ∷ turns) is also same marked spots =
         stays = stays_in old new s turn is also same;
         does = refl;
       },
-      by (λ next. mixed_at old new next turns is also same) (next_of (made old new turn s)) (All-tail (λ (t : Turn). IsMarking t.marking) turn turns marked)
+      by (λ next. mixed_at old new next turns is also same) (next_of (made old new turn s))
+          (All-tail (λ (t : Turn). IsMarking t.marking) turn turns marked)
           (All-tail (λ (h : Hop). IsSpotOf old h.spot) hop rest spots),
     )
   where
@@ -173,7 +174,8 @@ pub text_tells_change : TextTellsChange
 text_tells_change old new c d is also same names lawful true e =
     let h = change_shown old new c is also same lawful in
     let k = change_shown old new d is also same true in
-    let told = text_tells_hops old new (shown_hops old new c) (shown_hops old new d) (shown_turns c) (shown_turns d) is names h.at k.at e in (
+    let told = text_tells_hops old new (shown_hops old new c) (shown_hops old new d) (shown_turns c) (shown_turns d)
+    is names h.at k.at e in (
       told.0,
       sym (whole (shown_hops old new c) (shown_turns c) h.each) ∙ told.1 ∙ whole (shown_hops old new d) (shown_turns d) k.each,
     )

@@ -1,6 +1,6 @@
 -- What judging the messages of a file ends with, and what it writes.
-use Rattle.std.proofs.Common.{◌≡◌, ◌++◌, ℕ, Bool, true, false, not, ◌&&◌, cond, ltb, List, [], length, Option, Some, None, Result, Ok, Err, refl}
-use Rattle.std.proofs.Common.{sym, ◌∙◌, ap, subst, inl, inr}
+use Rattle.std.proofs.Common.{◌≡◌, ◌++◌, ℕ, Bool, true, false, not, ◌&&◌, cond, ltb, List, [], length, Option, Some, None, Result, Ok, Err}
+use Rattle.std.proofs.Common.{refl, sym, ◌∙◌, ap, subst, inl, inr}
 use Rattle.std.specs.Prelude.{IsErr, is_err}
 use Rattle.std.proofs.lemmas.List.{append-nil}
 use Rattle.capture_file.specs.Told.{told}
@@ -19,8 +19,8 @@ use Rattle.sccp_conform.specs.Reports.{answer_for, answer_of, file_work, is_long
 use Rattle.sccp_io.specs.Files.{Contents, Reads}
 use Rattle.sccp_report.specs.Limits.{too_long_line}
 use Rattle.sccp_tool.specs.Capture.{IsDamaged}
-use Rattle.sccp_tool.specs.Conform.{conform_work, HasSeen, IsShort, IsBadCapture, NoneDiffers, OneDiffers, IsJudgedSo, ConformCause, ConformTells}
-use Rattle.sccp_tool.specs.Conform.{TellsJudgement}
+use Rattle.sccp_tool.specs.Conform.{conform_work, HasSeen, IsShort, IsBadCapture, NoneDiffers, OneDiffers, IsJudgedSo, ConformCause}
+use Rattle.sccp_tool.specs.Conform.{ConformTells, TellsJudgement}
 use Rattle.sccp_tool.specs.Task.{Conform}
 use Rattle.sccp_tool.proofs.Causes.{Causes}
 use Rattle.sccp_work.proofs.PlanLemmas.{PlanEnds, long, bad, good, Ends-with_plan, if_long, if_bad, at_plan, plan_files}
@@ -286,7 +286,8 @@ tells : (c : Contents) (plan : PlanFile) (file : List ℕ) (s : Status) (text : 
 tells c plan file Done text b a is h =
     told_on c plan file text Done tt (ends (Some c) plan file Done text (subst (λ k. Ends k (conform_work plan file) Done text) is h))
 tells c plan file Differs text b a is h =
-    told_on c plan file text Differs tt (ends (Some c) plan file Differs text (subst (λ k. Ends k (conform_work plan file) Differs text) is h))
+    told_on c plan file text Differs tt (ends (Some c) plan file Differs text
+    (subst (λ k. Ends k (conform_work plan file) Differs text) is h))
 tells c plan file BadCapture text b a is h =
     told_on c plan file text BadCapture tt
     (ends (Some c) plan file BadCapture text (subst (λ k. Ends k (conform_work plan file) BadCapture text) is h))

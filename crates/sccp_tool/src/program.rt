@@ -27,8 +27,11 @@ use std::alloc::Global;
 use std::sync::Wait;
 use std::thread::Threads;
 
-const USAGE: &[u8] =
-    b"usage: show-hex HEX | show FILE | verify PLAN | route PLAN NODE SELECTOR SSN DIGITS | replay PLAN TRACE WORKERS | load NUMBER SIZE WORKERS | cuts HEX | change OLD NEW | connect PLAN NODE FROM SELECTOR SSN DIGITS HEX | send-on PLAN NODE ORIGIN SIZE HEX | import PLAN FILE | covers PLAN | unused PLAN | margin PLAN LOSSES [subsystems] | capture PLAN FILE | order OLD NEW | conform PLAN FILE | wide COMMAND\n";
+const USAGE: &[u8] = b"\
+    usage: show-hex HEX | show FILE | verify PLAN | route PLAN NODE SELECTOR SSN DIGITS | replay PLAN TRACE WORKERS | \
+    load NUMBER SIZE WORKERS | cuts HEX | change OLD NEW | connect PLAN NODE FROM SELECTOR SSN DIGITS HEX | \
+    send-on PLAN NODE ORIGIN SIZE HEX | import PLAN FILE | covers PLAN | unused PLAN | margin PLAN LOSSES [subsystems] | \
+    capture PLAN FILE | order OLD NEW | conform PLAN FILE | wide COMMAND\n";
 
 const READ_FAULT: &[u8] = b"read fault\n";
 

@@ -16,7 +16,8 @@ returns c =
       subst (λ (i : ℕ). BadUnder may old new i c.new_of.result spot c.args.turns c.in_ok-hops.hops c.args.kind) (sym c.old_of.ensures)
           (subst (λ (j : ℕ). BadUnder may old new (old_of c.args.number) j spot c.args.turns c.in_ok-hops.hops c.args.kind)
           (sym c.new_of.ensures)
-          (subst (λ (hops : List MixedHop). BadUnder may old new (old_of c.args.number) (new_of c.args.number) spot c.args.turns hops c.args.kind)
+          (subst (λ (hops : List MixedHop). BadUnder may old new (old_of c.args.number) (new_of c.args.number)
+          spot c.args.turns hops c.args.kind)
           (sym (c.in_ok-hops.ensures
           ∙ ap (λ (ts : List Turn). tagged_under may (mixed_under may old new spot ts) ts) c.as_slice-2.ensures))
           c.requires.bad)),

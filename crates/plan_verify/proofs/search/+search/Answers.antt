@@ -160,7 +160,8 @@ pub explore_target-returns-in-Ends-clause-found : goal.explore_target-returns-in
 explore_target-returns-in-Ends-clause-found t c =
     c.end_at.ensures c.args.stop.now.depth c.args.ranks.now c.requires.depth c.requires.room
 
-pub explore_target-returns-in_ok-bad_title-in-NotEquipped-clause-found : goal.explore_target-returns-in_ok-bad_title-in-NotEquipped-clause-found
+pub explore_target-returns-in_ok-bad_title-in-NotEquipped-clause-found
+    : goal.explore_target-returns-in_ok-bad_title-in-NotEquipped-clause-found
 explore_target-returns-in_ok-bad_title-in-NotEquipped-clause-found t c =
     c.in_ok-bad_title-in-NotEquipped.ensures c.args.stop.now.depth c.requires.depth
 

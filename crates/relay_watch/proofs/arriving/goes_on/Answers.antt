@@ -9,4 +9,5 @@ pub returns : goal.returns
 returns c =
     c.is_forwarded-sent.ensures
     ∙ ap (λ (a : Arrival). is_some (forwarded a))
-    (c.in_ok-again.ensures ∙ ap (λ (pc : ℕ). arrival c.args.plan.now c.args.node c.args.marking.now pc c.args.octets.now) c.point_of.ensures)
+    (c.in_ok-again.ensures
+    ∙ ap (λ (pc : ℕ). arrival c.args.plan.now c.args.node c.args.marking.now pc c.args.octets.now) c.point_of.ensures)

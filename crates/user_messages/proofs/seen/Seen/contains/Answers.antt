@@ -6,4 +6,5 @@ use Rattle.user_messages.proofs.seen.Seen.contains.Goals as goal
 
 pub returns : goal.returns
 returns c =
-    c.contains.ensures ∙ is_some-lookup (same_key c.args.key) c.self.inside.keys.entries ∙ ap (list_any (same_key c.args.key)) c.self.view_is
+    c.contains.ensures ∙ is_some-lookup (same_key c.args.key) c.self.inside.keys.entries
+    ∙ ap (list_any (same_key c.args.key)) c.self.view_is
