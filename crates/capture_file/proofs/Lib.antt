@@ -1,3 +1,4 @@
+-- Worked captures, and what is read of a file that comes in pieces.
 mod Worked
 pub mod UnitLemmas
 pub mod ToldLemmas

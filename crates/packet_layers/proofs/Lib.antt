@@ -1,3 +1,4 @@
+-- Worked packets, and what is found in the octets of a packet.
 mod Worked
 pub mod Octets
 pub mod InPacket

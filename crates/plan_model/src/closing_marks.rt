@@ -60,6 +60,7 @@ impl ClosingMarks {
         }
     }
 
+    /// These marks, one to three, all at the point of the target.
     pub fn as_slice(&self) -> &[Mark]
         ensures { result.now ≡ self.now }
     {

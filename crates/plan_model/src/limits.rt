@@ -30,7 +30,7 @@ impl Limits {
             nodes: 64,
             rows: 4096,
             covers: 256,
-            classes: 262_144,
+            classes: MOST_CLASSES as u32,
             octets: 1_048_576,
         }
     }
