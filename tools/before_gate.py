@@ -2,14 +2,20 @@
 """Looks, in seconds, for what the gate would report only after an hour: run it before `rt ci`.
 
 It lays out the files of every crate (`rt fmt`) and names those that were not, and looks whether each old text of each edit in
-must-fail/ and of each wrong body in wrong_bodies/ is just once in its file after those before it were applied. It proves
-nothing. Status 1 says that a file was laid out anew, that an edit fits no more, or that wrong bodies have lost their crate.
+must-fail/ and of each wrong body in wrong_bodies/ is just once in its file after those before it were applied. It names lines of
+more than 140 columns, except those with a text that no line break may part. It proves nothing. Status 1 says that a file was laid
+out anew, that a line is too long, that an edit fits no more, or that wrong bodies have lost their crate.
 
 Run it from anywhere: tools/before_gate.py. Nothing else may write in crates/ meanwhile.
 """
 import os
+import re
 import subprocess
 import sys
+
+sys.dont_write_bytecode = True
+
+from wrap_lines import LONGEST, sources
 
 TOP = os.path.dirname(os.path.dirname(os.path.abspath(__file__)))
 CRATES = os.path.join(TOP, "crates")
@@ -52,11 +58,23 @@ def misfits_in(crate, place):
     return found
 
 
+def long_lines():
+    """The lines of code that are too long."""
+    found = []
+    for name in sources():
+        with open(name, encoding="utf-8") as source:
+            for number, line in enumerate(source, 1):
+                if len(line.rstrip("\n")) > LONGEST and not re.search(r'"[^"]{100,}"', line):
+                    found.append(f"{os.path.relpath(name, TOP)}:{number}: more than {LONGEST} columns (tools/wrap_lines.py)")
+    return found
+
+
 def main():
     crates = sorted(os.listdir(CRATES))
     folders = sorted(name for name in os.listdir(BODIES) if os.path.isdir(os.path.join(BODIES, name)))
     told = [f"wrong_bodies/{name}: there is no such crate" for name in folders if name not in crates]
     told += [line for crate in crates for line in laid_out(crate) + misfits(crate)]
+    told += long_lines()
     print("\n".join(told) if told else "all files are laid out, and all edits fit")
     return 1 if told else 0
 
